@@ -1,0 +1,65 @@
+-- Laws of fields: one for each outcome of reading a field, what is known of a field that was taken, and the fields from a place on by what
+-- stands there. Assumes nothing.
+use mathlib.Core.Path.{_≡_, refl}
+use mathlib.Core.List.{List, [], _∷_}
+use mathlib.Core.Bool.{Bool, true, false, cond}
+use Prim.Native.Nat.{ℕ, suc, _+_, _<_, _≤_}
+use native.Mathlib.Omega.{arith}
+use borrow.Author.Tests.{lt-ltb, le-ltb, ltb-false}
+use lib.Dec.{ltb}
+use lib.ListN.{length}
+use Rattle.rules.specs.Octets.{octet, be16, part}
+use Rattle.rules.specs.Fields.{field, cut, fieldAt, fieldsFrom}
+use Rattle.rules.specs.declared.FieldRead.{FieldRead}
+use Rattle.rules.specs.declared.FieldRead.the-variants.{Taken, Cut}
+
+module _ (s : List ℕ) (at : ℕ) where
+  pub field-short : length s < at + 3 → Cut ≡ fieldAt s at
+  unfolding fieldAt
+  field-short h = simp (lt-ltb (length s) (at + 3) h)
+
+  module _ (a : at + 3 ≤ length s) where
+    pub field-cut : length s < at + 3 + be16 s (at + 1) → Cut ≡ fieldAt s at
+    unfolding fieldAt
+    field-cut h = simp (le-ltb (length s) (at + 3) a, lt-ltb (length s) (at + 3 + be16 s (at + 1)) h)
+
+    pub field-taken : at + 3 + be16 s (at + 1) ≤ length s → Taken (octet s at) (be16 s (at + 1)) (at + 3 + be16 s (at + 1)) ≡ fieldAt s at
+    unfolding fieldAt
+    field-taken h = simp (le-ltb (length s) (at + 3) a, le-ltb (length s) (at + 3 + be16 s (at + 1)) h)
+
+-- what is known of a field that was taken
+pub record IsField (s : List ℕ) (at tag size next : ℕ) : Type 0 where
+  pub its-tag : octet s at ≡ tag
+  pub its-size : be16 s (at + 1) ≡ size
+  pub ends : next ≡ at + 3 + size
+  pub within : next ≤ length s
+
+both-passed : (a b : Bool) (x : FieldRead) (t n m : ℕ) → cond a Cut (cond b Cut x) ≡ Taken t n m → (b ≡ false) × (x ≡ Taken t n m)
+both-passed false false x t n m e = (refl, e)
+both-passed true b x t n m e = let z : _≡_ {A = ℕ} 0 1 = cc in absurd (omega arith)
+both-passed false true x t n m e = let z : _≡_ {A = ℕ} 0 1 = cc in absurd (omega arith)
+
+pub field-read : (s : List ℕ) (at t n m : ℕ) → fieldAt s at ≡ Taken t n m → IsField s at t n m
+unfolding fieldAt
+field-read s at t n m e =
+    let end = at + 3 + be16 s (at + 1) in
+    let p = both-passed (ltb (length s) (at + 3)) (ltb (length s) end) (Taken (octet s at) (be16 s (at + 1)) end) t n m e in
+    let et : octet s at ≡ t = cc (p .1) in
+    let en : be16 s (at + 1) ≡ n = cc (p .1) in
+    let em : end ≡ m = cc (p .1) in
+    record { its-tag = et; its-size = en; ends = omega (arith, em, en); within = omega (arith, em, ltb-false (length s) end (p .0)) }
+
+-- the fields from a place on
+module _ (fuel : ℕ) (s : List ℕ) (at : ℕ) where
+  pub fields-end : length s ≤ at → fieldsFrom (suc fuel) s at ≡ []
+  unfolding fieldsFrom
+  fields-end h = rw (fieldsFrom, le-ltb at (length s) h)
+
+  pub fields-cut : at < length s → fieldAt s at ≡ Cut → fieldsFrom (suc fuel) s at ≡ cut ∷ []
+  unfolding fieldsFrom
+  fields-cut h e = rw (fieldsFrom, lt-ltb at (length s) h, e)
+
+  pub fields-on : (tag size next : ℕ) → at < length s → fieldAt s at ≡ Taken tag size next
+      → fieldsFrom (suc fuel) s at ≡ field tag (part s (at + 3) size) ∷ fieldsFrom fuel s next
+  unfolding fieldsFrom
+  fields-on tag size next h e = rw (fieldsFrom, lt-ltb at (length s) h, e)

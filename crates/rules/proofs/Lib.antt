@@ -1,0 +1,9 @@
+pub mod TestLaws
+pub mod OctetLaws
+pub mod FieldLaws
+pub mod OptionLaws
+pub mod SettingsLaws
+pub mod FrameLaws
+pub mod ReplyLaws
+pub mod HandlingLaws
+pub mod Cases

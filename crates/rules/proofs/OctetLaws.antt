@@ -1,0 +1,77 @@
+-- Laws of octet strings: what is written reads back, reading across a seam, and buffers after one write or two. By computation and append laws.
+-- Assumes nothing.
+use mathlib.Core.Path.{_≡_, ap, _∙_}
+use mathlib.Core.List.{List, [], _++_, append-assoc, append-nil}
+use Prim.Native.Nat.{ℕ, _+_, _%_, _<_, _≤_}
+use native.Mathlib.Omega.{arith}
+use native.Mathlib.Nat.{zero-add, add-zero, add-assoc}
+use lib.ListN.{length, take, drop, length-append, length-drop, take-append-drop, List·getD-append}
+use lib.Seq.{take-append-seam, take-at, drop-append-add, drop-drop, length-take-le, getD-append-add, getD-drop, getD-take}
+use Rattle.rules.specs.Octets.{octet, be16, octets16, part, put}
+
+-- sixteen bits written read back
+pub be16-octets16 : (n : ℕ) (t : List ℕ) → n < 65536 → be16 (octets16 n ++ t) 0 ≡ n
+be16-octets16 n t fits = omega arith
+
+-- reading before and after a seam
+module _ (s t : List ℕ) where
+  pub octet-before : (at : ℕ) → at < length s → octet (s ++ t) at ≡ octet s at
+  octet-before at h = ap (λ (x : ℕ). x % 256) (List·getD-append s t 0 at h)
+
+  pub octet-after : (n : ℕ) → octet (s ++ t) (length s + n) ≡ octet t n
+  octet-after n = ap (λ (x : ℕ). x % 256) (getD-append-add s t n 0)
+
+  pub be16-before : (at : ℕ) → at + 1 < length s → be16 (s ++ t) at ≡ be16 s at
+  be16-before at h = rw (octet-before at (omega arith), octet-before (at + 1) h)
+
+  pub be16-after : (n : ℕ) → be16 (s ++ t) (length s + n) ≡ be16 t n
+  be16-after n =
+      let e : length s + n + 1 ≡ length s + (n + 1) = omega arith in
+      rw (e, octet-after n, octet-after (n + 1))
+
+-- a part of an octet string reads as the string does from its start on
+pub octet-drop : (s : List ℕ) (n at : ℕ) → octet (drop n s) at ≡ octet s (n + at)
+octet-drop s n at = ap (λ (x : ℕ). x % 256) (getD-drop n s at 0)
+
+pub octet-part : (s : List ℕ) (n size at : ℕ) → at < size → octet (part s n size) at ≡ octet s (n + at)
+octet-part s n size at h = ap (λ (x : ℕ). x % 256) (getD-take size (drop n s) at 0 h) ∙ octet-drop s n at
+
+pub length-part : (s : List ℕ) (n size : ℕ) → n + size ≤ length s → length (part s n size) ≡ size
+length-part s n size h = length-take-le size (drop n s) (rw length-drop (omega arith))
+
+pub be16-part : (s : List ℕ) (n size : ℕ) → 2 ≤ size → be16 (part s n size) 0 ≡ be16 s n
+be16-part s n size h = rw (octet-part s n size 0 (omega arith), octet-part s n size 1 (omega arith), add-zero)
+
+-- what is left after a part is what is left from its end on
+pub drop-part : (s : List ℕ) (n size : ℕ) → part s n size ++ drop (n + size) s ≡ drop n s
+drop-part s n size = rw (← drop-drop size n s, take-append-drop)
+
+-- buffers
+module _ (d : List ℕ) (at : ℕ) (s : List ℕ) (fits : at + length s ≤ length d) where
+  length-head : length (take at d ++ s) ≡ at + length s
+  length-head = rw (length-append, length-take-le at d (omega arith))
+
+  pub length-put : length (put d at s) ≡ length d
+  unfolding put
+  length-put = rw (length-append, length-head, length-drop) (omega arith)
+
+  -- two writes, the second where the first ends, are one
+  pub put-put : (at′ : ℕ) (t : List ℕ) → at′ ≡ at + length s → at′ + length t ≤ length d → put (put d at s) at′ t ≡ put d at (s ++ t)
+  unfolding put
+  put-put at′ t e h =
+      let tk = take-at (take at d ++ s) (drop (at + length s) d) (at + length s) length-head in
+      let dr : drop (at + length s + length t) (take at d ++ s ++ drop (at + length s) d) ≡ drop (at + length s + length t) d =
+      rw (← length-head, drop-append-add) (rw length-head (drop-drop (length t) (at + length s) d)) in
+      rw (e, tk, dr, length-append, append-assoc (take at d) s t, add-assoc at (length s) (length t))
+
+pub put-front : (d s : List ℕ) → put d 0 s ≡ s ++ drop (length s) d
+unfolding put
+put-front d s = rw zero-add
+
+pub put-none : (d : List ℕ) (at : ℕ) → put d at [] ≡ d
+unfolding put
+put-none d at = rw (append-nil, add-zero, take-append-drop)
+
+-- a buffer begins with what was written at its start
+pub take-put : (d s : List ℕ) → take (length s) (put d 0 s) ≡ s
+take-put d s = rw (put-front, take-append-seam)

@@ -1,0 +1,67 @@
+-- Laws of the two replies: they read back behind any link header, with hop count 63, and nothing answers one: an error is heard as an
+-- error, an echo reply as an echo reply. By computation on the octets written. Assumes nothing.
+use mathlib.Core.Path.{_≡_, refl}
+use mathlib.Core.List.{List, [], _++_}
+use mathlib.Core.Bool.{true}
+use Prim.Native.Nat.{ℕ, _+_, _/_, _<_, _≤_}
+use native.Mathlib.Omega.{arith}
+use borrow.Author.Tests.{le-ltb, eq-eqb, ne-eqb, eqb-false}
+use lib.Dec.{eqb}
+use lib.ListN.{length, length-append, length-take, length-drop}
+use Rattle.rules.specs.Octets.{be16}
+use Rattle.rules.specs.Settings.{Settings}
+use Rattle.rules.specs.Link.{link}
+use Rattle.rules.specs.Header.{readFrame, innerOf}
+use Rattle.rules.specs.Channel.{protocolError, protocolEcho, protocol, na, spid, spidReply, echoRead, channelRead, silenced, replyInner, replyRest, echoBody}
+use Rattle.rules.specs.declared.NextHop.{NextHop}
+use Rattle.rules.specs.declared.Header.{Header}
+use Rattle.rules.specs.declared.FrameRead.the-variants.{Trill}
+use Rattle.rules.specs.declared.ChannelRead.the-variants.{ErrorHeard, EchoHeard}
+use Rattle.rules.proofs.TestLaws.{by-test, or-yes}
+use Rattle.rules.proofs.FrameLaws.{IsLink, read-headed, inner-headed, length-link}
+
+module _ (S : Settings) (own : S .nickname < 65536) (ingress : ℕ) (hi : ingress < 65536) (number code : ℕ) (body : List ℕ) (l : List ℕ) (is : IsLink l) where
+  abbrev pub replyHeader : Header
+  replyHeader = record { place = length l; word = 0x003F; egress = ingress; ingress = S .nickname }
+
+  pub reply-read : readFrame (l ++ replyRest S ingress number code body) ≡ Trill replyHeader
+  unfolding replyRest
+  reply-read = read-headed l is 0x003F ingress (S .nickname) (omega arith) hi own (replyInner S number code body)
+
+  pub reply-inner : innerOf (l ++ replyRest S ingress number code body) replyHeader ≡ replyInner S number code body
+  unfolding replyRest
+  reply-inner = inner-headed l replyHeader [] (replyInner S number code body) refl refl
+
+-- an error that was written is heard as an error
+pub error-heard : (S : Settings) (code : ℕ) (body : List ℕ) → code < 16 → channelRead (replyInner S protocolError code body) ≡ ErrorHeard
+unfolding replyInner channelRead
+error-heard S code body h =
+    let i : List ℕ = replyInner S protocolError code body in
+    let flags : be16 i 20 ≡ 0xC000 + code = omega arith in
+    let high : (0xC000 + code) / 8192 ≡ 6 = omega arith in
+    simp (le-ltb (length i) 22 (omega arith), ne-eqb (na i) 1 (rw (flags, high) (omega arith)))
+
+-- an echo reply that was written is heard as an echo reply
+pub echo-heard : (S : Settings) (body : List ℕ) → 18 ≤ length body → length body ≤ 530 → spid body ≡ spidReply → channelRead (replyInner S protocolEcho 0 body) ≡ EchoHeard
+unfolding replyInner channelRead echoRead
+echo-heard S body h k e =
+    simp (le-ltb (length (replyInner S protocolEcho 0 body)) 22 (omega arith), le-ltb (length body) 18 h, le-ltb 530 (length body) k, e)
+
+-- an echo body answered: as long, with SPID 4
+pub echo-body-length : (body clock : List ℕ) → 18 ≤ length body → length clock ≡ 6 → length (echoBody body clock) ≡ length body
+unfolding echoBody
+echo-body-length body clock h c =
+    rw (length-append, length-append, length-take, length-drop 1 body, length-drop 18 body, c) (omega arith)
+
+pub echo-body-spid : (body clock : List ℕ) → spid (echoBody body clock) ≡ spidReply
+unfolding echoBody
+echo-body-spid body clock = omega arith
+
+-- "Answering an error with an error": for codes 4 and 5 none is made
+pub error-unanswered : (code : ℕ) (inner : List ℕ) → 4 ≤ code → code ≤ 5 → protocol inner ≡ protocolError → silenced code inner ≡ true
+unfolding silenced
+error-unanswered code inner h k e = by-test (eqb code 4) (λ t. simp (t, e, or-yes)) (λ t. simp (t, eq-eqb code 5 (omega (arith, eqb-false code 4 t)), e, or-yes))
+
+pub length-reply : (S : Settings) (r : NextHop) (ingress number code : ℕ) (body : List ℕ) → length (link S r ++ replyRest S ingress number code body) ≡ 42 + length body
+unfolding replyRest replyInner
+length-reply S r ingress number code body = rw (length-append, length-link) (omega arith)

@@ -1,0 +1,25 @@
+-- Laws of Boolean tests: cases on one, and what a conjunction or a disjunction says of its parts. By cases. Assumes nothing.
+use mathlib.Core.Path.{_≡_, refl}
+use mathlib.Core.Bool.{Bool, true, false, _&&_, _||_, true≢false, false≢true}
+
+pub by-test : {X : Type 0} (b : Bool) → (b ≡ true → X) → (b ≡ false → X) → X
+by-test true t f = t refl
+by-test false t f = f refl
+
+pub and-true : (a b : Bool) → (a && b) ≡ true → (a ≡ true) × (b ≡ true)
+and-true true true e = (refl, refl)
+and-true true false e = absurd (false≢true e)
+and-true false b e = absurd (false≢true e)
+
+pub or-false : (a b : Bool) → (a || b) ≡ false → (a ≡ false) × (b ≡ false)
+or-false false false e = (refl, refl)
+or-false false true e = absurd (true≢false e)
+or-false true b e = absurd (true≢false e)
+
+pub and-no : (a : Bool) → (a && false) ≡ false
+and-no true = refl
+and-no false = refl
+
+pub or-yes : (a : Bool) → (a || true) ≡ true
+or-yes true = refl
+or-yes false = refl

@@ -1,0 +1,252 @@
+-- "Boundary frames": C1 to C12 as one table of cases, each with what the definitions compute and what the paper says.
+-- Cases that the paper gives in part are completed to whole frames, on both sides of each boundary.
+use Prim.Native.Nat.{ℕ, _+_, _-_, _*_}
+use Prim.Native.String.{String}
+use mathlib.Core.List.{List, [], _∷_, _++_, map}
+use mathlib.Core.Bool.{Bool, true, false, _&&_}
+use lib.ListN.{length, drop, replicate}
+use lib.Dec.{leb, eqb}
+use Rattle.rules.specs.Octets.{if_then_else_}
+use Rattle.rules.specs.Fields.{fieldAt, fieldsFrom, fields, lengthGood}
+use Rattle.rules.specs.Settings.{hopGood, newer, ruling, nextHop, serialMet, switchGood, withField, opens, continues, opened, settingsFrom, settingsOf}
+use Rattle.rules.specs.Link.{linkLength, link}
+use Rattle.rules.specs.Header.{readFrame, headerRefusal, weAreEgress}
+use Rattle.rules.specs.Options.{optionSize, optionAt, optionsFrom, optionsOf, some-key, summarized, areaRead, implemented, strippable, keptOptions, octetsOf, stripped, areaRefusal, areaStops, areaSent}
+use Rattle.rules.specs.Answer.{Handled}
+use Rattle.rules.specs.Channel.{echoRead, channelRead, silenced, returnPath, replyInner, replyRest, echoBody, errorReply, echoReply}
+use Rattle.rules.specs.Handling.{handled, forwardedRest, forwarded, transit, faulted, echoed, channelled, decapsulated, routed, handling, handledWith, partOf}
+use Rattle.rules.specs.Campus.{Outcome, campus, switchNamed, placeGood, valueGood, nicknameNew, roomGood, serialNew, entryKnown, fieldRefusal, withNext, describedFrom, described, clockOf, kindAfter, runFrom, plainRun, hopReceived, egressReceived, entryOctets, traceOctets}
+use Rattle.rules.specs.Text.{ascii, printed, hexDigit, decimalFrom, entryText, entriesText}
+
+pub record Case : Type 0 where
+  pub name : String
+  pub computed : List ℕ
+  pub expected : List ℕ
+
+unfoldable pub same : List ℕ → List ℕ → Bool
+same [] [] = true
+same [] (b ∷ t) = false
+same (a ∷ s) [] = false
+same (a ∷ s) (b ∷ t) = eqb a b && same s t
+
+-- an octet string in hex, blanks passed over, as the paper prints it
+unfoldable pub digits : List ℕ → List ℕ
+digits [] = []
+digits (c ∷ s) = if leb 0x41 c then (c - 0x37) ∷ digits s else if leb 0x30 c then (c - 0x30) ∷ digits s else digits s
+
+unfoldable pub pairs : List ℕ → List ℕ
+pairs [] = []
+pairs (a ∷ []) = []
+pairs (a ∷ b ∷ s) = (a * 16 + b) ∷ pairs s
+
+unfoldable pub hex : String → List ℕ
+hex text = pairs (digits (ascii text))
+
+-- an answer as numbers: number, start and length of the delivered part, neighbour, and the octets written
+unfoldable pub numbers : Handled → List ℕ
+numbers a = a .number ∷ a .start ∷ a .size ∷ a .via ∷ a .octets
+
+abbrev pub clock : List ℕ
+clock = hex "000001000009"
+
+-- one handling with room enough: dropped or heard; delivered; written
+abbrev pub drops : String → List ℕ → List ℕ → ℕ → Case
+drops name settings frame number =
+    record { name = name; computed = numbers (handled settings clock 2048 frame); expected = number ∷ 0 ∷ 0 ∷ 0 ∷ [] }
+
+abbrev pub delivers : String → List ℕ → List ℕ → ℕ → ℕ → ℕ → Case
+delivers name settings frame number start size =
+    record { name = name; computed = numbers (handled settings clock 2048 frame); expected = number ∷ start ∷ size ∷ 0 ∷ [] }
+
+abbrev pub writes : String → List ℕ → List ℕ → ℕ → ℕ → List ℕ → Case
+writes name settings frame number via octets =
+    record { name = name; computed = numbers (handled settings clock 2048 frame); expected = number ∷ 0 ∷ 0 ∷ via ∷ octets }
+
+abbrev pub prints : String → List ℕ → List ℕ → Case
+prints name file text = record { name = name; computed = printed file; expected = text }
+
+-- code, count, and the last of the trace entries
+unfoldable pub ending : Outcome → List ℕ
+ending o = o .code ∷ o .count ∷ drop (length (o .trace) - 8) (o .trace)
+
+abbrev pub ends : String → List ℕ → ℕ → List ℕ → Case
+ends name file count entry = record { name = name; computed = ending (campus file 640); expected = 0 ∷ count ∷ entry }
+
+-- switch 0x0001, which reaches 0x0009 over 0x0005, without and with the strip flag
+abbrev pub settings1 : List ℕ
+settings1 = hex "01 0008 0001 020000000001  02 000E 0009 0005 020000000005 00000001"
+
+abbrev pub settings1Strip : List ℕ
+settings1Strip = settings1 ++ hex "03 0001 01"
+
+-- a received frame: first TRILL word, egress, options area, inner frame
+abbrev pub frameTo : List ℕ → List ℕ → List ℕ → List ℕ → List ℕ
+frameTo word egress area inner = hex "020000000001 020000000002 22F3" ++ word ++ egress ++ hex "0004" ++ area ++ inner
+
+-- the same, forwarded to 0x0005
+abbrev pub frameSent : List ℕ → List ℕ → List ℕ → List ℕ
+frameSent word area inner = hex "020000000005 020000000001 22F3" ++ word ++ hex "0009 0004" ++ area ++ inner
+
+-- an ordinary inner frame of 20 octets in a VLAN
+abbrev pub innerIn : List ℕ → List ℕ
+innerIn vlan = hex "020000000077 020000000088 8100" ++ vlan ++ hex "0800 4500"
+
+abbrev pub inner : List ℕ
+inner = innerIn (hex "0005")
+
+-- delivered to 0x0001 with an options area, first word and area given
+abbrev pub areaTaken : String → List ℕ → List ℕ → Case
+areaTaken name word area = delivers name settings1 (frameTo word (hex "0001") area inner) 51 (20 + length area) 20
+
+abbrev pub areaRefused : String → List ℕ → List ℕ → Case
+areaRefused name word area = drops name settings1 (frameTo word (hex "0001") area inner) 19
+
+abbrev pub zeros : ℕ → List ℕ
+zeros n = replicate n 0
+
+abbrev pub fileC1 : List ℕ
+fileC1 =
+    hex "01 0008 0001 020000000001"
+    ++ hex "02 000E 0003 0002 020000000002 00000001"
+    ++ hex "01 0008 0002 020000000002"
+    ++ hex "02 000E 0003 0003 020000000003 00000001"
+    ++ hex "02 000E 0001 0001 020000000001 00000001"
+    ++ hex "01 0008 0003 020000000003"
+    ++ hex "02 000E 0001 0002 020000000002 00000001"
+    ++ hex "04 0006 000001000009"
+    ++ hex "05 003E 0002 020000000002 020000000001 22F3"
+    ++ hex "0005 0003 0001 0180C2000042 020000000001"
+    ++ hex "8100 0001 8946 0FF8 4000 30000001 02 00"
+    ++ hex "000001000002 000000000000"
+
+abbrev pub textC1 : List ℕ
+textC1 =
+    ascii "0002 O 50 05 0003\n"
+    ++ ascii "0003 O 54 04 0003\n"
+    ++ ascii "0002 R 50 3F 0001\n"
+    ++ ascii "0001 R 56 3E 0001\n"
+    ++ ascii "handled 4\n"
+
+-- what 0x0003 writes at the second handling of C1
+abbrev pub settingsC1 : List ℕ
+settingsC1 = hex "01 0008 0003 020000000003  02 000E 0001 0002 020000000002 00000001"
+
+abbrev pub requestC1 : List ℕ
+requestC1 =
+    hex "020000000003 020000000002 22F3 0004 0003 0001"
+    ++ hex "0180C2000042 020000000001 8100 0001 8946 0FF8 4000 30000001 02 00 000001000002 000000000000"
+
+abbrev pub replyC1 : List ℕ
+replyC1 =
+    hex "020000000002 020000000003 22F3 003F 0001 0003"
+    ++ hex "0180C2000042 020000000003 8100 0001 8946 0FF8 C000 40000001 02 00 000001000002 000001000009"
+
+-- two switches, each naming the other for 0x0003
+abbrev pub fileC10 : List ℕ
+fileC10 =
+    hex "01 0008 0001 020000000001  02 000E 0003 0002 020000000002 00000001"
+    ++ hex "01 0008 0002 020000000002  02 000E 0003 0001 020000000001 00000001"
+    ++ hex "05 0016 0001 020000000001 020000000009 22F3 0005 0003 0009"
+
+abbrev pub textC10 : List ℕ
+textC10 =
+    ascii "0001 O 50 05 0003\n"
+    ++ ascii "0002 O 50 04 0003\n"
+    ++ ascii "0001 O 50 03 0003\n"
+    ++ ascii "0002 O 50 02 0003\n"
+    ++ ascii "0001 O 50 01 0003\n"
+    ++ ascii "0002 O 17 00 0003\n"
+    ++ ascii "handled 6\n"
+
+-- one switch whose record for 0x0009 names itself, and an echo from 0x0009 with the given first TRILL word
+abbrev pub fileC11 : List ℕ → List ℕ
+fileC11 word =
+    hex "01 0008 0001 020000000001  02 000E 0009 0001 020000000001 00000001"
+    ++ hex "05 003E 0001 020000000001 020000000009 22F3"
+    ++ word
+    ++ hex "0001 0009 0180C2000042 020000000009"
+    ++ hex "8100 0001 8946 0FF8 4000 30000001 02 00 000001000002 000000000000"
+
+-- switch 0x0001 with records for 0x0009 of a neighbour and a serial each, in the given order
+abbrev pub settingsC12 : List ℕ → List ℕ
+settingsC12 hops = hex "01 0008 0001 020000000001" ++ hops
+
+abbrev pub live7 : List ℕ
+live7 = hex "02 000E 0009 0007 020000000007 00000007"
+
+abbrev pub live8 : List ℕ
+live8 = hex "02 000E 0009 0008 020000000008 00000008"
+
+abbrev pub withdrawn8 : List ℕ
+withdrawn8 = hex "02 000E 0009 0000 020000000008 00000008"
+
+abbrev pub frameC12 : List ℕ
+frameC12 = frameTo (hex "0005") (hex "0009") [] inner
+
+abbrev pub sentC12 : List ℕ → List ℕ
+sentC12 mac = mac ++ hex "020000000001 22F3 0004 0009 0004" ++ inner
+
+-- the names of the cases that do not come out as expected; to open it is to open all that a case computes with
+unfoldable pub failing : List Case → List String
+unfolding same digits pairs hex numbers ending ascii hexDigit decimalFrom entryText entriesText printed fieldAt fieldsFrom fields lengthGood hopGood newer ruling nextHop serialMet switchGood withField opens continues opened settingsFrom settingsOf linkLength link readFrame headerRefusal weAreEgress optionAt optionsFrom optionsOf some-key summarized areaRead implemented strippable keptOptions octetsOf stripped areaRefusal areaStops areaSent echoRead channelRead silenced returnPath replyInner replyRest echoBody errorReply echoReply forwardedRest forwarded transit faulted echoed channelled decapsulated routed handling handledWith handled partOf switchNamed placeGood valueGood nicknameNew roomGood serialNew entryKnown fieldRefusal withNext describedFrom described clockOf kindAfter runFrom plainRun hopReceived egressReceived entryOctets traceOctets campus
+failing [] = []
+failing (c ∷ cases) = elim (same (c .computed) (c .expected)) [ true ↦ failing cases | false ↦ c .name ∷ failing cases ]
+
+unfoldable pub cases : List Case
+cases =
+    prints "C1 the whole output" fileC1 textC1
+    ∷ writes "C1 the reply" settingsC1 requestC1 54 2 replyC1
+    ∷ drops "C2 hop 0 at the egress" settings1 (frameTo (hex "0000") (hex "0001") [] inner) 17
+    ∷ drops "C2 hop 0 in transit" settings1 (frameTo (hex "0000") (hex "0009") [] inner) 17
+    ∷ delivers "C3 hop 1 at the egress" settings1 (frameTo (hex "0001") (hex "0001") [] inner) 51 20 20
+    ∷ writes "C3 hop 1 in transit" settings1 (frameTo (hex "0001") (hex "0009") [] inner) 50 5 (frameSent (hex "0000") [] inner)
+    ∷ areaTaken "C4 Length 118 in 31 words" (hex "07C5") (hex "00000000 45F6" ++ zeros 118)
+    ∷ areaRefused "C5 Length 119 in 31 words" (hex "07C5") (hex "00000000 45F7" ++ zeros 118)
+    ∷ record { name = "C6 octets taken"; computed = map optionSize (2 ∷ 3 ∷ 6 ∷ 7 ∷ []); expected = 4 ∷ 8 ∷ 8 ∷ 12 ∷ [] }
+    ∷ areaTaken "C6 Length 2 in one word" (hex "0085") (hex "00000000 4582AAAA")
+    ∷ areaRefused "C6 Length 2 in two" (hex "00C5") (hex "00000000 4582AAAA 00000000")
+    ∷ areaRefused "C6 Length 3 in one word" (hex "0085") (hex "00000000 4583AAAA")
+    ∷ areaTaken "C6 Length 3 in two" (hex "00C5") (hex "00000000 4583AAAA AA000000")
+    ∷ areaRefused "C6 Length 3 in three" (hex "0105") (hex "00000000 4583AAAA AA000000 00000000")
+    ∷ areaTaken "C6 Length 6 in two words" (hex "00C5") (hex "00000000 4586AAAA AAAAAAAA")
+    ∷ areaRefused "C6 Length 6 in three" (hex "0105") (hex "00000000 4586AAAA AAAAAAAA 00000000")
+    ∷ areaRefused "C6 Length 7 in two words" (hex "00C5") (hex "00000000 4587AAAA AAAAAAAA")
+    ∷ areaTaken "C6 Length 7 in three" (hex "0105") (hex "00000000 4587AAAA AAAAAAAA AA000000")
+    ∷ writes
+    "C7 stripped"
+    settings1Strip
+    (frameTo (hex "0105") (hex "0009") (hex "00000000 41820007 4583AABB CC000000") inner)
+    50
+    5
+    (frameSent (hex "0084") (hex "00000000 41820007") inner)
+    ∷ writes
+    "C7 an immutable option stays"
+    settings1Strip
+    (frameTo (hex "0105") (hex "0009") (hex "00000000 41820007 4503AABB CC0000EE") inner)
+    50
+    5
+    (frameSent (hex "0104") (hex "00000000 41820007 4503AABB CC0000EE") inner)
+    ∷ writes
+    "C7 without the flag"
+    settings1
+    (frameTo (hex "0105") (hex "0009") (hex "00000000 41820007 4583AABB CC000000") inner)
+    50
+    5
+    (frameSent (hex "0104") (hex "00000000 41820007 4583AABB CC000000") inner)
+    ∷ areaTaken "C8 rising keys" (hex "00C5") (hex "00000000 41820007 45820008")
+    ∷ areaRefused "C8 equal keys" (hex "00C5") (hex "00000000 41820007 41820008")
+    ∷ areaRefused "C8 falling keys" (hex "00C5") (hex "00000000 45820007 41820008")
+    ∷ drops "C9 VLAN 0" settings1 (frameTo (hex "0005") (hex "0001") [] (innerIn (hex "0000"))) 23
+    ∷ delivers "C9 VLAN 1" settings1 (frameTo (hex "0005") (hex "0001") [] (innerIn (hex "0001"))) 51 20 20
+    ∷ delivers "C9 VLAN 4,094" settings1 (frameTo (hex "0005") (hex "0001") [] (innerIn (hex "0FFE"))) 51 20 20
+    ∷ drops "C9 VLAN 4,095" settings1 (frameTo (hex "0005") (hex "0001") [] (innerIn (hex "0FFF"))) 23
+    ∷ prints "C10 six handlings" fileC10 textC10
+    ∷ ends "C11 hop 1: 65 handlings" (fileC11 (hex "0001")) 65 (hex "0001 01 11 00 00 0009")
+    ∷ ends "C11 hop 0: one" (fileC11 (hex "0000")) 1 (hex "0001 00 11 00 00 0001")
+    ∷ writes "C12 serial 7" (settingsC12 live7) frameC12 50 7 (sentC12 (hex "020000000007"))
+    ∷ drops "C12 serial 7, then withdrawn" (settingsC12 (live7 ++ withdrawn8)) frameC12 21
+    ∷ drops "C12 withdrawn, then serial 7" (settingsC12 (withdrawn8 ++ live7)) frameC12 21
+    ∷ writes "C12 serials 7 and 8" (settingsC12 (live7 ++ live8)) frameC12 50 8 (sentC12 (hex "020000000008"))
+    ∷ writes "C12 serials 8 and 7" (settingsC12 (live8 ++ live7)) frameC12 50 8 (sentC12 (hex "020000000008"))
+    ∷ drops "C12 serial 8 twice" (settingsC12 (live8 ++ withdrawn8)) frameC12 1
+    ∷ []

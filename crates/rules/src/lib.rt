@@ -1,0 +1,67 @@
+// The shapes that the definitions in specs/ and the code above share. There is no code here.
+
+// A next-hop record (document 01, "Settings"). A neighbour of 0 is a withdrawal.
+pub struct NextHop {
+    pub destination: u16,
+    pub neighbour: u16,
+    pub mac: u64,
+    pub serial: u32,
+}
+
+// The record that rules for a destination, or none.
+pub enum Ruling {
+    Found(NextHop),
+    Absent,
+}
+
+// A field of settings or of a description: its value starts three octets after its place.
+pub enum FieldRead {
+    Taken { tag: u8, length: usize, next: usize },
+    Cut,
+}
+
+// A TRILL header (RFC 6325, 3): where it starts, its first 16 bits, and the two nicknames.
+pub struct Header {
+    pub place: usize,
+    pub word: u16,
+    pub egress: u16,
+    pub ingress: u16,
+}
+
+// A frame readable as TRILL, or the answer number of one that is not.
+pub enum FrameRead {
+    Trill(Header),
+    Unreadable(u8),
+}
+
+// What can be wrong with one option, in the order of the tests.
+pub enum OptionFault {
+    Reserved,
+    Past,
+    Below,
+    Equal,
+}
+
+// An option with the next place, or a fault with its place.
+pub enum OptionRead {
+    Taken { key: u16, length: u8, next: usize },
+    Fault { kind: OptionFault, place: usize },
+}
+
+// What an options area is found to be.
+pub enum AreaRead {
+    WellFormed,
+    Faulty { kind: OptionFault, place: usize },
+    HopByHopUnsummarized,
+    IngressToEgressUnsummarized,
+}
+
+// What a channel message is found to be (RFC 7178, 3.2; document 01, "Channel messages").
+pub enum ChannelRead {
+    Fault { code: u8 },
+    BadErr,
+    ErrorHeard,
+    BadEcho,
+    EchoHeard,
+    EchoRequest,
+}

@@ -1,0 +1,149 @@
+//! Writes generated inputs, with what this program answers to them, as a crate
+//! of cases that the proved definitions must compute to:
+//! `vectors DIR [SEED [COUNT]]`, with COUNT handlings and COUNT campuses.
+
+use std::fmt::Write as _;
+use std::path::Path;
+use std::{env, fs, io};
+
+use reference::generate::{campus_input, handle_input, part_input};
+use reference::{handle, part, run, text};
+
+/// Cases to a claim: a claim is checked under a limit of steps.
+const CLAIM: usize = 10;
+/// Longer inputs add checking time and no new rule.
+const LONGEST: usize = 700;
+
+const HEADER: &str = "\
+-- Generated cases, each with what the second program answers.
+use mathlib.Core.Path.{_≡_, refl}
+use mathlib.Core.List.{List, [], _∷_, _++_}
+use Prim.Native.Nat.{ℕ}
+use Rattle.rules.specs.Answer.{Handled}
+use Rattle.rules.specs.Campus.{Outcome, campus}
+use Rattle.rules.specs.Cases.{Case, failing, hex}
+use Rattle.rules.specs.Handling.{handled, partOf}
+use Rattle.rules.specs.Text.{printed}
+
+unfoldable answer : Handled → List ℕ
+answer a = a .number ∷ a .start ∷ a .size ∷ a .octets
+
+unfoldable outcome : Outcome → List ℕ
+outcome o = o .code ∷ o .count ∷ o .trace
+";
+
+fn main() -> io::Result<()> {
+    let arguments: Vec<String> = env::args().skip(1).collect();
+    let number = |at: usize, default| arguments.get(at).map_or(default, |a| a.parse().unwrap());
+    let directory = arguments.first().expect("vectors DIR [SEED [COUNT]]");
+    let (seed, count) = (number(1, 1), number(2, 100));
+    let cases: Vec<String> = handlings(seed)
+        .take(count as usize)
+        .chain(parts(seed).take(count as usize / 4))
+        .chain(campuses(seed).take(count as usize))
+        .collect();
+    write_crate(Path::new(directory), &cases)
+}
+
+fn handlings(seed: u64) -> impl Iterator<Item = String> {
+    (0..).filter_map(move |index| {
+        let input = handle_input(seed, index);
+        if input.frame.len() > LONGEST || input.settings.len() > LONGEST {
+            return None;
+        }
+        let mut out = vec![0; input.room];
+        let answer = handle(&input.frame, &input.settings, &input.clock, &mut out);
+        let computed = format!(
+            "answer (handled ({}) ({}) {} ({}))",
+            hex(&input.settings),
+            hex(&input.clock),
+            input.room,
+            hex(&input.frame)
+        );
+        let numbers = [answer.number, answer.start, answer.length];
+        let octets = &out[..answer.written as usize];
+        Some(case(
+            &format!("handling {index}"),
+            &computed,
+            &numbers,
+            octets,
+        ))
+    })
+}
+
+fn parts(seed: u64) -> impl Iterator<Item = String> {
+    (0..).filter_map(move |index| {
+        let input = part_input(seed, index);
+        if input.frame.len() > LONGEST {
+            return None;
+        }
+        let octets = part(&input.frame, input.start as usize, input.length as usize);
+        let computed = format!(
+            "partOf ({}) {} {}",
+            hex(&input.frame),
+            input.start,
+            input.length
+        );
+        Some(case(&format!("part {index}"), &computed, &[], octets))
+    })
+}
+
+fn campuses(seed: u64) -> impl Iterator<Item = String> {
+    (0..).filter_map(move |index| {
+        let input = campus_input(seed, index);
+        if input.description.len() > LONGEST {
+            return None;
+        }
+        let mut trace = vec![0; input.room];
+        let outcome = run(&input.description, &mut trace);
+        let file = hex(&input.description);
+        let computed = format!(
+            "outcome (campus ({file}) {}) ++ printed ({file})",
+            input.room
+        );
+        let mut octets = trace[..outcome.count as usize * 8].to_vec();
+        octets.extend(text(&input.description));
+        let numbers = [outcome.code, outcome.count];
+        Some(case(
+            &format!("campus {index}"),
+            &computed,
+            &numbers,
+            &octets,
+        ))
+    })
+}
+
+fn case(name: &str, computed: &str, numbers: &[u32], octets: &[u8]) -> String {
+    let mut expected = String::new();
+    for number in numbers {
+        write!(expected, "{number} ∷ ").unwrap();
+    }
+    let octets = hex(octets);
+    format!(
+        "record {{ name = \"{name}\"; computed = {computed}; expected = {expected}({octets}) }}"
+    )
+}
+
+fn hex(octets: &[u8]) -> String {
+    let digits: String = octets.iter().map(|octet| format!("{octet:02X}")).collect();
+    format!("hex \"{digits}\"")
+}
+
+/// A crate with no code: a claim for each few cases.
+fn write_crate(directory: &Path, cases: &[String]) -> io::Result<()> {
+    let mut file = String::from(HEADER);
+    for (place, claim) in cases.chunks(CLAIM).enumerate() {
+        let table = claim.join("\n    ∷ ");
+        write!(
+            file,
+            "\nabbrev table{place} : List Case\ntable{place} =\n    {table}\n    ∷ []\n\n\
+             claim{place} : failing table{place} ≡ []\nunfolding failing answer outcome\nclaim{place} = refl\n"
+        )
+        .unwrap();
+    }
+    fs::create_dir_all(directory.join("src"))?;
+    fs::create_dir_all(directory.join("specs"))?;
+    fs::write(directory.join("src/lib.rt"), "// Cases alone.\n")?;
+    fs::write(directory.join("specs/Lib.antt"), "pub mod Vectors\n")?;
+    fs::write(directory.join("specs/Vectors.antt"), file)
+}

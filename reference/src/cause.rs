@@ -1,0 +1,182 @@
+//! Why a call answers as it does: one value for each condition of the rules.
+//! Several causes share one answer number or refusal code.
+
+/// A fault of the settings octets or of a campus description.
+#[derive(Clone, Copy, Debug, PartialEq, Eq, PartialOrd, Ord)]
+pub enum Fault {
+    /// More than 32,768 octets of description.
+    FileSize,
+    /// Fewer than the three octets of tag and length.
+    HeadCut,
+    /// Fewer octets than the length field announces.
+    ValueCut,
+    UnknownTag,
+    /// A length the tag does not have.
+    Length,
+    /// A field that needs a tag 1 field before it.
+    BeforeSwitch,
+    SecondClock,
+    AfterFrame,
+    NoFrame,
+    /// A second tag 1, a tag 4 or a tag 5 in settings octets.
+    NotSettings,
+    OwnNickname,
+    OwnMac,
+    Destination,
+    Neighbour,
+    NeighbourMac,
+    StripFlag,
+    /// Nickname of an earlier switch.
+    NicknameMet,
+    /// Over 16 switches.
+    Switches,
+    /// Over 64 records at one switch.
+    Records,
+    /// Serial met before for that destination at that switch.
+    SerialMet,
+    EntryUnknown,
+    /// Trace buffer under 640 octets.
+    TraceRoom,
+}
+
+impl Fault {
+    /// The code with which a campus description is refused.
+    pub fn code(self) -> u32 {
+        match self {
+            Fault::FileSize => 40,
+            Fault::HeadCut | Fault::ValueCut => 41,
+            Fault::UnknownTag | Fault::Length => 42,
+            Fault::BeforeSwitch
+            | Fault::SecondClock
+            | Fault::AfterFrame
+            | Fault::NoFrame
+            | Fault::NotSettings => 43,
+            Fault::OwnNickname
+            | Fault::OwnMac
+            | Fault::Destination
+            | Fault::Neighbour
+            | Fault::NeighbourMac
+            | Fault::StripFlag => 44,
+            Fault::NicknameMet => 45,
+            Fault::Switches | Fault::Records => 46,
+            Fault::SerialMet => 47,
+            Fault::EntryUnknown => 48,
+            Fault::TraceRoom => 49,
+        }
+    }
+}
+
+/// Why no reply is made.
+#[derive(Clone, Copy, Debug, PartialEq, Eq, PartialOrd, Ord)]
+pub enum Silence {
+    /// SL is 1.
+    SilentFlag,
+    /// The message is itself an error, protocol 0x001.
+    ErrorProtocol,
+    /// ERR is not 0.
+    ErrorCode,
+    /// The reply mode is not 2.
+    ReplyMode,
+    /// No return path: the ingress is our own nickname.
+    OwnIngress,
+    /// No return path: the ingress has no next hop.
+    NoNextHop,
+}
+
+/// The condition that settled one handling, in the order of the answer table.
+#[derive(Clone, Copy, Debug, PartialEq, Eq, PartialOrd, Ord)]
+pub enum Cause {
+    Settings(Fault),
+    ClockLength,
+    OutputRoom,
+    FrameSize,
+    /// Under 14 octets.
+    LinkCut,
+    /// Under 18 octets with a tag.
+    TagCut,
+    NotTrill,
+    TrillCut,
+    OuterDestination,
+    Version,
+    MultiDestination,
+    Ingress,
+    Egress,
+    HopCount,
+    AreaPastFrame,
+    /// Length 119 to 127.
+    ReservedLength,
+    OptionPastArea,
+    EqualKeys,
+    FallingKeys,
+    /// A critical hop-by-hop option, but CHbH is 0.
+    UnsummedHopByHop,
+    /// A critical ingress-to-egress option, but CItE is 0.
+    UnsummedToEgress,
+    CriticalHopByHop,
+    CriticalToEgress,
+    NoNextHop,
+    Forwarded,
+    /// Forwarded with at least one option removed.
+    ForwardedStripped,
+    InnerCut,
+    InnerTag,
+    /// VLAN 0 or 4,095.
+    Vlan,
+    AnyRbridgeUnicast,
+    Delivered,
+    HandedUp,
+    /// Error reply with this code.
+    ErrorReply(u8),
+    /// Fault of this code with no error reply.
+    ErrorUnsent(u8, Silence),
+    ErrorField,
+    ErrorHeard,
+    EchoShort,
+    EchoLong,
+    EchoKind,
+    EchoHeard,
+    EchoReply,
+    EchoUnsent(Silence),
+}
+
+impl Cause {
+    /// The answer number of document 01.
+    pub fn number(self) -> u32 {
+        match self {
+            Cause::Settings(_) | Cause::ClockLength => 1,
+            Cause::OutputRoom => 2,
+            Cause::FrameSize => 3,
+            Cause::LinkCut | Cause::TagCut | Cause::TrillCut => 10,
+            Cause::NotTrill => 11,
+            Cause::OuterDestination => 12,
+            Cause::Version => 13,
+            Cause::MultiDestination => 14,
+            Cause::Ingress => 15,
+            Cause::Egress => 16,
+            Cause::HopCount => 17,
+            Cause::AreaPastFrame => 18,
+            Cause::ReservedLength
+            | Cause::OptionPastArea
+            | Cause::EqualKeys
+            | Cause::FallingKeys
+            | Cause::UnsummedHopByHop
+            | Cause::UnsummedToEgress => 19,
+            Cause::CriticalHopByHop | Cause::CriticalToEgress => 20,
+            Cause::NoNextHop => 21,
+            Cause::Forwarded | Cause::ForwardedStripped => 50,
+            Cause::InnerCut => 22,
+            Cause::InnerTag | Cause::Vlan => 23,
+            Cause::AnyRbridgeUnicast => 24,
+            Cause::Delivered => 51,
+            Cause::HandedUp => 52,
+            Cause::ErrorReply(_) => 53,
+            Cause::ErrorUnsent(..) => 25,
+            Cause::ErrorField => 26,
+            Cause::ErrorHeard => 55,
+            Cause::EchoShort | Cause::EchoLong | Cause::EchoKind => 27,
+            Cause::EchoHeard => 56,
+            Cause::EchoReply => 54,
+            Cause::EchoUnsent(_) => 28,
+        }
+    }
+}

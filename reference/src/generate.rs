@@ -1,0 +1,142 @@
+//! Seeded inputs for comparisons: a seed and an index give one input, always
+//! the same. Most inputs are valid but for one chosen place, so that every
+//! answer and every cause is met, near its boundary.
+
+mod areas;
+mod campuses;
+mod faults;
+mod frames;
+mod rng;
+mod switches;
+
+use campuses::Plan;
+use frames::Site;
+use rng::Rng;
+use switches::Settings;
+
+/// An input of the handling call.
+#[derive(Clone, Debug, PartialEq, Eq)]
+pub struct HandleInput {
+    pub frame: Vec<u8>,
+    pub settings: Vec<u8>,
+    pub clock: Vec<u8>,
+    /// Octets of the lent output.
+    pub room: usize,
+}
+
+/// An input of the call that hands back a part of a frame.
+#[derive(Clone, Debug, PartialEq, Eq)]
+pub struct PartInput {
+    pub frame: Vec<u8>,
+    pub start: u64,
+    pub length: u64,
+}
+
+/// An input of the campus call.
+#[derive(Clone, Debug, PartialEq, Eq)]
+pub struct CampusInput {
+    pub description: Vec<u8>,
+    /// Octets of the lent trace.
+    pub room: usize,
+}
+
+/// One handling: settings, a frame for them, clock and room.
+pub fn handle_input(seed: u64, index: u64) -> HandleInput {
+    let mut rng = Rng::new(seed, 1, index);
+    let settings = Settings::new(&mut rng);
+    let site = Site {
+        mac: settings.mac,
+        egress: settings.nickname,
+        live: settings.live.clone(),
+        dead: settings.dead.clone(),
+    };
+    let mut fields = settings.fields(&mut rng);
+    if rng.one_in(10) {
+        switches::spoil(&mut rng, &mut fields);
+    }
+    let mut octets = fields.concat();
+    if rng.one_in(100) {
+        octets.pop();
+    }
+    HandleInput {
+        frame: frames::frame(&mut rng, &site),
+        settings: octets,
+        clock: clock(&mut rng),
+        room: room(&mut rng, 2048),
+    }
+}
+
+/// Mostly six octets.
+fn clock(rng: &mut Rng) -> Vec<u8> {
+    let length = if rng.one_in(50) {
+        rng.pick(&[0, 1, 5, 7, 12])
+    } else {
+        6
+    };
+    rng.octets(length)
+}
+
+/// Mostly the room asked for or more.
+fn room(rng: &mut Rng, asked: usize) -> usize {
+    match rng.below(60) {
+        0 => rng.pick(&[0, 1, 8, asked - 8]),
+        1 => asked - 1,
+        2..6 => asked + 1,
+        6..9 => asked + 8,
+        9 => 2 * asked + rng.below(asked),
+        _ => asked,
+    }
+}
+
+/// A range near the ends of a frame, or of the numbers.
+pub fn part_input(seed: u64, index: u64) -> PartInput {
+    let mut rng = Rng::new(seed, 2, index);
+    let size = match rng.below(8) {
+        0 => 0,
+        1 => rng.pick(&[1, 2, 2047, 2048, 2049]),
+        _ => rng.below(64),
+    };
+    let frame = rng.octets(size);
+    let start = edge(&mut rng, size as u64);
+    let length = match rng.below(4) {
+        // start + length lies within the frame, but only modulo 2^64.
+        0 => edge(&mut rng, size as u64).wrapping_sub(start),
+        1 => (size as u64).saturating_sub(start) + rng.below(2) as u64,
+        _ => edge(&mut rng, size as u64),
+    };
+    PartInput {
+        frame,
+        start,
+        length,
+    }
+}
+
+fn edge(rng: &mut Rng, size: u64) -> u64 {
+    match rng.below(16) {
+        0 => 0,
+        1 => size,
+        2 => size + 1,
+        3 => size.saturating_sub(1),
+        4 => u64::MAX - rng.below(4) as u64,
+        5 => rng.pick(&[1 << 31, 1 << 32, 1 << 63, (1 << 32) - 1]),
+        6 => rng.next(),
+        _ => rng.below(size as usize + 1) as u64,
+    }
+}
+
+/// A campus, valid or refused, and the room of its trace.
+pub fn campus_input(seed: u64, index: u64) -> CampusInput {
+    let mut rng = Rng::new(seed, 3, index);
+    let description = match rng.below(100) {
+        0 => {
+            let size = rng.below(80);
+            rng.octets(size)
+        }
+        1..31 => Plan::new(&mut rng).spoiled(&mut rng),
+        _ => Plan::new(&mut rng).description(&mut rng),
+    };
+    CampusInput {
+        description,
+        room: room(&mut rng, 640),
+    }
+}

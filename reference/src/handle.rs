@@ -1,0 +1,290 @@
+//! One handling: the answers in the order document 01 lists them.
+
+use crate::cause::{Cause, Silence};
+use crate::channel::{
+    return_path, write_echo, write_error, Message, ReplyHead, ALL_EGRESS_RBRIDGES, ECHO_MAX,
+    ECHO_MIN, INNER_HEADER,
+};
+use crate::header::{Header, ANY_RBRIDGE, TRILL, VLAN_TAG};
+use crate::octets::{put_u16, u16_at};
+use crate::options;
+use crate::settings::{NextHop, Switch, MAX_FRAME};
+
+/// Inner Ethertype of frames that are handed up.
+const HANDED_UP: u16 = 0x22F4;
+
+/// The answer of one handling.
+#[repr(C)]
+#[derive(Clone, Copy, Debug, PartialEq, Eq, Default)]
+pub struct Answer {
+    pub number: u32,
+    /// Octets written at the start of the output.
+    pub written: u32,
+    /// Place and length of the delivered part of the received frame.
+    pub start: u32,
+    pub length: u32,
+}
+
+/// One handling within a run. The sizes are at most 2,048.
+#[derive(Clone, Copy)]
+pub(crate) struct Step {
+    pub cause: Cause,
+    pub written: usize,
+    pub start: usize,
+    pub length: usize,
+    /// Neighbour to which the written frame goes.
+    pub neighbour: u16,
+}
+
+impl Step {
+    /// An answer that neither writes nor delivers.
+    fn bare(cause: Cause) -> Self {
+        Step {
+            cause,
+            written: 0,
+            start: 0,
+            length: 0,
+            neighbour: 0,
+        }
+    }
+
+    fn sent(cause: Cause, written: usize, hop: &NextHop) -> Self {
+        Step {
+            written,
+            neighbour: hop.neighbour,
+            ..Self::bare(cause)
+        }
+    }
+
+    fn answer(&self) -> Answer {
+        Answer {
+            number: self.cause.number(),
+            written: self.written as u32,
+            start: self.start as u32,
+            length: self.length as u32,
+        }
+    }
+}
+
+/// Answers one received frame (no FCS). Writes `out` for 50, 53 and 54 alone,
+/// and then its first `written` octets.
+pub fn handle(frame: &[u8], settings: &[u8], clock: &[u8], out: &mut [u8]) -> Answer {
+    explain(frame, settings, clock, out).0
+}
+
+/// [`handle`], with the condition that settled the answer.
+pub fn explain(frame: &[u8], settings: &[u8], clock: &[u8], out: &mut [u8]) -> (Answer, Cause) {
+    let mut switch = Switch::EMPTY;
+    let step = match admit(&mut switch, frame, settings, clock, out) {
+        Ok(clock) => step(&switch, frame, clock, out),
+        Err(cause) => Step::bare(cause),
+    };
+    (step.answer(), step.cause)
+}
+
+/// Answers 1, 2 and 3.
+#[inline]
+fn admit<'a>(
+    switch: &mut Switch,
+    frame: &[u8],
+    settings: &[u8],
+    clock: &'a [u8],
+    out: &[u8],
+) -> Result<&'a [u8; 6], Cause> {
+    switch.read(settings).map_err(Cause::Settings)?;
+    let clock = clock.try_into().map_err(|_| Cause::ClockLength)?;
+    if out.len() < MAX_FRAME {
+        return Err(Cause::OutputRoom);
+    }
+    if frame.len() > MAX_FRAME {
+        return Err(Cause::FrameSize);
+    }
+    Ok(clock)
+}
+
+/// Hands back the part of `frame` that an answer delivers, or an empty part if
+/// the range does not lie within the frame.
+pub fn part(frame: &[u8], start: usize, length: usize) -> &[u8] {
+    frame
+        .get(start..)
+        .and_then(|rest| rest.get(..length))
+        .unwrap_or_default()
+}
+
+/// One handling of a frame of at most 2,048 octets into a buffer of at least
+/// that size.
+pub(crate) fn step(switch: &Switch, frame: &[u8], clock: &[u8; 6], out: &mut [u8]) -> Step {
+    receive(switch, frame, clock, out).unwrap_or_else(Step::bare)
+}
+
+/// From the link header to the decision between transit and egress.
+fn receive(switch: &Switch, frame: &[u8], clock: &[u8; 6], out: &mut [u8]) -> Result<Step, Cause> {
+    let header = Header::read(frame)?;
+    check_header(&header, switch, frame)?;
+    let area = frame.get(header.area_at()..header.inner_at());
+    let area = area.ok_or(Cause::AreaPastFrame)?;
+    let summary = options::check(area)?;
+    let egress = header.egress == switch.nickname || header.egress == ANY_RBRIDGE;
+    if summary.critical_hop_by_hop {
+        return Err(Cause::CriticalHopByHop);
+    }
+    if egress && summary.critical_to_egress {
+        return Err(Cause::CriticalToEgress);
+    }
+    if egress {
+        return deliver(switch, &header, frame, clock, out);
+    }
+    let hop = switch.next_hop(header.egress).ok_or(Cause::NoNextHop)?;
+    let strip = switch.strip && summary.removable;
+    forward(switch, &header, &hop, strip, frame, out)
+}
+
+/// Answers 12 to 17.
+fn check_header(header: &Header, switch: &Switch, frame: &[u8]) -> Result<(), Cause> {
+    if frame[..6] != switch.mac {
+        return Err(Cause::OuterDestination);
+    }
+    if header.version() != 0 {
+        return Err(Cause::Version);
+    }
+    if header.multi_destination() {
+        return Err(Cause::MultiDestination);
+    }
+    if !(1..ANY_RBRIDGE).contains(&header.ingress) {
+        return Err(Cause::Ingress);
+    }
+    if !(1..=ANY_RBRIDGE).contains(&header.egress) {
+        return Err(Cause::Egress);
+    }
+    // Tested as received, at an egress too.
+    if header.hop_count() == 0 {
+        return Err(Cause::HopCount);
+    }
+    Ok(())
+}
+
+/// Answer 50: new link header without a tag, hop count one less, area with or
+/// without its removable options, inner frame unchanged.
+fn forward(
+    switch: &Switch,
+    header: &Header,
+    hop: &NextHop,
+    strip: bool,
+    frame: &[u8],
+    out: &mut [u8],
+) -> Result<Step, Cause> {
+    let (area_at, inner_at) = (header.area_at(), header.inner_at());
+    let (head, rest) = out.split_at_mut(20);
+    let (cause, area_octets, from) = if strip {
+        let kept = options::strip(&frame[area_at..inner_at], rest)?;
+        (Cause::ForwardedStripped, kept, inner_at)
+    } else {
+        (Cause::Forwarded, inner_at - area_at, area_at)
+    };
+    let copied = &frame[from..];
+    let to = if strip { area_octets } else { 0 };
+    rest[to..to + copied.len()].copy_from_slice(copied);
+    head[..6].copy_from_slice(&hop.mac);
+    head[6..12].copy_from_slice(&switch.mac);
+    put_u16(head, 12, TRILL);
+    put_u16(head, 14, header.forwarded_word(area_octets));
+    put_u16(head, 16, header.egress);
+    put_u16(head, 18, header.ingress);
+    Ok(Step::sent(cause, 20 + to + copied.len(), hop))
+}
+
+/// Answers from 22 on: we are the egress.
+fn deliver(
+    switch: &Switch,
+    header: &Header,
+    frame: &[u8],
+    clock: &[u8; 6],
+    out: &mut [u8],
+) -> Result<Step, Cause> {
+    let start = header.inner_at();
+    let inner = &frame[start..];
+    if inner.len() < INNER_HEADER {
+        return Err(Cause::InnerCut);
+    }
+    if u16_at(inner, 12) != VLAN_TAG {
+        return Err(Cause::InnerTag);
+    }
+    if matches!(u16_at(inner, 14) & 0x0FFF, 0 | 0xFFF) {
+        return Err(Cause::Vlan);
+    }
+    let delivered = |cause| Step {
+        start,
+        length: inner.len(),
+        ..Step::bare(cause)
+    };
+    if inner[..6] != ALL_EGRESS_RBRIDGES {
+        if header.egress == ANY_RBRIDGE {
+            return Err(Cause::AnyRbridgeUnicast);
+        }
+        return Ok(delivered(Cause::Delivered));
+    }
+    if u16_at(inner, 16) == HANDED_UP {
+        return Ok(delivered(Cause::HandedUp));
+    }
+    match Message::read(inner) {
+        Message::Fault(code, silence) => fault(switch, header, code, silence, frame, out),
+        Message::ErrorField => Err(Cause::ErrorField),
+        Message::Error => Err(Cause::ErrorHeard),
+        Message::Echo(body) => echo(switch, header, body, clock, out),
+    }
+}
+
+/// Answers 53 and 25.
+fn fault(
+    switch: &Switch,
+    header: &Header,
+    code: u8,
+    silence: Option<Silence>,
+    frame: &[u8],
+    out: &mut [u8],
+) -> Result<Step, Cause> {
+    let unsent = |silence| Cause::ErrorUnsent(code, silence);
+    if let Some(silence) = silence {
+        return Err(unsent(silence));
+    }
+    let hop = return_path(switch, header.ingress).map_err(unsent)?;
+    let head = ReplyHead {
+        switch,
+        ingress: header.ingress,
+        hop,
+    };
+    let written = write_error(out, &head, code, &frame[header.ethertype_at..]);
+    Ok(Step::sent(Cause::ErrorReply(code), written, &hop))
+}
+
+/// Answers 27, 56, 54 and 28.
+fn echo(
+    switch: &Switch,
+    header: &Header,
+    body: &[u8],
+    clock: &[u8; 6],
+    out: &mut [u8],
+) -> Result<Step, Cause> {
+    if body.len() < ECHO_MIN {
+        return Err(Cause::EchoShort);
+    }
+    if body.len() > ECHO_MAX {
+        return Err(Cause::EchoLong);
+    }
+    match body[0] >> 4 {
+        3 => {}
+        4 => return Err(Cause::EchoHeard),
+        _ => return Err(Cause::EchoKind),
+    }
+    if body[4] != 2 {
+        return Err(Cause::EchoUnsent(Silence::ReplyMode));
+    }
+    let hop = return_path(switch, header.ingress).map_err(Cause::EchoUnsent)?;
+    let head = ReplyHead {
+        switch,
+        ingress: header.ingress,
+        hop,
+    };
+    let written = write_echo(out, &head, body, clock);
+    Ok(Step::sent(Cause::EchoReply, written, &hop))
+}

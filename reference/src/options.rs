@@ -1,0 +1,109 @@
+//! The options area: summary word, then TLV options in order of their keys.
+
+use crate::cause::Cause;
+use crate::octets::u16_at;
+
+/// Places in an option's key: IE 1, NC 1, Type 6, MT 1.
+const IE: u16 = 1 << 8;
+const NC: u16 = 1 << 7;
+const TYPE: u16 = 0x3F << 1;
+const MT: u16 = 1;
+/// Type 0x01 with IE 0, NC 1, MT 1.
+const FLOW_ID: u16 = NC | 0x01 << 1 | MT;
+/// Type 0x20 with NC 1, whatever IE and MT are.
+const PAD: u16 = NC | 0x20 << 1;
+/// First of the reserved Lengths.
+const RESERVED_LENGTH: u16 = 119;
+
+/// What a well-formed area says to the handler.
+#[derive(Default)]
+pub(crate) struct Summary {
+    /// CHbH.
+    pub critical_hop_by_hop: bool,
+    /// CItE.
+    pub critical_to_egress: bool,
+    /// Some option goes when the strip flag is set.
+    pub removable: bool,
+}
+
+/// Key and octets of the first TLV option in `rest`.
+struct TlvOption {
+    /// The nine high bits.
+    key: u16,
+    /// Two leading octets, data and padding.
+    size: usize,
+}
+
+impl TlvOption {
+    /// `rest` is a multiple of four octets and not empty.
+    #[inline]
+    fn read(rest: &[u8]) -> Result<Self, Cause> {
+        let head = u16_at(rest, 0);
+        let (key, length) = (head >> 7, head & 0x7F);
+        if length >= RESERVED_LENGTH {
+            return Err(Cause::ReservedLength);
+        }
+        let size = (usize::from(length) + 2).next_multiple_of(4);
+        if size > rest.len() {
+            return Err(Cause::OptionPastArea);
+        }
+        Ok(TlvOption { key, size })
+    }
+
+    /// Hop-by-hop, non-critical, mutable and not implemented.
+    #[inline]
+    fn removable(&self) -> bool {
+        let implemented = self.key == FLOW_ID || self.key & (NC | TYPE) == PAD;
+        self.key & (IE | NC | MT) == NC | MT && !implemented
+    }
+}
+
+/// Tests that the area is well formed. Padding is not tested, and a summary
+/// bit may be set with no such TLV.
+#[inline]
+pub(crate) fn check(area: &[u8]) -> Result<Summary, Cause> {
+    let Some((&[first, ..], mut rest)) = area.split_first_chunk::<4>() else {
+        return Ok(Summary::default());
+    };
+    let mut summary = Summary {
+        critical_hop_by_hop: first & 0x80 != 0,
+        critical_to_egress: first & 0x40 != 0,
+        removable: false,
+    };
+    let mut previous = None;
+    while !rest.is_empty() {
+        let option = TlvOption::read(rest)?;
+        if previous == Some(option.key) {
+            return Err(Cause::EqualKeys);
+        }
+        if previous > Some(option.key) {
+            return Err(Cause::FallingKeys);
+        }
+        match option.key & (IE | NC) {
+            0 if !summary.critical_hop_by_hop => return Err(Cause::UnsummedHopByHop),
+            IE if !summary.critical_to_egress => return Err(Cause::UnsummedToEgress),
+            _ => summary.removable |= option.removable(),
+        }
+        previous = Some(option.key);
+        rest = &rest[option.size..];
+    }
+    Ok(summary)
+}
+
+/// Writes a well-formed area without its removable options at the start of
+/// `out` and gives the octets left. The first word always stays.
+pub(crate) fn strip(area: &[u8], out: &mut [u8]) -> Result<usize, Cause> {
+    out[..4].copy_from_slice(&area[..4]);
+    let mut written = 4;
+    let mut rest = &area[4..];
+    while !rest.is_empty() {
+        let option = TlvOption::read(rest)?;
+        let (octets, after) = rest.split_at(option.size);
+        if !option.removable() {
+            out[written..written + option.size].copy_from_slice(octets);
+            written += option.size;
+        }
+        rest = after;
+    }
+    Ok(written)
+}

@@ -1,0 +1,113 @@
+//! Octets in hex, a switch to ask, and checks that hold for every answer.
+
+use reference::{handle, run, text, Answer, Outcome};
+
+/// Outer DA of the switch asked, SA, TRILL Ethertype.
+pub const LINK: &str = "020000000002 020000000001 22F3";
+/// The same with a tag of VLAN 4,095.
+pub const TAGGED: &str = "020000000002 020000000001 8100 FFFF 22F3";
+/// An ordinary inner frame.
+pub const PLAIN: &str = "020000000099 020000000098 8100 0001 0800 AABBCC";
+/// Inner header of a channel message, up to its Ethertype.
+pub const CHANNEL: &str = "0180C2000042 020000000001 8100 0001 8946";
+/// An echo request that asks for a reply.
+pub const ECHO: &str = "0FF8 4000 30000001 02 00 000001000002 000000000000";
+/// The switch asked: 0x0002 with next hops for 0x0001 and 0x0003.
+pub const SWITCH: &str = "01 0008 0002 020000000002
+    02 000E 0003 0003 020000000003 00000001
+    02 000E 0001 0001 020000000001 00000001";
+pub const STRIP: &str = "03 0001 01";
+pub const CLOCK: [u8; 6] = [0, 0, 1, 0, 0, 9];
+
+const SENTINEL: u8 = 0xA5;
+
+pub fn hex(text: &str) -> Vec<u8> {
+    let digits: Vec<u8> = text.bytes().filter(|c| !c.is_ascii_whitespace()).collect();
+    assert!(
+        digits.len().is_multiple_of(2),
+        "odd number of digits: {text}"
+    );
+    let octet = |pair: &[u8]| {
+        let pair = std::str::from_utf8(pair).unwrap();
+        u8::from_str_radix(pair, 16).unwrap()
+    };
+    digits.chunks(2).map(octet).collect()
+}
+
+/// A frame at the switch asked, its area from `area`, hop count 5.
+pub fn optioned(egress: &str, area: &str) -> Vec<u8> {
+    let word = (hex(area).len() / 4) << 6 | 5;
+    hex(&format!("{LINK} {word:04X} {egress} 0001 {area} {PLAIN}"))
+}
+
+/// A frame of hop count 5 from 0x0001 to the switch asked.
+pub fn to_us(inner: &str) -> Vec<u8> {
+    hex(&format!("{LINK} 0005 0002 0001 {inner}"))
+}
+
+/// The answer and what is written. Octets after that stay, start and length
+/// are given by 51 and 52 alone, and only 50, 53 and 54 write.
+pub fn ask(frame: &[u8], settings: &[u8], clock: &[u8], room: usize) -> (Answer, Vec<u8>) {
+    let mut out = vec![SENTINEL; room];
+    let answer = handle(frame, settings, clock, &mut out);
+    let written = answer.written as usize;
+    assert!(out[written..].iter().all(|&octet| octet == SENTINEL));
+    assert_eq!(written > 0, matches!(answer.number, 50 | 53 | 54));
+    if !matches!(answer.number, 51 | 52) {
+        assert_eq!((answer.start, answer.length), (0, 0));
+    }
+    out.truncate(written);
+    (answer, out)
+}
+
+/// The answer's number at the switch asked.
+pub fn number(frame: &[u8]) -> u32 {
+    number_at(frame, SWITCH)
+}
+
+pub fn number_at(frame: &[u8], settings: &str) -> u32 {
+    ask(frame, &hex(settings), &CLOCK, 2048).0.number
+}
+
+/// Number and written octets at the switch asked.
+pub fn sent(frame: &[u8]) -> (u32, Vec<u8>) {
+    sent_at(frame, SWITCH)
+}
+
+pub fn sent_at(frame: &[u8], settings: &str) -> (u32, Vec<u8>) {
+    let (answer, written) = ask(frame, &hex(settings), &CLOCK, 2048);
+    (answer.number, written)
+}
+
+/// The campus call with a trace of 700 octets; octets after the entries stay.
+pub fn campus(description: &[u8]) -> (Outcome, Vec<u8>) {
+    let mut trace = vec![SENTINEL; 700];
+    let outcome = run(description, &mut trace);
+    let written = 8 * outcome.count as usize;
+    assert!(trace[written..].iter().all(|&octet| octet == SENTINEL));
+    trace.truncate(written);
+    (outcome, trace)
+}
+
+/// The code with which a description is answered; a refusal has no entries and
+/// prints its code.
+pub fn code(description: &[u8]) -> u32 {
+    let (outcome, trace) = campus(description);
+    if outcome.code != 0 {
+        assert_eq!(trace, []);
+        let line = format!("refused {}\n", outcome.code);
+        assert_eq!(text(description), line.as_bytes());
+    }
+    outcome.code
+}
+
+/// The printed run.
+pub fn printed(description: &[u8]) -> String {
+    String::from_utf8(text(description)).unwrap()
+}
+
+/// One field with its length.
+pub fn field(tag: u8, value: &[u8]) -> Vec<u8> {
+    let length = (value.len() as u16).to_be_bytes();
+    [&[tag], &length[..], value].concat()
+}
