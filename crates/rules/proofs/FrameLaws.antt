@@ -174,7 +174,7 @@ pub record Passed (S : Settings) (f : List ℕ) (h : Header) : Type 0 where
   pub hops-left : 0 < hopCount (h .word)
   pub area-whole : innerStart h ≤ length f
 
-none-given : (b : Bool) (n x : ℕ) → 0 < n → cond b n x ≡ 0 → (b ≡ false) × (x ≡ 0)
+pub none-given : (b : Bool) (n x : ℕ) → 0 < n → cond b n x ≡ 0 → (b ≡ false) × (x ≡ 0)
 none-given false n x h e = (refl, e)
 none-given true n x h e = absurd (omega arith)
 

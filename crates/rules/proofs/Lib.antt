@@ -3,7 +3,14 @@ pub mod OctetLaws
 pub mod FieldLaws
 pub mod OptionLaws
 pub mod SettingsLaws
+pub mod HeaderLaws
 pub mod FrameLaws
 pub mod ReplyLaws
 pub mod HandlingLaws
+pub mod HandledLaws
+pub mod FlightLaws
+pub mod WalkLaws
+pub mod RunLaws
+pub mod DescriptionLaws
+pub mod DemandLaws
 pub mod Cases

@@ -270,7 +270,7 @@ pub record Stripped (area : List ℕ) (os : List TlvOption) : Type 0 where
   pub shorter : length (stripped area) ≤ length area
   pub words : length area % 4 ≡ 0 → length (stripped area) % 4 ≡ 0
 
-stripped-is : (area : List ℕ) (os : List TlvOption) → optionsOf area ≡ options os → stripped area ≡ take 4 area ++ octetsOf (keptOptions os)
+pub stripped-is : (area : List ℕ) (os : List TlvOption) → optionsOf area ≡ options os → stripped area ≡ take 4 area ++ octetsOf (keptOptions os)
 unfolding stripped
 stripped-is area os e = rw (stripped, e)
 
@@ -375,3 +375,8 @@ module _ (area : List ℕ) (e : areaRead area ≡ WellFormed) where
 
   pub stripped-words : length area % 4 ≡ 0 → length (stripped area) % 4 ≡ 0
   stripped-words = read-again .words
+
+-- an area of one word, or none, has nothing to strip
+pub stripped-word : (area : List ℕ) → length area ≤ 4 → stripped area ≡ area
+unfolding optionsOf
+stripped-word area h = stripped-is area [] (options-end (length area) area 0 4 h) ∙ (rw (kept-nothing, nothing-octets, append-nil)) ∙ take-all 4 area h

@@ -9,5 +9,6 @@ pub mod Answer
 pub mod Channel
 pub mod Handling
 pub mod Campus
+pub mod Demand
 pub mod Text
 pub mod Cases

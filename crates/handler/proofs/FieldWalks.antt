@@ -1,0 +1,254 @@
+-- The fields of settings as the code reads them: a fold over them as the loop makes it, and what the fold says of the settings read. By one law
+-- of fields for each step, and by induction on the fields. Assumes nothing.
+use mathlib.Core.Path.{_≡_, refl, sym, ap, _∙_}
+use mathlib.Core.List.{List, [], _∷_, _++_, foldl, foldl-append}
+use mathlib.Core.Bool.{Bool, false, not}
+use Prim.Native.Nat.{ℕ, suc, _+_, _-_, _≤_, _<_}
+use native.Mathlib.Omega.{arith}
+use borrow.Author.Tests.{lt-ltb, le-ltb, ltb-true, ltb-false, eq-eqb, ne-eqb, eqb-true, eqb-false}
+use lib.Dec.{ltb, eqb}
+use lib.ListN.{length}
+use Rattle.rules.specs.Octets.{octet, part}
+use Rattle.rules.specs.Fields.{Field, field, cut, fieldAt, fieldsFrom, fields}
+use Rattle.rules.specs.Settings.{Settings, newer, ruling, nextHop, switchOf, hopOf, withField, opened, settingsRead}
+use Rattle.rules.specs.declared.NextHop.{NextHop}
+use Rattle.rules.specs.declared.Ruling.{Ruling}
+use Rattle.rules.specs.declared.Ruling.the-variants.{Found, Absent}
+use Rattle.rules.specs.declared.FieldRead.the-variants.{Taken, Cut}
+use Rattle.rules.proofs.TestLaws.{by-test}
+use Rattle.rules.proofs.FieldLaws.{field-read, fields-end, fields-cut, fields-on}
+use Rattle.handler.specs.Shapes.{ownOf, ruledBy, flaggedBy, FoldedFrom}
+use Rattle.handler.proofs.JudgeLaws.{with-hop, with-other, first}
+
+-- the record that rules once one more is seen
+module _ (d : ℕ) (r : NextHop) where
+  pub newer-other : (best : Ruling) → (r .destination ≡ d → ⊥) → best ≡ newer d best r
+  unfolding newer
+  newer-other best h = simp (ne-eqb (r .destination) d h)
+
+  module _ (e : r .destination ≡ d) where
+    pub newer-first : (best : Ruling) → best ≡ Absent → Found r ≡ newer d best r
+    unfolding newer
+    newer-first best b = simp (b, eq-eqb (r .destination) d e)
+
+    module _ (best : Ruling) (q : NextHop) (b : best ≡ Found q) where
+      pub newer-later : q .serial < r .serial → Found r ≡ newer d best r
+      unfolding newer
+      newer-later h = simp (b, eq-eqb (r .destination) d e, lt-ltb (q .serial) (r .serial) h)
+
+      pub newer-stays : r .serial ≤ q .serial → Found q ≡ newer d best r
+      unfolding newer
+      newer-stays h = simp (b, eq-eqb (r .destination) d e, le-ltb (q .serial) (r .serial) h)
+
+-- the record that rules, and the strip flag, once one more field is read
+module _ (d : ℕ) (best : Ruling) where
+  pub ruled-cut : ruledBy d best cut ≡ best
+  unfolding ruledBy
+  ruled-cut = refl
+
+  module _ (tag : ℕ) (v : List ℕ) where
+    pub ruled-hop : tag ≡ 2 → newer d best (hopOf v) ≡ ruledBy d best (field tag v)
+    unfolding ruledBy
+    ruled-hop e = rw e
+
+    pub ruled-other : (tag ≡ 2 → ⊥) → best ≡ ruledBy d best (field tag v)
+    unfolding ruledBy
+    ruled-other h = rw (ne-eqb tag 2 h)
+
+module _ (strip : Bool) where
+  pub flagged-cut : flaggedBy strip cut ≡ strip
+  unfolding flaggedBy
+  flagged-cut = refl
+
+  module _ (tag : ℕ) (v : List ℕ) where
+    pub flagged-so : tag ≡ 3 → not (eqb (octet v 0) 0) ≡ flaggedBy strip (field tag v)
+    unfolding flaggedBy
+    flagged-so e = rw e
+
+    pub flagged-other : (tag ≡ 3 → ⊥) → strip ≡ flaggedBy strip (field tag v)
+    unfolding flaggedBy
+    flagged-other h = rw (ne-eqb tag 3 h)
+
+-- fuel with which the fields from `at` on, folded from `acc`, give `whole`
+pub record Left {A : Type 0} (step : A → Field → A) (s : List ℕ) (whole : A) (at : ℕ) (acc : A) : Type 0 where
+  pub fuel : ℕ
+  pub enough : length s ≤ at + fuel
+  pub gives : foldl step acc (fieldsFrom (suc fuel) s at) ≡ whole
+
+-- what the loop keeps
+pub record Folding {A : Type 0} (step : A → Field → A) (start : A) (s : List ℕ) (from at : ℕ) (acc : A) : Type 0 where
+  pub within : at ≤ length s
+  pub left : (g : ℕ) → length s ≤ from + g → Left step s (foldl step start (fieldsFrom (suc g) s from)) at acc
+
+module _ {A : Type 0} (step : A → Field → A) (start : A) (s : List ℕ) (from : ℕ) where
+  pub fold-begin : from ≤ length s → Folding step start s from from start
+  fold-begin h = record { within = h; left = λ g k. record { fuel = g; enough = k; gives = refl } }
+
+  module _ (at : ℕ) (acc : A) (w : Folding step start s from at acc) where
+    pub fold-end : length s ≤ at → FoldedFrom step start s from acc
+    fold-end h g k =
+        let l = w .left g k in
+        ap (foldl step acc) (sym (fields-end (l .fuel) s at h)) ∙ l .gives
+
+    module _ (h : at < length s) where
+      pub fold-cut : fieldAt s at ≡ Cut → step acc cut ≡ acc → FoldedFrom step start s from acc
+      fold-cut e c g k =
+          let l = w .left g k in
+          sym c ∙ ap (foldl step acc) (sym (fields-cut (l .fuel) s at h e)) ∙ l .gives
+
+      pub fold-on : (tag size next : ℕ) → fieldAt s at ≡ Taken tag size next → (acc′ : A) → acc′ ≡ step acc (field tag (part s (at + 3) (next - (at + 3)))) → Folding step start s from next acc′
+      fold-on tag size next e acc′ a =
+          let i = field-read s at tag size next e in
+          let the-size : next - (at + 3) ≡ size = omega (arith, i) in
+          record {
+            within = i .within;
+            left = λ g k.
+                let l = w .left g k in
+                let less : suc (l .fuel - 1) ≡ l .fuel = omega (arith, l .enough) in
+                record {
+                  fuel = l .fuel - 1;
+                  enough = omega (arith, l .enough, i);
+                  gives = rw (a, the-size, less) (ap (foldl step acc) (sym (fields-on (l .fuel) s at tag size next h e)) ∙ l .gives);
+                };
+          }
+
+-- the settings read, by the first field
+opened-cut : opened cut ≡ switchOf []
+unfolding opened
+opened-cut = refl
+
+opened-field : (tag : ℕ) (v : List ℕ) → opened (field tag v) ≡ switchOf v
+unfolding opened
+opened-field tag v = refl
+
+module _ (s : List ℕ) where
+  read-none : fields s ≡ [] → settingsRead s ≡ switchOf []
+  unfolding settingsRead
+  read-none is = rw (settingsRead, is)
+
+  read-first : (f : Field) (fs : List Field) → fields s ≡ f ∷ fs → settingsRead s ≡ foldl withField (opened f) fs
+  unfolding settingsRead
+  read-first f fs is = rw (settingsRead, is)
+
+  pub read-cut : fieldAt s 0 ≡ Cut → settingsRead s ≡ switchOf []
+  unfolding fields
+  read-cut e =
+      by-test (ltb 0 (length s))
+      (λ t. read-first cut [] (fields-cut (length s) s 0 (ltb-true 0 (length s) t) e) ∙ opened-cut)
+      (λ t. read-none (fields-end (length s) s 0 (ltb-false 0 (length s) t)))
+
+  module _ {tag size next : ℕ} (e : fieldAt s 0 ≡ Taken tag size next) where
+    read-on : settingsRead s ≡ foldl withField (switchOf (part s 3 (next - 3))) (fieldsFrom (length s) s next)
+    read-on =
+        let v = part s 3 (next - 3) in
+        read-first (field tag v) (fieldsFrom (length s) s next) (first s e) ∙ ap (λ (S : Settings). foldl withField S (fieldsFrom (length s) s next)) (opened-field tag v)
+
+    rest-folded : {A : Type 0} (step : A → Field → A) (start r : A) → FoldedFrom step start s next r → r ≡ foldl step start (fieldsFrom (length s) s next)
+    rest-folded step start r f =
+        let i = field-read s 0 tag size next e in
+        let less : suc (length s - 1) ≡ length s = omega (arith, i) in
+        (rw less at (f (length s - 1) (omega (arith, i))))
+
+-- what one more field does to the nickname and MAC, the strip flag and the record that rules
+module _ (S : Settings) where
+  own-with : (f : Field) → ownOf (withField S f) ≡ ownOf S
+  unfolding withField
+  own-with cut = refl
+  own-with (field tag v) =
+      by-test (eqb tag 2) (λ e. rw e) (λ e. by-test (eqb tag 3) (λ f. rw (e, f)) (λ f. rw (e, f)))
+
+  strip-with : (f : Field) → withField S f .strip ≡ flaggedBy (S .strip) f
+  unfolding withField flaggedBy
+  strip-with cut = refl
+  strip-with (field tag v) =
+      by-test (eqb tag 2) (λ e. rw (eqb-true tag 2 e)) (λ e. by-test (eqb tag 3) (λ f. rw (e, f)) (λ f. rw (e, f)))
+
+with-cut : (S : Settings) → withField S cut ≡ S
+unfolding withField
+with-cut S = refl
+
+ruling-none : (d : ℕ) → ruling [] d ≡ Absent
+unfolding ruling
+ruling-none d = refl
+
+ruling-snoc : (d : ℕ) (hops : List NextHop) (r : NextHop) → ruling (hops ++ (r ∷ [])) d ≡ newer d (ruling hops d) r
+unfolding ruling
+ruling-snoc d hops r = foldl-append (newer d) Absent hops (r ∷ [])
+
+ruling-with : (d : ℕ) (S : Settings) (f : Field) → ruling (withField S f .hops) d ≡ ruledBy d (ruling (S .hops) d) f
+ruling-with d S cut = rw (with-cut S, ruled-cut d (ruling (S .hops) d))
+ruling-with d S (field tag v) =
+    by-test (eqb tag 2)
+    (λ e.
+    let two = eqb-true tag 2 e in
+    rw (with-hop S tag v two, ruling-snoc d (S .hops) (hopOf v)) (ruled-hop d (ruling (S .hops) d) tag v two))
+    (λ e.
+    let other = eqb-false tag 2 e in
+    rw (with-other S tag v other) (ruled-other d (ruling (S .hops) d) tag v other))
+
+-- and what all do
+own-fold : (S : Settings) (fs : List Field) → ownOf (foldl withField S fs) ≡ ownOf S
+own-fold S [] = refl
+own-fold S (f ∷ fs) = own-fold (withField S f) fs ∙ own-with S f
+
+strip-fold : (S : Settings) (fs : List Field) → foldl withField S fs .strip ≡ foldl flaggedBy (S .strip) fs
+strip-fold S [] = refl
+strip-fold S (f ∷ fs) = strip-fold (withField S f) fs ∙ ap (λ (b : Bool). foldl flaggedBy b fs) (strip-with S f)
+
+ruling-fold : (d : ℕ) (S : Settings) (fs : List Field) → ruling (foldl withField S fs .hops) d ≡ foldl (ruledBy d) (ruling (S .hops) d) fs
+ruling-fold d S [] = refl
+ruling-fold d S (f ∷ fs) = ruling-fold d (withField S f) fs ∙ ap (λ (b : Ruling). foldl (ruledBy d) b fs) (ruling-with d S f)
+
+-- there is no next hop, or the record that rules
+module _ (S : Settings) (d : ℕ) where
+  hop-none : ruling (S .hops) d ≡ Absent → Absent ≡ nextHop S d
+  unfolding nextHop
+  hop-none e = rw (nextHop, e)
+
+  module _ (r : NextHop) (e : ruling (S .hops) d ≡ Found r) where
+    hop-withdrawn : r .neighbour ≡ 0 → Absent ≡ nextHop S d
+    unfolding nextHop
+    hop-withdrawn z = rw (nextHop, e, eq-eqb (r .neighbour) 0 z)
+
+    hop-found : (r .neighbour ≡ 0 → ⊥) → Found r ≡ nextHop S d
+    unfolding nextHop
+    hop-found n = rw (nextHop, e, ne-eqb (r .neighbour) 0 n)
+
+-- of settings whose first field is cut
+module _ (s : List ℕ) (e : fieldAt s 0 ≡ Cut) where
+  pub own-cut : record { nickname = 0; mac = 0 } ≡ ownOf (settingsRead s)
+  own-cut = ap ownOf (sym (read-cut s e))
+
+  pub strip-cut : false ≡ settingsRead s .strip
+  strip-cut = ap (λ (S : Settings). S .strip) (sym (read-cut s e))
+
+  pub hop-cut : (d : ℕ) → Absent ≡ nextHop (settingsRead s) d
+  hop-cut d = hop-none (settingsRead s) d (rw (read-cut s e) (ruling-none d))
+
+-- and of settings whose first field is taken
+module _ (s : List ℕ) {tag size next : ℕ} (e : fieldAt s 0 ≡ Taken tag size next) where
+  pub own-read : ownOf (switchOf (part s 3 (next - 3))) ≡ ownOf (settingsRead s)
+  own-read = sym (ap ownOf (read-on s e) ∙ own-fold (switchOf (part s 3 (next - 3))) (fieldsFrom (length s) s next))
+
+  pub strip-read : (r : Bool) → FoldedFrom flaggedBy false s next r → r ≡ settingsRead s .strip
+  strip-read r f =
+      rest-folded s e flaggedBy false r f
+      ∙ sym (ap (λ (S : Settings). S .strip) (read-on s e) ∙ strip-fold (switchOf (part s 3 (next - 3))) (fieldsFrom (length s) s next))
+
+  module _ (d : ℕ) (b : Ruling) (f : FoldedFrom (ruledBy d) Absent s next b) where
+    rules : ruling (settingsRead s .hops) d ≡ b
+    rules =
+        ap (λ (S : Settings). ruling (S .hops) d) (read-on s e)
+        ∙ ruling-fold d (switchOf (part s 3 (next - 3))) (fieldsFrom (length s) s next)
+        ∙ ap (λ (c : Ruling). foldl (ruledBy d) c (fieldsFrom (length s) s next)) (ruling-none d)
+        ∙ sym (rest-folded s e (ruledBy d) Absent b f)
+
+    pub no-hop : b ≡ Absent → Absent ≡ nextHop (settingsRead s) d
+    no-hop a = hop-none (settingsRead s) d (rules ∙ a)
+
+    module _ (r : NextHop) (is : b ≡ Found r) where
+      pub hop-gone : r .neighbour ≡ 0 → Absent ≡ nextHop (settingsRead s) d
+      hop-gone = hop-withdrawn (settingsRead s) d r (rules ∙ is)
+
+      pub hop-there : (r .neighbour ≡ 0 → ⊥) → Found r ≡ nextHop (settingsRead s) d
+      hop-there = hop-found (settingsRead s) d r (rules ∙ is)

@@ -1,0 +1,232 @@
+-- What the loop over the settings fields keeps, from the first field to the verdict: the records read so far and the keys met agree, and the
+-- rest of the fields decides as the whole does. By one law of fields and of settings for each step. Assumes nothing.
+use mathlib.Core.Path.{_≡_, refl, _∙_}
+use mathlib.Core.List.{List, [], _∷_, _++_}
+use mathlib.Core.Bool.{Bool, true, false, _&&_, _||_, or-assoc}
+use mathlib.Core.Option.{Option, none, some}
+use Prim.Native.Nat.{ℕ, suc, _+_, _-_, _<_, _≤_}
+use native.Mathlib.Omega.{arith}
+use borrow.Author.Tests.{ltb-true, ltb-false, eqb-true, eqb-false, ne-eqb, le-leb, lt-leb}
+use lib.Dec.{ltb, eqb}
+use lib.ListN.{length, take, replicate, length-replicate, length-append}
+use lib.Seq.{length-take-le}
+use Rattle.rules.specs.Octets.{part}
+use Rattle.rules.specs.Fields.{Field, field, cut, fieldAt, fieldsFrom, fields, lengthGood}
+use Rattle.rules.specs.Settings.{Settings, hopOf, serialMet, withField, opens, opened, continues, settingsFrom, settingsOf}
+use Rattle.rules.specs.Campus.{known}
+use Rattle.rules.specs.declared.NextHop.{NextHop}
+use Rattle.rules.specs.declared.FieldRead.the-variants.{Taken, Cut}
+use Rattle.rules.proofs.TestLaws.{by-test, and-no}
+use Rattle.rules.proofs.FieldLaws.{field-read, fields-end, fields-cut, fields-on}
+use Rattle.rules.proofs.SettingsLaws.{from-on, from-bad}
+use Rattle.handler.specs.Keys.{keyOf, keyMet, Kept, hopTaken, fieldTaken, withKey, keysWith, Taking, Verdict}
+use Rattle.handler.proofs.Flags.{or-no}
+use Rattle.handler.proofs.KeyLaws.{met-snoc, key-same, keys-hop, keys-other}
+
+serial-snoc : (r q : NextHop) (hops : List NextHop)
+    → serialMet r (hops ++ (q ∷ [])) ≡ (serialMet r hops || (eqb (q .destination) (r .destination) && eqb (q .serial) (r .serial)))
+unfolding serialMet
+serial-snoc r q [] = or-no (eqb (q .destination) (r .destination) && eqb (q .serial) (r .serial))
+serial-snoc r q (p ∷ hops) = rw (serial-snoc r q hops, or-assoc)
+
+-- as many keys as records, and a key met where a serial is
+pub record Agree (hops : List NextHop) (met : List ℕ) : Type 0 where
+  pub count : length hops ≡ length met
+  pub alike : (r : NextHop) → r .serial < 4294967296 → serialMet r hops ≡ keyMet (keyOf r) met
+
+agree-none : Agree [] []
+unfolding serialMet keyMet
+agree-none = record { count = refl; alike = λ r h. refl }
+
+agree-more : (hops : List NextHop) (met v : List ℕ) → Agree hops met → Agree (hops ++ (hopOf v ∷ [])) (withKey met v)
+agree-more hops met v a =
+    record {
+      count = rw (length-append, length-append, a .count);
+      alike = λ r h.
+          rw (
+            serial-snoc r (hopOf v) hops,
+            met-snoc (keyOf r) (keyOf (hopOf v)) met,
+            a .alike r h,
+            key-same (hopOf v .destination) (hopOf v .serial) (r .destination) (r .serial) (omega arith) h,
+          );
+    }
+
+module _ (T : Settings) (tag : ℕ) (v : List ℕ) where
+  pub with-hop : tag ≡ 2 → withField T (field tag v) .hops ≡ T .hops ++ (hopOf v ∷ [])
+  unfolding withField
+  with-hop e = rw e
+
+  pub with-other : (tag ≡ 2 → ⊥) → withField T (field tag v) .hops ≡ T .hops
+  unfolding withField
+  with-other h = by-test (eqb tag 3) (λ e. rw (ne-eqb tag 2 h, e)) (λ e. rw (ne-eqb tag 2 h, e))
+
+  agree-with : (met : List ℕ) → Agree (T .hops) met → Agree (withField T (field tag v) .hops) (keysWith met tag v)
+  agree-with met a =
+      by-test (eqb tag 2)
+      (λ e. let two = eqb-true tag 2 e in rw (with-hop two, keys-hop met tag v two) (agree-more (T .hops) met v a))
+      (λ e. let other = eqb-false tag 2 e in rw (with-other other, keys-other met tag v other) a)
+
+module _ (T : Settings) (v met : List ℕ) (n : ℕ) where
+  continues-hop : length (T .hops) ≡ n → serialMet (hopOf v) (T .hops) ≡ keyMet (keyOf (hopOf v)) met → continues T (field 2 v) ≡ fieldTaken met n 2 v
+  unfolding continues lengthGood fieldTaken hopTaken
+  continues-hop c e = rw (c, e)
+
+  continues-flag : continues T (field 3 v) ≡ fieldTaken met n 3 v
+  unfolding continues lengthGood fieldTaken
+  continues-flag = refl
+
+  continues-other : (tag : ℕ) → (tag ≡ 2 → ⊥) → (tag ≡ 3 → ⊥) → continues T (field tag v) ≡ fieldTaken met n tag v
+  unfolding continues fieldTaken
+  continues-other tag h k = rw (ne-eqb tag 2 h, ne-eqb tag 3 k) (and-no (lengthGood tag (length v)))
+
+  continues-taken : (tag : ℕ) → length met ≡ n → Agree (T .hops) met → continues T (field tag v) ≡ fieldTaken met n tag v
+  continues-taken tag c a =
+      by-test (eqb tag 2)
+      (λ e. rw (eqb-true tag 2 e) (continues-hop (a .count ∙ c) (a .alike (hopOf v) (omega arith))))
+      (λ e. by-test (eqb tag 3)
+      (λ f. rw (eqb-true tag 3 f) continues-flag)
+      (λ f. continues-other tag (eqb-false tag 2 e) (eqb-false tag 3 f)))
+
+continues-cut : (T : Settings) → continues T cut ≡ false
+unfolding continues
+continues-cut T = refl
+
+from-end : (T : Settings) → settingsFrom T [] ≡ some T
+unfolding settingsFrom
+from-end T = refl
+
+-- some settings with these keys, from which the fields from `at` on decide as the whole does
+pub record Rest (s : List ℕ) (whole : Option Settings) (met : List ℕ) (at : ℕ) : Type 0 where
+  pub read : Settings
+  pub fuel : ℕ
+  pub enough : length s ≤ at + fuel
+  pub decides : settingsFrom read (fieldsFrom (suc fuel) s at) ≡ whole
+  pub agree : Agree (read .hops) met
+
+module _ (s : List ℕ) (whole : Option Settings) (met : List ℕ) (at : ℕ) (w : Rest s whole met at) where
+  rest-end : length s ≤ at → true ≡ known whole
+  rest-end h = rw (← w .decides, fields-end (w .fuel) s at h, from-end (w .read))
+
+  module _ (h : at < length s) where
+    rest-cut : fieldAt s at ≡ Cut → false ≡ known whole
+    rest-cut e = rw (← w .decides, fields-cut (w .fuel) s at h e, from-bad (w .read) cut [] (continues-cut (w .read)))
+
+    module _ (tag size next : ℕ) (e : fieldAt s at ≡ Taken tag size next) (n : ℕ) (c : length met ≡ n) where
+      judged-so : (b : Bool) → fieldTaken met n tag (part s (at + 3) size) ≡ b → continues (w .read) (field tag (part s (at + 3) size)) ≡ b
+      judged-so b g = continues-taken (w .read) (part s (at + 3) size) met n tag c (w .agree) ∙ g
+
+      rest-bad : fieldTaken met n tag (part s (at + 3) size) ≡ false → false ≡ known whole
+      rest-bad g =
+          let f = field tag (part s (at + 3) size) in
+          rw (← w .decides, fields-on (w .fuel) s at tag size next h e, from-bad (w .read) f (fieldsFrom (w .fuel) s next) (judged-so false g))
+
+      rest-on : fieldTaken met n tag (part s (at + 3) size) ≡ true → Rest s whole (keysWith met tag (part s (at + 3) size)) next
+      rest-on g =
+          let f = field tag (part s (at + 3) size) in
+          let i = field-read s at tag size next e in
+          let less : suc (w .fuel - 1) ≡ w .fuel = omega arith in
+          record {
+            read = withField (w .read) f;
+            fuel = w .fuel - 1;
+            enough = omega arith;
+            decides = rw (less, ← from-on (w .read) f (fieldsFrom (w .fuel) s next) (judged-so true g), ← fields-on (w .fuel) s at tag size next h e) (w .decides);
+            agree = agree-with (w .read) tag (part s (at + 3) size) met (w .agree);
+          }
+
+-- what the loop keeps
+pub record Judging (s : List ℕ) (from : ℕ) (keys seen : List ℕ) (n at : ℕ) : Type 0 where
+  pub kept : Kept keys seen n
+  pub within : at ≤ length s
+  pub rest : (T : Settings) (g : ℕ) → T .hops ≡ [] → length s ≤ from + g → Rest s (settingsFrom T (fieldsFrom (suc g) s from)) (take n keys) at
+
+-- what the field at a place does to the first n keys
+abbrev pub Step : List ℕ → ℕ → List ℕ → ℕ → ℕ → ℕ → ℕ → List ℕ → List ℕ → Type 0
+Step s at keys n tag next r keys′ seen′ =
+    Taking (fieldTaken (take n keys) n tag (part s (at + 3) (next - (at + 3)))) (keysWith (take n keys) tag (part s (at + 3) (next - (at + 3)))) r keys′ seen′
+
+pub begins : (s : List ℕ) (from : ℕ) → from ≤ length s → Judging s from (replicate 64 0) (replicate 256 0) 0 from
+begins s from h =
+    record {
+      kept = record { keys-long = length-replicate {A = ℕ} 64 0; seen-long = length-replicate {A = ℕ} 256 0; few = omega arith; marked = λ i below. absurd (omega arith) };
+      within = h;
+      rest = λ T g e k. record { read = T; fuel = g; enough = k; decides = refl; agree = rw e agree-none };
+    }
+
+module _ {s : List ℕ} {from : ℕ} {keys seen : List ℕ} {n at : ℕ} (j : Judging s from keys seen n at) where
+  many : length (take n keys) ≡ n
+  many = length-take-le n keys (omega (arith, j .kept))
+
+  pub ends : length s ≤ at → Verdict s from true
+  ends h T g e k = rest-end s (settingsFrom T (fieldsFrom (suc g) s from)) (take n keys) at (j .rest T g e k) h
+
+  module _ (h : at < length s) where
+    pub cut-off : fieldAt s at ≡ Cut → Verdict s from false
+    cut-off c T g e k = rest-cut s (settingsFrom T (fieldsFrom (suc g) s from)) (take n keys) at (j .rest T g e k) h c
+
+    module _ {tag size next : ℕ} (f : fieldAt s at ≡ Taken tag size next) where
+      the-size : next - (at + 3) ≡ size
+      the-size = omega (arith, field-read s at tag size next f)
+
+      pub stops : {r : ℕ} {keys′ seen′ : List ℕ} → Step s at keys n tag next r keys′ seen′ → 64 < r → Verdict s from false
+      stops {r} t b T g e k =
+          rest-bad s (settingsFrom T (fieldsFrom (suc g) s from)) (take n keys) at (j .rest T g e k) h tag size next f n many
+          (rw the-size at (t .judged ∙ lt-leb r 64 b))
+
+      pub goes-on : {r : ℕ} {keys′ seen′ : List ℕ} → Step s at keys n tag next r keys′ seen′ → r ≤ 64 → Judging s from keys′ seen′ r next
+      goes-on {r} t b =
+          record {
+            kept = t .kept b;
+            within = field-read s at tag size next f .within;
+            rest = λ T g e k.
+                rw (t .now-met b, the-size)
+                (rest-on s (settingsFrom T (fieldsFrom (suc g) s from)) (take n keys) at (j .rest T g e k) h tag size next f n many
+                (rw the-size at (t .judged ∙ le-leb r 64 b)));
+          }
+
+-- the first field
+module _ (s : List ℕ) (f : Field) (fs : List Field) (is : fields s ≡ f ∷ fs) where
+  settings-shut : opens f ≡ false → settingsOf s ≡ none
+  unfolding settingsOf
+  settings-shut o = rw (settingsOf, is, o)
+
+  settings-open : opens f ≡ true → settingsOf s ≡ settingsFrom (opened f) fs
+  unfolding settingsOf
+  settings-open o = rw (settingsOf, is, o)
+
+settings-none : (s : List ℕ) → fields s ≡ [] → settingsOf s ≡ none
+unfolding settingsOf
+settings-none s is = rw (settingsOf, is)
+
+opens-cut : opens cut ≡ false
+unfolding opens
+opens-cut = refl
+
+opened-none : (tag : ℕ) (v : List ℕ) → opened (field tag v) .hops ≡ []
+unfolding opened
+opened-none tag v = refl
+
+pub settings-cut : (s : List ℕ) → fieldAt s 0 ≡ Cut → false ≡ known (settingsOf s)
+unfolding fields
+settings-cut s e =
+    by-test (ltb 0 (length s))
+    (λ t. rw (settings-shut s cut [] (fields-cut (length s) s 0 (ltb-true 0 (length s) t) e) opens-cut))
+    (λ t. rw (settings-none s (fields-end (length s) s 0 (ltb-false 0 (length s) t))))
+
+module _ (s : List ℕ) {tag size next : ℕ} (e : fieldAt s 0 ≡ Taken tag size next) where
+  pub first : fields s ≡ field tag (part s 3 (next - 3)) ∷ fieldsFrom (length s) s next
+  unfolding fields
+  first =
+      let i = field-read s 0 tag size next e in
+      let the-size : next - 3 ≡ size = omega arith in
+      rw the-size (fields-on (length s) s 0 tag size next (omega arith) e)
+
+  pub settings-bad : opens (field tag (part s 3 (next - 3))) ≡ false → false ≡ known (settingsOf s)
+  settings-bad o = rw (settings-shut s (field tag (part s 3 (next - 3))) (fieldsFrom (length s) s next) first o)
+
+  pub settings-so : (r : Bool) → opens (field tag (part s 3 (next - 3))) ≡ true → Verdict s next r → r ≡ known (settingsOf s)
+  settings-so r o d =
+      let f = field tag (part s 3 (next - 3)) in
+      let i = field-read s 0 tag size next e in
+      let less : suc (length s - 1) ≡ length s = omega arith in
+      rw (settings-open s f (fieldsFrom (length s) s next) first o)
+      (rw less at (d (opened f) (length s - 1) (opened-none tag (part s 3 (next - 3))) (omega arith)))

@@ -1,0 +1,13 @@
+pub mod Words
+pub mod Flags
+pub mod Walks
+pub mod Stages
+pub mod Strips
+pub mod Ways
+pub mod Rests
+pub mod Bodies
+pub mod KeyLaws
+pub mod JudgeLaws
+pub mod FieldWalks
+pub mod ChannelLaws
+pub mod StageLaws

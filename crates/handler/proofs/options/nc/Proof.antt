@@ -1,0 +1,10 @@
+use lib.Bits.{and-mask}
+use Prim.Native.Nat.{_/_}
+use Rattle.handler.proofs.options.nc.Statement.{statement}
+use Rattle.handler.proofs.options.nc.Tie as tie
+
+returns : tie.Need-returns
+returns c = and-mask (c .args .key / 128) 1
+
+pub nc-spec : {M : Type 1} → statement M
+nc-spec = tie.close (tie.spec returns)

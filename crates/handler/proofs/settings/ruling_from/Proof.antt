@@ -1,0 +1,78 @@
+-- `settings::ruling_from` meets its contract. The invariant: the fields from `at` on, folded from `best`, give what all from `from` on do.
+-- Assumes nothing.
+use borrow.Author.Needs.{needs}
+use mathlib.Core.Path.{sym, _∙_}
+use Prim.Native.Nat.{_-_}
+use native.Mathlib.Omega.{arith}
+use lib.ListN.{length}
+use Rattle.rules.specs.declared.Ruling.the-variants.{Absent}
+use Rattle.rules.proofs.FieldLaws.{field-read}
+use Rattle.handler.specs.Shapes.{ruledBy}
+use Rattle.handler.proofs.FieldWalks.{Folding, ruled-cut, fold-begin, fold-end, fold-cut, fold-on}
+use Rattle.handler.proofs.settings.ruling_from.Statement.{statement}
+use Rattle.handler.proofs.settings.ruling_from.Tie as tie
+
+abbrev Inv-loop : tie.InvT-loop
+Inv-loop s from d best₀ at₀ best at = Folding (ruledBy d) Absent s from at best
+
+abbrev μ-loop : tie.MeasureT-loop
+μ-loop s from d best₀ at₀ best at = length s - at
+
+loop-holds : tie.Need-loop-holds Inv-loop μ-loop
+loop-holds c = fold-begin (ruledBy (c .before .args .d)) Absent (c .before .args .s .now) (c .before .args .from) (omega arith)
+
+field-at-requires : tie.Need-field-at-requires Inv-loop μ-loop
+field-at-requires c κs = search needs
+
+enum-known-tag : tie.Need-enum-known-tag Inv-loop μ-loop
+enum-known-tag c = search needs
+
+enum-told : tie.Need-enum-told Inv-loop μ-loop
+enum-told c = search needs
+
+returns : tie.Need-returns Inv-loop μ-loop
+returns c =
+    let a = c .before .before .before .before .before .before .args in
+    let l = c .before .before .before .before .loop in
+    fold-cut (ruledBy (a .d)) Absent (a .s .now) (a .from) (l .at) (l .best) (l .inv) (omega arith) (sym (c .before .before .field-at .ensures) ∙ c .enum-told .given .1) (ruled-cut (a .d) (l .best))
+
+ruled-requires : tie.Need-ruled-requires Inv-loop μ-loop
+ruled-requires c κs =
+    let f = c .before .tag .given in
+    let i = field-read (c .before .before .before .before .before .before .before .args .s .now) (c .before .before .before .before .before .loop .at) (f .0 .0) (f .0 .1 .0) (f .0 .1 .1 .0) (sym (c .before .before .before .field-at .ensures) ∙ f .1) in
+    (omega arith, omega arith)
+
+loop-less : tie.Need-loop-less Inv-loop μ-loop
+loop-less c =
+    let f = c .before .before .tag .given in
+    let i = field-read (c .before .before .before .before .before .before .before .before .args .s .now) (c .before .before .before .before .before .before .loop .at) (f .0 .0) (f .0 .1 .0) (f .0 .1 .1 .0) (sym (c .before .before .before .before .field-at .ensures) ∙ f .1) in
+    omega arith
+
+loop-again : tie.Need-loop-again Inv-loop μ-loop
+loop-again c =
+    let a = c .before .before .before .before .before .before .before .before .args in
+    let l = c .before .before .before .before .before .before .loop in
+    let f = c .before .before .tag .given in
+    fold-on (ruledBy (a .d)) Absent (a .s .now) (a .from) (l .at) (l .best) (l .inv) (omega arith) (f .0 .0) (f .0 .1 .0) (f .0 .1 .1 .0) (sym (c .before .before .before .before .field-at .ensures) ∙ f .1) (c .ruled .result) (c .ruled .ensures)
+
+returns-2 : tie.Need-returns-2 Inv-loop μ-loop
+returns-2 c =
+    let a = c .before .before .before .args in
+    let l = c .before .loop in
+    fold-end (ruledBy (a .d)) Absent (a .s .now) (a .from) (l .at) (l .best) (l .inv) (omega arith)
+
+pub ruling-from-spec : {M : Type 1} → statement M
+ruling-from-spec =
+    tie.close
+    (tie.spec
+    Inv-loop
+    μ-loop
+    loop-holds
+    field-at-requires
+    enum-known-tag
+    enum-told
+    returns
+    ruled-requires
+    loop-less
+    loop-again
+    returns-2)

@@ -1,0 +1,58 @@
+-- The keys of the records met so far, and the filter in front of them: how settings are judged in one pass.
+use Prim.Native.Nat.{ℕ, suc, _+_, _*_, _/_, _%_, _≤_, _<_}
+use mathlib.Core.Path.{_≡_}
+use mathlib.Core.List.{List, [], _∷_, _++_}
+use mathlib.Core.Bool.{Bool, false, not, _&&_, _||_}
+use lib.ListN.{length, getD, take}
+use lib.Dec.{ltb, leb, eqb}
+use Rattle.rules.specs.Octets.{if_then_else_}
+use Rattle.rules.specs.Fields.{fieldsFrom}
+use Rattle.rules.specs.Settings.{Settings, hopGood, hopOf, hopsMost, stripGood, settingsFrom}
+use Rattle.rules.specs.Campus.{known}
+use Rattle.rules.specs.declared.NextHop.{NextHop}
+
+-- destination above serial: two records of one destination with equal serials have one key
+abbrev pub keyOf : NextHop → ℕ
+keyOf hop = hop .destination * 4294967296 + hop .serial
+
+-- a place for a key among 256
+unfoldable pub slotOf : ℕ → ℕ
+slotOf key = (key / 4294967296 * 31 + key % 256) % 256
+
+unfoldable pub keyMet : ℕ → List ℕ → Bool
+keyMet key [] = false
+keyMet key (k ∷ keys) = eqb k key || keyMet key keys
+
+-- the slot of each of the first n keys is taken
+abbrev pub Marked : List ℕ → List ℕ → ℕ → Type 0
+Marked keys seen n = (i : ℕ) → i < n → getD seen (slotOf (getD keys i 0)) 0 ≡ 0 → ⊥
+
+pub record Kept (keys seen : List ℕ) (n : ℕ) : Type 0 where
+  pub keys-long : length keys ≡ 64
+  pub seen-long : length seen ≡ 256
+  pub few : n ≤ 64
+  pub marked : Marked keys seen n
+
+-- whether one more record, or field, goes with the n keys met so far
+unfoldable pub hopTaken : List ℕ → ℕ → List ℕ → Bool
+hopTaken keys n v = eqb (length v) 14 && (hopGood (hopOf v) && ltb n hopsMost && not (keyMet (keyOf (hopOf v)) keys))
+
+unfoldable pub fieldTaken : List ℕ → ℕ → ℕ → List ℕ → Bool
+fieldTaken keys n tag v = if eqb tag 2 then hopTaken keys n v else if eqb tag 3 then eqb (length v) 1 && stripGood v else false
+
+-- the keys met once one more record, or field, is taken
+abbrev pub withKey : List ℕ → List ℕ → List ℕ
+withKey keys v = keys ++ (keyOf (hopOf v) ∷ [])
+
+unfoldable pub keysWith : List ℕ → ℕ → List ℕ → List ℕ
+keysWith keys tag v = if eqb tag 2 then withKey keys v else keys
+
+-- what becomes of the keys: the first r are `met` where the record or field is good; r is above 64 where it is not
+pub record Taking (good : Bool) (met : List ℕ) (r : ℕ) (keys seen : List ℕ) : Type 0 where
+  pub judged : good ≡ leb r 64
+  pub now-met : r ≤ 64 → take r keys ≡ met
+  pub kept : r ≤ 64 → Kept keys seen r
+
+-- r: whether the fields from a place on go with settings that have no records yet, by any fuel that reaches the end
+abbrev pub Verdict : List ℕ → ℕ → Bool → Type 0
+Verdict s from r = (T : Settings) (g : ℕ) → T .hops ≡ [] → length s ≤ from + g → r ≡ known (settingsFrom T (fieldsFrom (suc g) s from))

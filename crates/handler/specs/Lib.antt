@@ -1,0 +1,3 @@
+-- What the contracts of `handler` cite beside the rules.
+pub mod Shapes
+pub mod Keys

@@ -1,0 +1,162 @@
+-- The rules' answers, settings and readings in the shapes that the code hands on.
+use Prim.Native.Nat.{ℕ, suc, _+_, _-_, _/_, _≤_, _<_}
+use mathlib.Core.Path.{_≡_}
+use mathlib.Core.List.{List, [], _++_, foldl}
+use mathlib.Core.Bool.{Bool, false, not, _&&_, _||_}
+use lib.ListN.{length, drop}
+use lib.Dec.{eqb}
+use Rattle.rules.specs.Octets.{if_then_else_, octet, be16, octets16, octets48, part, put}
+use Rattle.rules.specs.Fields.{Field, field, cut, fieldsFrom}
+use Rattle.rules.specs.Settings.{Settings, newer, hopOf, settingsRead}
+use Rattle.rules.specs.Link.{link, ethertypeTag, ethertypeTrill}
+use Rattle.rules.specs.Header.{version, reserved, multi, hopCount, headerWord, readFrame, innerStart, innerOf, headerRefusal}
+use Rattle.rules.specs.Handling.{vlan}
+use Rattle.rules.specs.Options.{Options, options, fault, some-key, hopByHopCritical, ingressToEgressCritical, strippable, keptOptions, octetsOf, stripped}
+use Rattle.rules.specs.Channel.{allEgressRBridges, ethertypeChannel, ethertypeIsIs}
+use Rattle.rules.specs.Answer as A
+use Rattle.rules.specs.declared.Ruling.{Ruling}
+use Rattle.rules.specs.declared.Ruling.the-variants.{Found, Absent}
+use Rattle.rules.specs.declared.Header.{Header}
+use Rattle.rules.specs.declared.FrameRead.{FrameRead}
+use Rattle.rules.specs.declared.FrameRead.the-variants.{Trill, Unreadable}
+use Rattle.rules.specs.declared.OptionRead.{OptionRead}
+use Rattle.rules.specs.declared.OptionRead.the-variants.{Taken, Fault}
+use Rattle.rules.specs.declared.AreaRead.{AreaRead}
+use Rattle.rules.specs.declared.AreaRead.the-variants.{WellFormed, Faulty}
+use Rattle.handler.specs.declared.answers.Handled.{Handled}
+use Rattle.handler.specs.declared.Answer.{Answer}
+use Rattle.handler.specs.declared.Routed.{Routed}
+use Rattle.handler.specs.declared.settings.Own.{Own}
+use Rattle.handler.specs.declared.way.Way.{Way}
+use Rattle.handler.specs.declared.way.Way.the-variants.{Via, NoWay}
+use Rattle.handler.specs.declared.options.Walk.{Walk}
+use Rattle.handler.specs.declared.options.Walk.the-variants.{Ended, Stopped}
+
+-- an answer as numbers: the octets written by their length
+abbrev pub numbersOf : A.Handled → Handled
+numbersOf a = record { number = a .number; written = length (a .octets); start = a .start; length = a .size; via = a .via }
+
+abbrev pub answerOf : A.Handled → Answer
+answerOf a = record { number = a .number; written = length (a .octets); start = a .start; length = a .size }
+
+abbrev pub routedOf : A.Handled → Routed
+routedOf a = record { answer = answerOf a; via = a .via }
+
+abbrev pub toldBy : Handled → Routed
+toldBy a = record { answer = record { number = a .number; written = a .written; start = a .start; length = a .length }; via = a .via }
+
+abbrev pub ownOf : Settings → Own
+ownOf S = record { nickname = S .nickname; mac = S .mac }
+
+-- the record that rules, and the strip flag, once one more field is read
+unfoldable pub ruledBy : ℕ → Ruling → Field → Ruling
+ruledBy d best cut = best
+ruledBy d best (field tag v) = if eqb tag 2 then newer d best (hopOf v) else best
+
+unfoldable pub flaggedBy : Bool → Field → Bool
+flaggedBy strip cut = strip
+flaggedBy strip (field tag v) = if eqb tag 3 then not (eqb (octet v 0) 0) else strip
+
+-- what the fields from a place on give, folded with any fuel that is enough for them
+abbrev pub FoldedFrom : {A : Type 0} → (A → Field → A) → A → List ℕ → ℕ → A → Type 0
+FoldedFrom step start s from r = (g : ℕ) → length s ≤ from + g → r ≡ foldl step start (fieldsFrom (suc g) s from)
+
+-- the way out to a destination: the neighbour, and the link header written towards it
+abbrev pub wayBy : Settings → Ruling → Way
+wayBy S Absent = NoWay
+wayBy S (Found r) = Via (r .neighbour) (length (link S r))
+
+abbrev pub linkBy : Settings → Ruling → List ℕ
+linkBy S Absent = []
+linkBy S (Found r) = link S r
+
+-- what a walk over the options says, once `hop` and `egress` critical ones were met
+abbrev pub walkOf : Bool → Bool → Options → Walk
+walkOf hop egress (fault kind place) = Stopped kind place
+walkOf hop egress (options os) = Ended (hop || some-key hopByHopCritical os) (egress || some-key ingressToEgressCritical os)
+
+abbrev pub stoppedBy : OptionRead → Walk
+stoppedBy (Fault kind place) = Stopped kind place
+stoppedBy (Taken key size next) = Ended false false
+
+-- what stays of one option, and of all
+unfoldable pub keptOctets : ℕ → ℕ → List ℕ → List ℕ
+keptOctets key size octets = if strippable key size then [] else octets
+
+abbrev pub keptFrom : Options → List ℕ
+keptFrom (options os) = octetsOf (keptOptions os)
+keptFrom (fault kind place) = []
+
+abbrev pub faultyBy : Walk → AreaRead
+faultyBy (Stopped kind place) = Faulty kind place
+faultyBy (Ended hop egress) = WellFormed
+
+-- the octets of a link header, and of a TRILL header
+abbrev pub linkOctets : ℕ → ℕ → List ℕ
+linkOctets to own = octets48 to ++ octets48 own ++ octets16 ethertypeTrill
+
+abbrev pub headerOctets : ℕ → ℕ → ℕ → List ℕ
+headerOctets word egress ingress = octets16 word ++ octets16 egress ++ octets16 ingress
+
+-- the 28 octets of a reply between its link header and its body
+abbrev pub replyOctets : Own → ℕ → ℕ → ℕ → List ℕ
+replyOctets own ingress number code =
+    octets16 0x003F
+    ++ octets16 ingress
+    ++ octets16 (own .nickname)
+    ++ octets48 allEgressRBridges
+    ++ octets48 (own .mac)
+    ++ octets16 ethertypeTag
+    ++ octets16 0x0001
+    ++ octets16 ethertypeChannel
+    ++ octets16 number
+    ++ octets16 (0xC000 + code)
+
+-- a forwarded frame behind its link header, with the area as it is sent
+abbrev pub sentBy : ℕ → ℕ → ℕ
+sentBy w words = headerWord (version w) (reserved w) (multi w) words (hopCount w - 1)
+
+unfoldable pub restWith : List ℕ → List ℕ → Header → List ℕ
+restWith area f h = headerOctets (sentBy (h .word) (length area / 4)) (h .egress) (h .ingress) ++ area ++ innerOf f h
+
+abbrev pub areaBy : Bool → List ℕ → List ℕ
+areaBy strip area = if strip then stripped area else area
+
+-- a frame whose area is whole and whose hop count is not 0, and room to forward it from `at` on
+pub record Fits (f : List ℕ) (h : Header) (out : List ℕ) (at : ℕ) : Type 0 where
+  pub place-small : h .place ≤ 18
+  pub area-whole : innerStart h ≤ length f
+  pub hops-left : 0 < hopCount (h .word)
+  pub room : at + length f ≤ length out + h .place
+
+-- an echo body but for its first octet
+abbrev pub timesBy : List ℕ → List ℕ → List ℕ
+timesBy body clock = part body 1 11 ++ clock ++ drop 18 body
+
+abbrev pub untaggedBy : List ℕ → Bool
+untaggedBy inner = not (eqb (be16 inner 12) ethertypeTag) || eqb (vlan inner) 0 || eqb (vlan inner) 4095
+
+-- neither the channel's Ethertype nor that of L2-IS-IS
+abbrev pub foreignBy : ℕ → Bool
+foreignBy ethertype = not (eqb ethertype ethertypeChannel) && not (eqb ethertype ethertypeIsIs)
+
+-- the codes that a message may keep from being sent
+abbrev pub quenchedBy : ℕ → Bool
+quenchedBy code = eqb code 4 || eqb code 5
+
+abbrev pub unreadBy : FrameRead → Handled
+unreadBy (Unreadable number) = numbersOf (A.dropped number)
+unreadBy (Trill h) = numbersOf (A.dropped 10)
+
+-- a frame that was read and of which none of 12 to 18 is given, at a switch with these settings, and room for any answer
+pub record Ready (s f : List ℕ) (h : Header) (own : Own) (out : List ℕ) : Type 0 where
+  pub owned : own ≡ ownOf (settingsRead s)
+  pub read : readFrame f ≡ Trill h
+  pub passed : headerRefusal (settingsRead s .mac) f h ≡ 0
+  pub short : length f ≤ 2048
+  pub roomy : 2048 ≤ length out
+
+-- the answer, and the output buffer after it
+pub record Done (a : A.Handled) (r : Handled) (out out′ : List ℕ) : Type 0 where
+  pub answer : r ≡ numbersOf a
+  pub after : out′ ≡ put out 0 (a .octets)

@@ -1,0 +1,131 @@
+// Link header and TRILL header (RFC 6325, 3), and the answers that they decide.
+use rules::FrameRead;
+use rules::Header;
+ghost use mathlib.Core.Path.{_≡_};
+ghost use Prim.Native.Nat.{_+_, _<_, _≤_};
+ghost use Rattle.rules.specs.Link.{linkLength};
+ghost use Rattle.rules.specs.Header as Rules;
+
+pub fn link_length(f: &[u8]) -> usize
+    ensures { λ r. ⌜ r ≡ linkLength (now (f .entry)) ⌝ }
+{
+    if octets::be16(f, 12) == 0x8100 {
+        18
+    } else {
+        14
+    }
+}
+
+pub fn version(w: u16) -> u16
+    ensures { λ r. ⌜ r ≡ Rules.version w ⌝ }
+{
+    w >> 14
+}
+
+pub fn reserved(w: u16) -> u16
+    ensures { λ r. ⌜ r ≡ Rules.reserved w ⌝ }
+{
+    w >> 12 & 3
+}
+
+pub fn multi(w: u16) -> u16
+    ensures { λ r. ⌜ r ≡ Rules.multi w ⌝ }
+{
+    w >> 11 & 1
+}
+
+pub fn op_length(w: u16) -> u16
+    ensures { λ r. ⌜ r ≡ Rules.opLength w ⌝ }
+{
+    w >> 6 & 31
+}
+
+pub fn hop_count(w: u16) -> u16
+    ensures { λ r. ⌜ r ≡ Rules.hopCount w ⌝ }
+{
+    w & 63
+}
+
+pub fn header_word(v: u16, r: u16, m: u16, op: u16, hop: u16) -> u16
+    requires { ⌜ (v < 4) × (r < 4) × (m < 2) × (op < 32) × (hop < 64) ⌝ }
+    ensures { λ w. ⌜ w ≡ Rules.headerWord v r m op hop ⌝ }
+{
+    v << 14 | r << 12 | m << 11 | op << 6 | hop
+}
+
+// 10, 11 and 10 again, or the header.
+pub fn read_frame(f: &[u8]) -> FrameRead
+    ensures { λ r. ⌜ r ≡ Rules.readFrame (now (f .entry)) ⌝ }
+{
+    if f.len() < 14 {
+        return FrameRead::Unreadable(10);
+    }
+    let n = link_length(f);
+    if f.len() < n {
+        return FrameRead::Unreadable(10);
+    }
+    if octets::be16(f, n - 2) != 0x22F3 {
+        return FrameRead::Unreadable(11);
+    }
+    if f.len() < n + 6 {
+        return FrameRead::Unreadable(10);
+    }
+    FrameRead::Trill(Header {
+        place: n,
+        word: octets::be16(f, n),
+        egress: octets::be16(f, n + 2),
+        ingress: octets::be16(f, n + 4),
+    })
+}
+
+// Where the inner frame begins.
+pub fn inner_start(h: Header) -> usize
+    requires { ⌜ h .place ≤ 18 ⌝ }
+    ensures { λ r. ⌜ r ≡ Rules.innerStart h ⌝ }
+{
+    h.place + 6 + 4 * op_length(h.word) as usize
+}
+
+// 12 to 18, or 0 where none is given.
+pub fn header_refusal(mac: u64, f: &[u8], h: Header) -> u8
+    requires { ⌜ h .place ≤ 18 ⌝ }
+    ensures { λ r. ⌜ r ≡ Rules.headerRefusal mac (now (f .entry)) h ⌝ }
+{
+    if octets::be48(f, 0) != mac {
+        return 12;
+    }
+    if version(h.word) != 0 {
+        return 13;
+    }
+    if multi(h.word) == 1 {
+        return 14;
+    }
+    if h.ingress == 0 {
+        return 15;
+    }
+    if 0xFFC0 <= h.ingress {
+        return 15;
+    }
+    if h.egress == 0 {
+        return 16;
+    }
+    if 0xFFC0 < h.egress {
+        return 16;
+    }
+    if hop_count(h.word) == 0 {
+        return 17;
+    }
+    if f.len() < inner_start(h) {
+        return 18;
+    }
+    0
+}
+
+pub fn we_are_egress(nickname: u16, h: Header) -> bool
+    ensures { λ r. ⌜ r ≡ Rules.weAreEgress nickname h ⌝ }
+{
+    if h.egress == nickname {
+        return true;
+    }
+    h.egress == 0xFFC0
+}

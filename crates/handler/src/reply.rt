@@ -1,0 +1,111 @@
+// The two replies behind their link header.
+use crate::settings::Own;
+use rules::Header;
+ghost use mathlib.Core.Path.{_≡_};
+ghost use Prim.Native.Nat.{_+_, _%_, _≤_};
+ghost use mathlib.Core.List.{_++_};
+ghost use lib.ListN.{length};
+ghost use Rattle.rules.specs.Octets.{put};
+ghost use Rattle.rules.specs.Channel.{errorBody, echoBody};
+ghost use Rattle.handler.specs.Shapes.{replyOctets, timesBy};
+
+// From the first TRILL word to the flags and ERR word.
+fn reply_octets(own: Own, ingress: u16, protocol: u16, code: u8) -> [u8; 28]
+    ensures { λ r. ⌜ r ≡ replyOctets own ingress protocol code ⌝ }
+{
+    let m = octets::six(own.mac);
+    [
+        0x00,
+        0x3F,
+        octets::high(ingress),
+        octets::low(ingress),
+        octets::high(own.nickname),
+        octets::low(own.nickname),
+        0x01,
+        0x80,
+        0xC2,
+        0x00,
+        0x00,
+        0x42,
+        m[0],
+        m[1],
+        m[2],
+        m[3],
+        m[4],
+        m[5],
+        0x81,
+        0x00,
+        0x00,
+        0x01,
+        0x89,
+        0x46,
+        octets::high(protocol),
+        octets::low(protocol),
+        0xC0,
+        code,
+    ]
+}
+
+// The received frame from its TRILL Ethertype on, at most 128 octets.
+fn cited(f: &[u8], h: Header) -> &[u8]
+    requires { ⌜ (14 ≤ h .place) × (h .place ≤ length (now f)) ⌝ }
+    ensures { λ r. ⌜ now r ≡ errorBody (now (f .entry)) h ⌝ }
+{
+    let start = h.place - 2;
+    if f.len() - start < 128 {
+        return &f[start..];
+    }
+    let end = start + 128;
+    &f[start..end]
+}
+
+// Writes an error reply from `at` on and says where it ends.
+pub fn write_error(own: Own, f: &[u8], h: Header, code: u8, out: &mut [u8], at: usize) -> usize
+    requires { ⌜ (14 ≤ h .place) × (h .place ≤ length (now f)) × (at + 156 ≤ length (now out)) ⌝ }
+    ensures { λ r. ⌜ (r ≡ at + (28 + length (errorBody (now (f .entry)) h)))
+        × (now (out .exit) ≡ put (now (out .entry)) at (replyOctets own (h .ingress) 0x001 code ++ errorBody (now (f .entry)) h)) ⌝ }
+{
+    let head = reply_octets(own, h.ingress, 0x001, code);
+    octets::copy(out, at, &head);
+    let body = cited(f, h);
+    octets::copy(out, at + 28, body);
+    at + 28 + body.len()
+}
+
+// SPID 4 and the sequence's high bits.
+fn answered(first: u8) -> u8
+    ensures { λ r. ⌜ r ≡ 64 + first % 16 ⌝ }
+{
+    0x40 | first & 15
+}
+
+// The echo body but for its first octet: the clock in time received.
+fn write_times(body: &[u8], clock: &[u8], out: &mut [u8], at: usize)
+    requires { ⌜ (18 ≤ length (now body)) × (length (now clock) ≡ 6) × (at + length (now body) ≤ length (now out) + 1) ⌝ }
+    ensures { λ _. ⌜ now (out .exit) ≡ put (now (out .entry)) at (timesBy (now (body .entry)) (now (clock .entry))) ⌝ }
+{
+    octets::copy(out, at, &body[1..12]);
+    octets::copy(out, at + 11, clock);
+    octets::copy(out, at + 17, &body[18..]);
+}
+
+// Writes an echo reply from `at` on and says where it ends.
+pub fn write_echo(
+    own: Own,
+    h: Header,
+    clock: &[u8],
+    body: &[u8],
+    out: &mut [u8],
+    at: usize,
+) -> usize
+    requires { ⌜ (18 ≤ length (now body)) × (length (now clock) ≡ 6) × (at + 28 + length (now body) ≤ length (now out)) ⌝ }
+    ensures { λ r. ⌜ (r ≡ at + (28 + length (now (body .entry))))
+        × (now (out .exit) ≡ put (now (out .entry)) at (replyOctets own (h .ingress) 0xFF8 0 ++ echoBody (now (body .entry)) (now (clock .entry)))) ⌝ }
+{
+    let head = reply_octets(own, h.ingress, 0xFF8, 0);
+    octets::copy(out, at, &head);
+    let first = [answered(octets::octet(body, 0))];
+    octets::copy(out, at + 28, &first);
+    write_times(body, clock, out, at + 29);
+    at + 28 + body.len()
+}

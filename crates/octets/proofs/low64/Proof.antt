@@ -1,0 +1,13 @@
+use mir.Facts.{fits-mask}
+use lib.Bits.{and-mask}
+use Rattle.octets.proofs.low64.Statement.{statement}
+use Rattle.octets.proofs.low64.Tie as tie
+
+cast-result : tie.Need-cast-result
+cast-result c = fits-mask (c .args .n) 8 tt
+
+returns : tie.Need-returns
+returns c = and-mask (c .args .n) 8
+
+pub low64-spec : {M : Type 1} → statement M
+low64-spec = tie.close (tie.spec cast-result returns)

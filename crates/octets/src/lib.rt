@@ -1,0 +1,149 @@
+// Big-endian numbers in an octet string and out of one, and copying into a lent buffer. Total: a place past the end reads 0,
+// and what does not fit is not written.
+use rules::FieldRead;
+ghost use mathlib.Core.Path.{_≡_};
+ghost use Prim.Native.Nat.{_*_, _+_, _/_, _%_, _≤_};
+ghost use lib.ListN.{length};
+ghost use Rattle.rules.specs.Octets.{octet as octetOf, be16 as be16Of, be32 as be32Of, be48 as be48Of, octets48, put};
+ghost use Rattle.rules.specs.Fields.{fieldAt};
+ghost use Rattle.octets.specs.Copy.{putFitting};
+
+// Two octets as a number, the high one first.
+fn pair(high: u8, low: u8) -> u16
+    ensures { λ r. ⌜ r ≡ high * 256 + low ⌝ }
+{
+    (high as u16) << 8 | low as u16
+}
+
+pub fn octet(s: &[u8], at: usize) -> u8
+    ensures { λ r. ⌜ r ≡ octetOf (now (s .entry)) at ⌝ }
+{
+    if at < s.len() { s[at] } else { 0 }
+}
+
+pub fn be16(s: &[u8], at: usize) -> u16
+    ensures { λ r. ⌜ r ≡ be16Of (now (s .entry)) at ⌝ }
+{
+    if s.len() <= at {
+        return 0;
+    }
+    if s.len() - at < 2 {
+        return pair(s[at], 0);
+    }
+    pair(s[at], s[at + 1])
+}
+
+fn join32(high: u16, low: u16) -> u32
+    ensures { λ r. ⌜ r ≡ high * 65536 + low ⌝ }
+{
+    (high as u32) << 16 | low as u32
+}
+
+pub fn be32(s: &[u8], at: usize) -> u32
+    ensures { λ r. ⌜ r ≡ be32Of (now (s .entry)) at ⌝ }
+{
+    if s.len() <= at {
+        return 0;
+    }
+    if s.len() - at < 2 {
+        return join32(be16(s, at), 0);
+    }
+    join32(be16(s, at), be16(s, at + 2))
+}
+
+fn join48(high: u16, low: u32) -> u64
+    ensures { λ r. ⌜ r ≡ high * 4294967296 + low ⌝ }
+{
+    (high as u64) << 32 | low as u64
+}
+
+pub fn be48(s: &[u8], at: usize) -> u64
+    ensures { λ r. ⌜ r ≡ be48Of (now (s .entry)) at ⌝ }
+{
+    if s.len() <= at {
+        return 0;
+    }
+    if s.len() - at < 2 {
+        return join48(be16(s, at), 0);
+    }
+    join48(be16(s, at), be32(s, at + 2))
+}
+
+// The two octets of a number below 65,536.
+pub fn high(n: u16) -> u8
+    ensures { λ r. ⌜ r ≡ n / 256 % 256 ⌝ }
+{
+    (n >> 8) as u8
+}
+
+pub fn low(n: u16) -> u8
+    ensures { λ r. ⌜ r ≡ n % 256 ⌝ }
+{
+    (n & 255) as u8
+}
+
+fn low64(n: u64) -> u8
+    ensures { λ r. ⌜ r ≡ n % 256 ⌝ }
+{
+    (n & 255) as u8
+}
+
+// The six octets of a number below 2^48.
+pub fn six(n: u64) -> [u8; 6]
+    ensures { λ r. ⌜ r ≡ octets48 n ⌝ }
+{
+    [
+        low64(n >> 40),
+        low64(n >> 32),
+        low64(n >> 24),
+        low64(n >> 16),
+        low64(n >> 8),
+        low64(n),
+    ]
+}
+
+// The field at a place (document 01, "Fields"): cut short, or its tag and length with the next place.
+pub fn field_at(s: &[u8], at: usize) -> FieldRead
+    ensures { λ r. ⌜ r ≡ fieldAt (now (s .entry)) at ⌝ }
+{
+    if s.len() < at {
+        return FieldRead::Cut;
+    }
+    let left = s.len() - at;
+    if left < 3 {
+        return FieldRead::Cut;
+    }
+    let length = be16(s, at + 1) as usize;
+    if left - 3 < length {
+        return FieldRead::Cut;
+    }
+    FieldRead::Taken {
+        tag: s[at],
+        length: length,
+        next: at + 3 + length,
+    }
+}
+
+// Writes `s` into `out` from `at` on, if there is room for all of it.
+pub fn copy(out: &mut [u8], at: usize, s: &[u8])
+    ensures { λ _. ⌜ now (out .exit) ≡ putFitting (now (out .entry)) at (now (s .entry)) ⌝ }
+{
+    if out.len() < at {
+        return;
+    }
+    if out.len() - at < s.len() {
+        return;
+    }
+    fill(out, at, s);
+}
+
+fn fill(out: &mut [u8], at: usize, s: &[u8])
+    requires { ⌜ at + length (now s) ≤ length (now out) ⌝ }
+    ensures { λ _. ⌜ now (out .exit) ≡ put (now (out .entry)) at (now (s .entry)) ⌝ }
+{
+    let mut i = 0;
+    while i < s.len() {
+        out[at + i] = s[i];
+        i += 1;
+    }
+}
