@@ -16,11 +16,10 @@ use Rattle.rules.specs.Settings.{Settings, hopOf, serialMet, withField, opens, 
 use Rattle.rules.specs.Campus.{known}
 use Rattle.rules.specs.declared.NextHop.{NextHop}
 use Rattle.rules.specs.declared.FieldRead.the-variants.{Taken, Cut}
-use Rattle.rules.proofs.TestLaws.{by-test, and-no}
+use Rattle.rules.proofs.TestLaws.{by-test, and-no, or-no}
 use Rattle.rules.proofs.FieldLaws.{field-read, fields-end, fields-cut, fields-on}
 use Rattle.rules.proofs.SettingsLaws.{from-on, from-bad}
 use Rattle.handler.specs.Keys.{keyOf, keyMet, Kept, hopTaken, fieldTaken, withKey, keysWith, Taking, Verdict}
-use Rattle.handler.proofs.Flags.{or-no}
 use Rattle.handler.proofs.KeyLaws.{met-snoc, key-same, keys-hop, keys-other}
 
 serial-snoc : (r q : NextHop) (hops : List NextHop)

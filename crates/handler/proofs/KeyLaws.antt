@@ -13,9 +13,8 @@ use lib.Seq.{slice, slice-cons, slice-empty, getD-set-same, getD-set-other, take
 use Rattle.rules.specs.Octets.{octet}
 use Rattle.rules.specs.Settings.{hopGood, hopOf}
 use Rattle.rules.specs.declared.NextHop.{NextHop}
-use Rattle.rules.proofs.TestLaws.{by-test}
+use Rattle.rules.proofs.TestLaws.{by-test, and-no, or-no}
 use Rattle.handler.specs.Keys.{keyOf, slotOf, keyMet, Marked, Kept, hopTaken, fieldTaken, withKey, keysWith, Taking}
-use Rattle.handler.proofs.Flags.{and-no, or-no}
 
 -- the scan: what it has found, or finds from place i on, is whether the key is met
 module _ (key : ℕ) (keys : List ℕ) (n i : ℕ) (found : Bool) (was : (found || keyMet key (slice i n keys)) ≡ keyMet key (take n keys)) where

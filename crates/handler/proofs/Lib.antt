@@ -1,5 +1,4 @@
 pub mod Words
-pub mod Flags
 pub mod Walks
 pub mod Stages
 pub mod Strips

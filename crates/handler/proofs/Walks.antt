@@ -12,6 +12,7 @@ use Rattle.rules.specs.declared.OptionFault.{OptionFault}
 use Rattle.rules.specs.declared.AreaRead.the-variants.{WellFormed, HopByHopUnsummarized, IngressToEgressUnsummarized}
 use Rattle.rules.specs.declared.OptionRead.{OptionRead}
 use Rattle.rules.specs.declared.OptionRead.the-variants.{Taken, Fault}
+use Rattle.rules.proofs.TestLaws.{or-no, or-assoc}
 use Rattle.rules.proofs.OptionLaws.{Read, option-read, options-end, options-fault, options-on}
 use Rattle.handler.specs.declared.options.Walk.{Walk}
 use Rattle.handler.specs.declared.options.Walk.the-variants.{Ended, Stopped}
@@ -24,10 +25,6 @@ pub record Walking (area : List ℕ) (at floor : ℕ) (hop egress : Bool) : Type
   pub enough : length area < at + suc fuel
   pub rest : walkOf hop egress (optionsFrom (suc fuel) area floor at) ≡ walkOf false false (optionsOf area)
 
-or-assoc : (a b c : Bool) → ((a || b) || c) ≡ (a || (b || c))
-or-assoc true b c = refl
-or-assoc false b c = refl
-
 -- an option in front
 walk-first : (hop egress : Bool) (o : TlvOption) (w : Options)
     → walkOf hop egress (optionFirst o w) ≡ walkOf (hop || hopByHopCritical (o .key)) (egress || ingressToEgressCritical (o .key)) w
@@ -36,13 +33,9 @@ walk-first hop egress o (options os) =
     rw (or-assoc hop (hopByHopCritical (o .key)) (some-key hopByHopCritical os), or-assoc egress (ingressToEgressCritical (o .key)) (some-key ingressToEgressCritical os))
 walk-first hop egress o (fault kind place) = refl
 
-or-false : (a : Bool) → (a || false) ≡ a
-or-false true = refl
-or-false false = refl
-
 walk-none : (hop egress : Bool) → walkOf hop egress (options []) ≡ Ended hop egress
 unfolding some-key
-walk-none hop egress = rw (or-false hop, or-false egress)
+walk-none hop egress = rw (or-no hop, or-no egress)
 
 -- what an area is found to be, by the walk's end and the two summary tests
 module _ (area : List ℕ) (w : Walk) (is : w ≡ walkOf false false (optionsOf area)) where

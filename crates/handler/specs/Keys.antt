@@ -17,7 +17,7 @@ keyOf hop = hop .destination * 4294967296 + hop .serial
 
 -- a place for a key among 256
 unfoldable pub slotOf : ℕ → ℕ
-slotOf key = (key / 4294967296 * 31 + key % 256) % 256
+slotOf key = (key / 4294967296 * 37 + key % 256 * 221) % 256
 
 unfoldable pub keyMet : ℕ → List ℕ → Bool
 keyMet key [] = false

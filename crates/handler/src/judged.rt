@@ -68,11 +68,11 @@ fn key_of(hop: NextHop) -> u64
     (hop.destination as u64) << 32 | hop.serial as u64
 }
 
-// A place for a key among 256.
+// A place for a key among 256. Keys whose destinations, serials or both go up by one have different ones.
 fn slot_of(key: u64) -> usize
     ensures { λ r. ⌜ (r ≡ slotOf key) × (r < 256) ⌝ }
 {
-    ((key >> 32) * 31 + key % 256) as usize % 256
+    ((key >> 32) * 37 + key % 256 * 221) as usize % 256
 }
 
 // Whether a key is among the first n.

@@ -45,6 +45,10 @@ pub fn be32(s: &[u8], at: usize) -> u32
     if s.len() <= at {
         return 0;
     }
+    // The common case, in which the tests below and in `be16` fold away.
+    if 4 <= s.len() - at {
+        return join32(be16(s, at), be16(s, at + 2));
+    }
     if s.len() - at < 2 {
         return join32(be16(s, at), 0);
     }
@@ -62,6 +66,10 @@ pub fn be48(s: &[u8], at: usize) -> u64
 {
     if s.len() <= at {
         return 0;
+    }
+    // As in `be32`.
+    if 6 <= s.len() - at {
+        return join48(be16(s, at), be32(s, at + 2));
     }
     if s.len() - at < 2 {
         return join48(be16(s, at), 0);

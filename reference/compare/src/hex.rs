@@ -16,10 +16,10 @@ pub fn write(octets: &[u8]) -> String {
 pub fn read(digits: &str) -> Result<Vec<u8>, String> {
     let bad = || format!("{digits:?} is not octets in hex");
     let value = |digit: &u8| char::from(*digit).to_digit(16).ok_or_else(bad);
-    if digits.len() % 2 != 0 {
+    let pairs = digits.as_bytes().chunks_exact(2);
+    if !pairs.remainder().is_empty() {
         return Err(bad());
     }
-    let pairs = digits.as_bytes().chunks_exact(2);
     pairs
         .map(|pair| Ok((value(&pair[0])? << 4 | value(&pair[1])?) as u8))
         .collect()

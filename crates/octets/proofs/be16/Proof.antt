@@ -1,3 +1,4 @@
+-- `octets::be16` meets its contract, by reading at and past the end. Assumes nothing.
 use mathlib.Core.Path.{sym}
 use Prim.Native.Nat.{_+_}
 use native.Mathlib.Omega.{arith}

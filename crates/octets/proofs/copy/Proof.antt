@@ -1,3 +1,4 @@
+-- `octets::copy` meets its contract, by arithmetic. Assumes nothing.
 use mathlib.Core.Path.{sym, _∙_}
 use native.Mathlib.Omega.{arith}
 use Rattle.octets.proofs.Ends.{put-fits, put-not}

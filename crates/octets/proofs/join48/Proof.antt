@@ -1,3 +1,4 @@
+-- `octets::join48` meets its contract, by `|` of disjoint bits as a sum. Assumes nothing.
 use borrow.Author.Needs.{needs}
 use Rattle.octets.proofs.Bits.{join48-or}
 use Rattle.octets.proofs.join48.Statement.{statement}

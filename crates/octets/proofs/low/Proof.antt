@@ -1,3 +1,4 @@
+-- `octets::low` meets its contract, by a mask as a remainder. Assumes nothing.
 use mir.Facts.{fits-mask}
 use lib.Bits.{and-mask}
 use Rattle.octets.proofs.low.Statement.{statement}

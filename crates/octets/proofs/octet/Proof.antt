@@ -1,3 +1,4 @@
+-- `octets::octet` meets its contract, by reading at and past the end. Assumes nothing.
 use mathlib.Core.Path.{sym}
 use native.Mathlib.Omega.{arith}
 use Rattle.octets.proofs.Ends.{octet-past}

@@ -1,3 +1,4 @@
+-- `octets::pair` meets its contract, by `|` of disjoint bits as a sum. Assumes nothing.
 use borrow.Author.Needs.{needs}
 use Rattle.octets.proofs.Bits.{pair-or}
 use Rattle.octets.proofs.pair.Statement.{statement}

@@ -1,3 +1,4 @@
+-- `octets::six` meets its contract, by arithmetic. Assumes nothing.
 use mathlib.Core.Path.{_≡_, _∙_}
 use Prim.Native.Nat.{_/_, _%_}
 use native.Mathlib.Omega.{arith}

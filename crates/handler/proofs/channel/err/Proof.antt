@@ -1,3 +1,4 @@
+-- `handler::channel::err` meets its contract, by a mask as a remainder. Assumes nothing.
 use lib.Bits.{and-mask}
 use Rattle.handler.proofs.channel.err.Statement.{statement}
 use Rattle.handler.proofs.channel.err.Tie as tie

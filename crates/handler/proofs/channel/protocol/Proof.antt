@@ -1,3 +1,4 @@
+-- `handler::channel::protocol` meets its contract, by a mask as a remainder. Assumes nothing.
 use lib.Bits.{and-mask}
 use Rattle.handler.proofs.channel.protocol.Statement.{statement}
 use Rattle.handler.proofs.channel.protocol.Tie as tie

@@ -1,3 +1,4 @@
+-- `handler::handling::strips` meets its contract, by its tests in their order. Assumes nothing.
 use native.Mathlib.Omega.{arith}
 use borrow.Author.Tests.{le-leb, lt-leb}
 use Rattle.rules.specs.Header.{opLength}

@@ -1,3 +1,4 @@
+-- `handler::handling::unread` meets its contract, by the cases of the enum. Assumes nothing.
 use borrow.Author.Needs.{needs}
 use Rattle.handler.proofs.handling.unread.Statement.{statement}
 use Rattle.handler.proofs.handling.unread.Tie as tie

@@ -1,3 +1,4 @@
+-- `handler::header::header_word` meets its contract, by `|` of disjoint bits as a sum. Assumes nothing.
 use Rattle.handler.proofs.Words.{word-or}
 use Rattle.handler.proofs.header.header_word.Statement.{statement}
 use Rattle.handler.proofs.header.header_word.Tie as tie

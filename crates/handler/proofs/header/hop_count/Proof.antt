@@ -1,3 +1,4 @@
+-- `handler::header::hop_count` meets its contract, by a mask as a remainder. Assumes nothing.
 use lib.Bits.{and-mask}
 use Rattle.handler.proofs.header.hop_count.Statement.{statement}
 use Rattle.handler.proofs.header.hop_count.Tie as tie

@@ -1,3 +1,4 @@
+-- `handler::header::link_length` meets its contract, by its tests in their order. Assumes nothing.
 use mathlib.Core.Path.{sym, _∙_}
 use borrow.Author.Tests.{eq-eqb, ne-eqb}
 use Rattle.rules.specs.Octets.{be16}

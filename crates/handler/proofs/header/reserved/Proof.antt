@@ -1,3 +1,4 @@
+-- `handler::header::reserved` meets its contract, by a mask as a remainder. Assumes nothing.
 use lib.Bits.{and-mask}
 use Prim.Native.Nat.{_/_}
 use Rattle.handler.proofs.header.reserved.Statement.{statement}

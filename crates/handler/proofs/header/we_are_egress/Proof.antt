@@ -1,3 +1,4 @@
+-- `handler::header::we_are_egress` meets its contract, by its tests in their order. Assumes nothing.
 use borrow.Author.Tests.{eq-eqb, ne-eqb}
 use Rattle.rules.specs.Header.{weAreEgress}
 use Rattle.handler.proofs.header.we_are_egress.Statement.{statement}

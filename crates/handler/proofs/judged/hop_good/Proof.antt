@@ -1,3 +1,4 @@
+-- `handler::judged::hop_good` meets its contract, by its tests in their order. Assumes nothing.
 use mathlib.Core.Path.{sym, _∙_}
 use borrow.Author.Tests.{eq-eqb, ne-eqb, not-true, not-false}
 use Rattle.rules.specs.Settings.{hopGood}

@@ -1,3 +1,4 @@
+-- `handler::judged::key_of` meets its contract, by `|` of disjoint bits as a sum. Assumes nothing.
 use Rattle.octets.proofs.Bits.{join48-or}
 use borrow.Author.Needs.{needs}
 use Rattle.handler.proofs.judged.key_of.Statement.{statement}

@@ -1,8 +1,9 @@
+-- `handler::judged::mac_good` meets its contract, by its tests in their order. Assumes nothing.
 use mathlib.Core.Path.{sym}
 use Prim.Native.Nat.{_/_, _%_}
 use lib.Bits.{and-mask}
 use borrow.Author.Tests.{eq-eqb, ne-eqb}
-use Rattle.handler.proofs.Flags.{and-no, and-yes}
+use Rattle.rules.proofs.TestLaws.{and-no, and-yes}
 use lib.Dec.{eqb}
 use Rattle.handler.proofs.judged.mac_good.Statement.{statement}
 use Rattle.handler.proofs.judged.mac_good.Tie as tie

@@ -1,3 +1,4 @@
+-- `handler::judged::nickname_valid` meets its contract, by its tests in their order. Assumes nothing.
 use native.Mathlib.Omega.{arith}
 use borrow.Author.Tests.{lt-leb, le-leb}
 use Rattle.handler.proofs.judged.nickname_valid.Statement.{statement}

@@ -1,3 +1,4 @@
+-- `handler::options::area_refusal` meets its contract, by the cases of the enum. Assumes nothing.
 use Rattle.rules.specs.Options.{areaRefusal}
 use borrow.Author.Needs.{needs}
 use Rattle.handler.proofs.options.area_refusal.Statement.{statement}

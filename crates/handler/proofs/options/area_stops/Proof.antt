@@ -1,6 +1,7 @@
+-- `handler::options::area_stops` meets its contract, by what the calls ensure. Assumes nothing.
 use mathlib.Core.Path.{sym, _∙_}
 use Rattle.rules.specs.Options.{areaStops, chbh, cite}
-use Rattle.handler.proofs.Flags.{and-no, and-yes}
+use Rattle.rules.proofs.TestLaws.{and-no, and-yes}
 use borrow.Author.Needs.{needs}
 use Rattle.handler.proofs.options.area_stops.Statement.{statement}
 use Rattle.handler.proofs.options.area_stops.Tie as tie

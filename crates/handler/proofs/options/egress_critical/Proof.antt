@@ -1,3 +1,4 @@
+-- `handler::options::egress_critical` meets its contract, by its tests in their order. Assumes nothing.
 use mathlib.Core.Path.{_∙_, sym}
 use borrow.Author.Tests.{eq-eqb, ne-eqb}
 use Rattle.rules.specs.Options.{ie, nc}

@@ -1,3 +1,4 @@
+-- `handler::options::faulty` meets its contract, by the cases of the enum. Assumes nothing.
 use borrow.Author.Needs.{needs}
 use Rattle.handler.proofs.options.faulty.Statement.{statement}
 use Rattle.handler.proofs.options.faulty.Tie as tie

@@ -1,7 +1,8 @@
+-- `handler::options::implemented` meets its contract, by its tests in their order. Assumes nothing.
 use mathlib.Core.Path.{_∙_, sym}
 use borrow.Author.Tests.{eq-eqb, ne-eqb}
 use Rattle.rules.specs.Options.{implemented, ie, nc, typeOf, mt}
-use Rattle.handler.proofs.Flags.{and-no, or-no, or-yes}
+use Rattle.rules.proofs.TestLaws.{and-no, or-no, or-yes}
 use borrow.Author.Needs.{needs}
 use Rattle.handler.proofs.options.implemented.Statement.{statement}
 use Rattle.handler.proofs.options.implemented.Tie as tie

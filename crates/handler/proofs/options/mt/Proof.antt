@@ -1,3 +1,4 @@
+-- `handler::options::mt` meets its contract, by a mask as a remainder. Assumes nothing.
 use lib.Bits.{and-mask}
 use Rattle.handler.proofs.options.mt.Statement.{statement}
 use Rattle.handler.proofs.options.mt.Tie as tie

@@ -1,3 +1,4 @@
+-- `handler::options::stopped` meets its contract, by the cases of the enum. Assumes nothing.
 use borrow.Author.Needs.{needs}
 use Rattle.handler.proofs.options.stopped.Statement.{statement}
 use Rattle.handler.proofs.options.stopped.Tie as tie

@@ -1,7 +1,8 @@
+-- `handler::options::strippable` meets its contract, by its tests in their order. Assumes nothing.
 use mathlib.Core.Path.{_∙_, sym}
 use borrow.Author.Tests.{eq-eqb, ne-eqb}
 use Rattle.rules.specs.Options.{strippable, ie, nc, mt}
-use Rattle.handler.proofs.Flags.{and-no}
+use Rattle.rules.proofs.TestLaws.{and-no}
 use borrow.Author.Needs.{needs}
 use Rattle.handler.proofs.options.strippable.Statement.{statement}
 use Rattle.handler.proofs.options.strippable.Tie as tie
