@@ -288,12 +288,18 @@ fn any_inner(rng: &mut Rng) -> Vec<u8> {
     match rng.below(3) {
         0 => message(rng),
         _ => {
-            let (destination, size) = (rng.mac(), rng.below(100));
+            let (destination, size) = (rng.mac(), payload(rng, 100));
             let rest = rng.octets(size);
             let (vlan, ethertype) = (vlan(rng), rng.word());
             inner(rng, destination, vlan, ethertype, &rest)
         }
     }
+}
+
+/// Mostly fewer octets than `few`, sometimes as many as a long frame has.
+fn payload(rng: &mut Rng, few: usize) -> usize {
+    let most = if rng.one_in(8) { 1700 } else { few };
+    rng.below(most)
 }
 
 /// A tag's two octets with a VLAN that is taken, often at an end.
@@ -344,7 +350,7 @@ fn delivered(rng: &mut Rng, site: &Site) -> Vec<u8> {
     } else {
         (rng.mac(), rng.pick(&[0x22F4, 0x8946, 0x0800]))
     };
-    let size = rng.below(60);
+    let size = payload(rng, 60);
     let rest = rng.octets(size);
     let vlan = vlan(rng);
     let inner = inner(rng, destination, vlan, ethertype, &rest);
@@ -407,7 +413,7 @@ fn filling(rng: &mut Rng) -> Vec<u8> {
     let size = match rng.below(4) {
         0 => 0,
         1 => 90 + rng.below(16),
-        _ => rng.below(140),
+        _ => payload(rng, 140),
     };
     rng.octets(size)
 }
