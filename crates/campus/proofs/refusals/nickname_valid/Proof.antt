@@ -1,0 +1,14 @@
+-- `refusals::nickname_valid` meets its contract: 0 is the number below 1. Assumes nothing.
+use native.Mathlib.Omega.{arith}
+use borrow.Author.Tests.{lt-leb, le-leb}
+use Rattle.campus.proofs.refusals.nickname_valid.Statement.{statement}
+use Rattle.campus.proofs.refusals.nickname_valid.Tie as tie
+
+returns : tie.Need-returns
+returns c = rw (lt-leb 1 (c .before .args .n) (omega arith))
+
+returns-2 : tie.Need-returns-2
+returns-2 c = rw (le-leb 1 (c .before .args .n) (omega arith))
+
+pub nickname-valid-spec : {M : Type 1} → statement M
+nickname-valid-spec = tie.close (tie.spec returns returns-2)

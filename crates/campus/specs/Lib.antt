@@ -1,0 +1,5 @@
+-- What the contracts of `campus` cite beside the rules.
+pub mod Places
+pub mod Records
+pub mod Flight
+pub mod Done

@@ -1,0 +1,182 @@
+// The plain run of an accepted description, with its trace.
+use crate::received;
+use crate::switches;
+use crate::switches::Named;
+ghost use mathlib.Core.Path.{_≡_};
+ghost use Prim.Native.Nat.{_+_, _≤_, _<_};
+ghost use lib.ListN.{length};
+ghost use Rattle.rules.specs.Octets.{put};
+ghost use Rattle.rules.specs.Settings.{settingsRead};
+ghost use Rattle.rules.specs.Campus.{clockOf, kindOctet, original, runFrom, handlingsMost, plainRun};
+ghost use Rattle.campus.specs.Places.{between, switchesTo, describedBy};
+ghost use Rattle.campus.specs.Flight.{kindBy, entryBy, goesBy, towardsBy, goesOn, Ran, Readied, Launched};
+
+// The next switch's fields, and whether a reply goes there; or the run ends.
+enum Onward {
+    To {
+        start: usize,
+        end: usize,
+        replied: bool,
+    },
+    Ends,
+}
+
+// The clock's octets; place 0 is no clock.
+fn clock_of(s: &[u8], starts: &[usize], n: usize, clock: usize, place: usize) -> [u8; 6]
+    requires { ⌜ length (clockOf (describedBy (now s) (now starts) n clock place)) ≡ 6 ⌝ }
+    ensures { λ r. ⌜ r ≡ clockOf (describedBy (now (s .entry)) (now (starts .entry)) n clock place) ⌝ }
+{
+    if clock == 0 {
+        return [0, 0, 0, 0, 0, 0];
+    }
+    let mut c = [0u8; 6];
+    octets::copy(&mut c, 0, &s[clock..clock + 6]);
+    c
+}
+
+fn kind_octet(replied: bool) -> u8
+    ensures { λ r. ⌜ r ≡ kindOctet (kindBy replied) ⌝ }
+{
+    if replied { 1 } else { 0 }
+}
+
+// Writes the entry of one handling.
+fn put_entry(trace: &mut [u8], at: usize, nickname: u16, replied: bool, number: u32, f: &[u8])
+    requires { ⌜ (at + 8 ≤ length (now trace)) × (number < 64) ⌝ }
+    ensures { λ _. ⌜ now (trace .exit) ≡ put (now (trace .entry)) at (entryBy nickname (kindBy replied) number (now (f .entry))) ⌝ }
+{
+    let h = received::received(f);
+    let e = [
+        octets::high(nickname),
+        octets::low(nickname),
+        kind_octet(replied),
+        number as u8,
+        h.hop,
+        0,
+        octets::high(h.egress),
+        octets::low(h.egress),
+    ];
+    octets::copy(trace, at, &e);
+}
+
+fn towards(s: &[u8], starts: &[usize], n: usize, place: usize, via: u32, replied: bool) -> Onward
+    requires { ⌜ n ≤ length (now starts) ⌝ }
+    ensures { λ r. ⌜ goesBy (now (s .entry)) r ≡ towardsBy (switchesTo (now (s .entry)) (now (starts .entry)) n place) (kindBy replied) via ⌝ }
+{
+    let Named::At { start, end } = switches::find(s, starts, n, place, via) else {
+        return Onward::Ends;
+    };
+    Onward::To {
+        start: start,
+        end: end,
+        replied: replied,
+    }
+}
+
+// Where what was written goes.
+fn sent_on(
+    s: &[u8],
+    starts: &[usize],
+    n: usize,
+    place: usize,
+    replied: bool,
+    number: u32,
+    via: u32,
+) -> Onward
+    requires { ⌜ n ≤ length (now starts) ⌝ }
+    ensures { λ r. ⌜ goesBy (now (s .entry)) r ≡ goesOn (switchesTo (now (s .entry)) (now (starts .entry)) n place) (kindBy replied) number via ⌝ }
+{
+    if number == 50 {
+        return towards(s, starts, n, place, via, replied);
+    }
+    if number == 53 {
+        return towards(s, starts, n, place, via, true);
+    }
+    if number == 54 {
+        return towards(s, starts, n, place, via, true);
+    }
+    Onward::Ends
+}
+
+// Hands the frame from switch to switch, at most 80 times.
+fn fly(
+    s: &[u8],
+    starts: &[usize],
+    n: usize,
+    place: usize,
+    start: usize,
+    end: usize,
+    clock: &[u8],
+    frame: &[u8],
+    trace: &mut [u8],
+) -> u32
+    requires { ⌜ (n ≤ length (now starts)) × Launched (switchesTo (now s) (now starts) n place) (now clock) (now frame) (settingsRead (between (now s) start end)) (now trace) ⌝ }
+    ensures { λ r. ⌜ Ran (runFrom handlingsMost (switchesTo (now (s .entry)) (now (starts .entry)) n place) (now (clock .entry)) (settingsRead (between (now (s .entry)) start end)) original (now (frame .entry))) (now (trace .entry)) (now (trace .exit)) r ⌝ }
+{
+    let mut cur = [0u8; 2048];
+    let mut next = [0u8; 2048];
+    octets::copy(&mut cur, 0, frame);
+    let mut size = frame.len();
+    let mut from = start;
+    let mut to = end;
+    let mut replied = false;
+    let mut k = 0;
+    while k < 80 {
+        let fields = switches::between(s, from, to);
+        let a = handler::handle_fields(&cur[..size], fields, clock, &mut next);
+        let number = a.answer.number;
+        put_entry(
+            trace,
+            k * 8,
+            switches::nickname_of(fields),
+            replied,
+            number,
+            &cur[..size],
+        );
+        k += 1;
+        let Onward::To {
+            start,
+            end,
+            replied: r,
+        } = sent_on(s, starts, n, place, replied, number, a.via)
+        else {
+            return k as u32;
+        };
+        from = start;
+        to = end;
+        replied = r;
+        size = a.answer.written as usize;
+        cur = next;
+    }
+    k as u32
+}
+
+pub fn run(
+    s: &[u8],
+    starts: &[usize],
+    n: usize,
+    clock: usize,
+    place: usize,
+    trace: &mut [u8],
+) -> u32
+    requires { ⌜ Readied (now s) (now starts) n clock place (now trace) ⌝ }
+    ensures { λ r. ⌜ Ran (plainRun (describedBy (now (s .entry)) (now (starts .entry)) n clock place)) (now (trace .entry)) (now (trace .exit)) r ⌝ }
+{
+    let v = switches::between(s, place + 3, s.len());
+    let Named::At { start, end } = switches::find(s, starts, n, place, octets::be16(v, 0) as u32)
+    else {
+        return 0;
+    };
+    let clock = clock_of(s, starts, n, clock, place);
+    fly(
+        s,
+        starts,
+        n,
+        place,
+        start,
+        end,
+        &clock,
+        switches::between(v, 2, v.len()),
+        trace,
+    )
+}
