@@ -3,13 +3,11 @@ use crate::switches;
 use crate::switches::Named;
 use crate::tally;
 use crate::tally::Tally;
-use rules::NextHop;
 ghost use mathlib.Core.Path.{_≡_};
 ghost use Prim.Native.Nat.{_≤_};
 ghost use lib.ListN.{length};
 ghost use Rattle.rules.specs.Octets as O;
 ghost use Rattle.rules.specs.Fields as F;
-ghost use Rattle.rules.specs.Settings as S;
 ghost use Rattle.rules.specs.Campus as C;
 ghost use Rattle.campus.specs.Places.{switchesTo, readBy, placeBy, roomBy, newBy, knownBy, contextBy};
 ghost use Rattle.campus.specs.Records.{latestBy};
@@ -53,58 +51,14 @@ fn place_good(n: usize, clock: usize, tag: u8) -> bool
     true
 }
 
-// 0x0001 to 0xFFBF.
-fn nickname_valid(n: u16) -> bool
-    ensures { λ r. ⌜ r ≡ S.nicknameValid n ⌝ }
-{
-    if n == 0 {
-        return false;
-    }
-    n <= 0xFFBF
-}
-
-// Individual and not all zero.
-fn mac_good(mac: u64) -> bool
-    ensures { λ r. ⌜ r ≡ S.macGood mac ⌝ }
-{
-    if mac == 0 {
-        return false;
-    }
-    mac >> 40 & 1 == 0
-}
-
-fn hop_good(hop: NextHop) -> bool
-    ensures { λ r. ⌜ r ≡ S.hopGood hop ⌝ }
-{
-    if !nickname_valid(hop.destination) {
-        return false;
-    }
-    if !mac_good(hop.mac) {
-        return false;
-    }
-    if hop.neighbour == 0 {
-        return true;
-    }
-    nickname_valid(hop.neighbour)
-}
-
-fn switch_good(v: &[u8]) -> bool
-    ensures { λ r. ⌜ r ≡ S.switchGood (S.switchOf (now (v .entry))) ⌝ }
-{
-    if !nickname_valid(octets::be16(v, 0)) {
-        return false;
-    }
-    mac_good(octets::be48(v, 2))
-}
-
 fn value_good(tag: u8, v: &[u8]) -> bool
     ensures { λ r. ⌜ r ≡ C.valueGood tag (now (v .entry)) ⌝ }
 {
     if tag == 1 {
-        return switch_good(v);
+        return octets::switch_good(v);
     }
     if tag == 2 {
-        return hop_good(tally::hop_of(v));
+        return octets::hop_good(v);
     }
     if tag == 3 {
         return octets::octet(v, 0) <= 1;
@@ -147,7 +101,7 @@ fn latest(s: &[u8], starts: &[usize], n: usize, end: usize, tag: u8, v: &[u8]) -
         };
     }
     let start = starts[n - 1];
-    tally::tally_of(switches::between(s, start, end), tally::hop_of(v))
+    tally::tally_of(switches::between(s, start, end), octets::hop_of(v))
 }
 
 fn room_good(n: usize, tag: u8, count: usize) -> bool

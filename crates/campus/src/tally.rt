@@ -6,24 +6,13 @@ ghost use Prim.Native.Nat.{_+_, _-_, _≤_};
 ghost use lib.ListN.{length};
 ghost use Rattle.rules.specs.Octets.{part};
 ghost use Rattle.rules.specs.Fields.{field};
-ghost use Rattle.rules.specs.Settings.{settingsRead, hopOf};
+ghost use Rattle.rules.specs.Settings.{settingsRead};
 ghost use Rattle.handler.specs.Shapes.{FoldedFrom};
 ghost use Rattle.campus.specs.Records.{noneTallied, tallyBy, tallyOf, sameKey};
 
 pub struct Tally {
     pub count: usize,
     pub met: bool,
-}
-
-pub fn hop_of(v: &[u8]) -> NextHop
-    ensures { λ r. ⌜ r ≡ hopOf (now (v .entry)) ⌝ }
-{
-    NextHop {
-        destination: octets::be16(v, 0),
-        neighbour: octets::be16(v, 2),
-        mac: octets::be48(v, 4),
-        serial: octets::be32(v, 10),
-    }
 }
 
 fn same_key(q: NextHop, hop: NextHop) -> bool
@@ -51,7 +40,7 @@ fn tallied(t: Tally, hop: NextHop, s: &[u8], at: usize, tag: u8, next: usize) ->
     }
     Tally {
         count: t.count + 1,
-        met: same_key(hop_of(&s[at + 3..next]), hop),
+        met: same_key(octets::hop_of(&s[at + 3..next]), hop),
     }
 }
 

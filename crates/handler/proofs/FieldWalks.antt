@@ -2,13 +2,13 @@
 -- of fields for each step, and by induction on the fields. Assumes nothing.
 use mathlib.Core.Path.{_≡_, refl, sym, ap, _∙_}
 use mathlib.Core.List.{List, [], _∷_, _++_, foldl, foldl-append}
-use mathlib.Core.Bool.{Bool, false, not}
+use mathlib.Core.Bool.{Bool, true, false, not, true≢false}
 use Prim.Native.Nat.{ℕ, suc, _+_, _-_, _≤_, _<_}
 use native.Mathlib.Omega.{arith}
 use borrow.Author.Tests.{lt-ltb, le-ltb, ltb-true, ltb-false, eq-eqb, ne-eqb, eqb-true, eqb-false}
 use lib.Dec.{ltb, eqb}
 use lib.ListN.{length}
-use Rattle.rules.specs.Octets.{octet, part}
+use Rattle.rules.specs.Octets.{octet, be16, part}
 use Rattle.rules.specs.Fields.{Field, field, cut, fieldAt, fieldsFrom, fields}
 use Rattle.rules.specs.Settings.{Settings, newer, ruling, nextHop, switchOf, hopOf, withField, opened, settingsRead}
 use Rattle.rules.specs.declared.NextHop.{NextHop}
@@ -16,6 +16,7 @@ use Rattle.rules.specs.declared.Ruling.{Ruling}
 use Rattle.rules.specs.declared.Ruling.the-variants.{Found, Absent}
 use Rattle.rules.specs.declared.FieldRead.the-variants.{Taken, Cut}
 use Rattle.rules.proofs.TestLaws.{by-test}
+use Rattle.rules.proofs.OctetLaws.{be16-part}
 use Rattle.rules.proofs.FieldLaws.{field-read, fields-end, fields-cut, fields-on}
 use Rattle.handler.specs.Shapes.{ownOf, ruledBy, flaggedBy, FoldedFrom}
 use Rattle.handler.proofs.JudgeLaws.{with-hop, with-other, first}
@@ -54,6 +55,17 @@ module _ (d : ℕ) (best : Ruling) where
     pub ruled-other : (tag ≡ 2 → ⊥) → best ≡ ruledBy d best (field tag v)
     unfolding ruledBy
     ruled-other h = rw (ne-eqb tag 2 h)
+
+-- a record of another destination
+abbrev pub Passed : ℕ → List ℕ → ℕ → ℕ → ℕ → Type 0
+Passed d s at tag size = (size ≡ 14) × ((best : Ruling) → best ≡ ruledBy d best (field tag (part s (at + 3) size)))
+
+pub passed-by : (d : ℕ) (s : List ℕ) (at tag size word : ℕ) → tag ≡ 2 → size ≡ 14 → word ≡ be16 s (at + 3) → not (eqb word d) ≡ true → Passed d s at tag size
+passed-by d s at tag size word two long is other =
+    let v = part s (at + 3) size in
+    let different : word ≡ d → ⊥ = λ e. true≢false (sym other ∙ ap not (eq-eqb word d e)) in
+    let named : be16 v 0 ≡ d → ⊥ = λ e. different (is ∙ sym (be16-part s (at + 3) size (omega arith)) ∙ e) in
+    (long, λ best. newer-other d (hopOf v) best named ∙ ruled-hop d best tag v two)
 
 module _ (strip : Bool) where
   pub flagged-cut : flaggedBy strip cut ≡ strip
@@ -111,6 +123,15 @@ module _ {A : Type 0} (step : A → Field → A) (start : A) (s : List ℕ) (fro
                   gives = rw (a, the-size, less) (ap (foldl step acc) (sym (fields-on (l .fuel) s at tag size next h e)) ∙ l .gives);
                 };
           }
+
+      -- a field that changes nothing and has `width` octets in all
+      pub fold-over : (tag size next : ℕ) → fieldAt s at ≡ Taken tag size next → (width : ℕ) → width ≡ 3 + size → acc ≡ step acc (field tag (part s (at + 3) size))
+          → Folding step start s from (at + width) acc
+      fold-over tag size next e width w′ same =
+          let i = field-read s at tag size next e in
+          let ends : at + width ≡ next = omega (arith, i) in
+          let the-size : next - (at + 3) ≡ size = omega (arith, i) in
+          rw ends (fold-on tag size next e acc (rw the-size same))
 
 -- the settings read, by the first field
 opened-cut : opened cut ≡ switchOf []

@@ -17,10 +17,11 @@ use Rattle.rules.specs.Campus.{known}
 use Rattle.rules.specs.declared.NextHop.{NextHop}
 use Rattle.rules.specs.declared.FieldRead.the-variants.{Taken, Cut}
 use Rattle.rules.proofs.TestLaws.{by-test, and-no, or-no}
+use Rattle.rules.proofs.OctetLaws.{length-part}
 use Rattle.rules.proofs.FieldLaws.{field-read, fields-end, fields-cut, fields-on}
 use Rattle.rules.proofs.SettingsLaws.{from-on, from-bad}
-use Rattle.handler.specs.Keys.{keyOf, keyMet, Kept, hopTaken, fieldTaken, withKey, keysWith, Taking, Verdict}
-use Rattle.handler.proofs.KeyLaws.{met-snoc, key-same, keys-hop, keys-other}
+use Rattle.handler.specs.Keys.{keyOf, keyMet, Kept, hopTaken, flagTaken, fieldTaken, withKey, keysWith, Taking, Verdict}
+use Rattle.handler.proofs.KeyLaws.{met-snoc, key-same, keys-hop, keys-other, refused, unchanged, hop-long, taking-hop, field-flag, flag-length}
 
 serial-snoc : (r q : NextHop) (hops : List NextHop)
     → serialMet r (hops ++ (q ∷ [])) ≡ (serialMet r hops || (eqb (q .destination) (r .destination) && eqb (q .serial) (r .serial)))
@@ -71,11 +72,11 @@ module _ (T : Settings) (v met : List ℕ) (n : ℕ) where
   continues-hop c e = rw (c, e)
 
   continues-flag : continues T (field 3 v) ≡ fieldTaken met n 3 v
-  unfolding continues lengthGood fieldTaken
+  unfolding continues lengthGood fieldTaken flagTaken
   continues-flag = refl
 
   continues-other : (tag : ℕ) → (tag ≡ 2 → ⊥) → (tag ≡ 3 → ⊥) → continues T (field tag v) ≡ fieldTaken met n tag v
-  unfolding continues fieldTaken
+  unfolding continues fieldTaken flagTaken
   continues-other tag h k = rw (ne-eqb tag 2 h, ne-eqb tag 3 k) (and-no (lengthGood tag (length v)))
 
   continues-taken : (tag : ℕ) → length met ≡ n → Agree (T .hops) met → continues T (field tag v) ≡ fieldTaken met n tag v
@@ -166,12 +167,12 @@ module _ {s : List ℕ} {from : ℕ} {keys seen : List ℕ} {n at : ℕ} (j : Ju
       the-size : next - (at + 3) ≡ size
       the-size = omega (arith, field-read s at tag size next f)
 
-      pub stops : {r : ℕ} {keys′ seen′ : List ℕ} → Step s at keys n tag next r keys′ seen′ → 64 < r → Verdict s from false
+      stops : {r : ℕ} {keys′ seen′ : List ℕ} → Step s at keys n tag next r keys′ seen′ → 64 < r → Verdict s from false
       stops {r} t b T g e k =
           rest-bad s (settingsFrom T (fieldsFrom (suc g) s from)) (take n keys) at (j .rest T g e k) h tag size next f n many
           (rw the-size at (t .judged ∙ lt-leb r 64 b))
 
-      pub goes-on : {r : ℕ} {keys′ seen′ : List ℕ} → Step s at keys n tag next r keys′ seen′ → r ≤ 64 → Judging s from keys′ seen′ r next
+      goes-on : {r : ℕ} {keys′ seen′ : List ℕ} → Step s at keys n tag next r keys′ seen′ → r ≤ 64 → Judging s from keys′ seen′ r next
       goes-on {r} t b =
           record {
             kept = t .kept b;
@@ -181,6 +182,40 @@ module _ {s : List ℕ} {from : ℕ} {keys seen : List ℕ} {n at : ℕ} (j : Ju
                 (rest-on s (settingsFrom T (fieldsFrom (suc g) s from)) (take n keys) at (j .rest T g e k) h tag size next f n many
                 (rw the-size at (t .judged ∙ le-leb r 64 b)));
           }
+
+      abbrev v : List ℕ
+      v = part s (at + 3) (next - (at + 3))
+
+      long : length v ≡ next - (at + 3)
+      long = length-part s (at + 3) (next - (at + 3)) (omega (arith, field-read s at tag size next f))
+
+      -- a record
+      module _ (two : tag ≡ 2) {r : ℕ} {keys′ seen′ : List ℕ} (t : Taking (hopTaken (take n keys) n v) (withKey (take n keys) v) r keys′ seen′) where
+        pub hop-stops : 64 < r → Verdict s from false
+        hop-stops = stops (taking-hop (take n keys) n tag v two t)
+
+        pub hop-next : r ≤ 64 → at + 17 ≡ next
+        hop-next b =
+            let fourteen = hop-long (take n keys) n v (t .judged ∙ le-leb r 64 b) in
+            omega (arith, fourteen, long, field-read s at tag size next f)
+
+        pub hop-on : r ≤ 64 → Judging s from keys′ seen′ r (at + 17)
+        hop-on b = rw (hop-next b) (goes-on (taking-hop (take n keys) n tag v two t) b)
+
+      -- a flag
+      module _ (other : tag ≡ 2 → ⊥) where
+        as-flag : {b : Bool} → flagTaken tag v ≡ b → fieldTaken (take n keys) n tag v ≡ b
+        as-flag e = field-flag (take n keys) n tag v other ∙ e
+
+        pub flag-stops : flagTaken tag v ≡ false → Verdict s from false
+        flag-stops e = stops (refused {keys = keys} {seen = seen} (as-flag e)) (omega arith)
+
+        module _ (e : flagTaken tag v ≡ true) where
+          pub flag-next : at + 4 ≡ next
+          flag-next = omega (arith, flag-length tag v e, long, field-read s at tag size next f)
+
+          pub flag-on : Judging s from keys seen n (at + 4)
+          flag-on = rw flag-next (goes-on (unchanged (j .kept) (as-flag e) (keys-other (take n keys) tag v other)) (j .kept .few))
 
 -- the first field
 module _ (s : List ℕ) (f : Field) (fs : List Field) (is : fields s ≡ f ∷ fs) where

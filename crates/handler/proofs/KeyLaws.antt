@@ -1,20 +1,18 @@
 -- Laws of the keys met and of the filter in front of them: the scan, a clear slot, one more key, and what a record or a field does to them.
 -- By induction on the keys and by cases on tests. Assumes nothing.
-use mathlib.Core.Path.{_≡_, refl, sym, ap, _∙_}
+use mathlib.Core.Path.{_≡_, refl, sym, _∙_}
 use mathlib.Core.List.{List, [], _∷_, _++_}
-use mathlib.Core.Bool.{Bool, true, false, not, _&&_, _||_, or-assoc}
+use mathlib.Core.Bool.{Bool, true, false, not, _&&_, _||_, or-assoc, true≢false, false≢true}
 use Prim.Native.Nat.{ℕ, zero, suc, _+_, _*_, _<_, _≤_}
 use native.Mathlib.Omega.{arith}
 use native.Mathlib.Numerals.{add-one}
-use borrow.Author.Tests.{eqb-true, eqb-false, eq-eqb, ne-eqb, lt-ltb, le-leb, lt-leb}
-use lib.Dec.{eqb}
+use borrow.Author.Tests.{eqb-true, eqb-false, eq-eqb, ne-eqb, lt-ltb, le-leb}
+use lib.Dec.{ltb, eqb}
 use lib.ListN.{length, getD, take, set, length-set}
 use lib.Seq.{slice, slice-cons, slice-empty, getD-set-same, getD-set-other, take-suc-set}
-use Rattle.rules.specs.Octets.{octet}
-use Rattle.rules.specs.Settings.{hopGood, hopOf}
-use Rattle.rules.specs.declared.NextHop.{NextHop}
-use Rattle.rules.proofs.TestLaws.{by-test, and-no, or-no}
-use Rattle.handler.specs.Keys.{keyOf, slotOf, keyMet, Marked, Kept, hopTaken, fieldTaken, withKey, keysWith, Taking}
+use Rattle.rules.specs.Settings.{hopGood, hopOf, hopsMost, stripGood}
+use Rattle.rules.proofs.TestLaws.{by-test, and-true, and-no, or-no, or-yes}
+use Rattle.handler.specs.Keys.{keyOf, mixOf, slotBy, markBy, markedBy, coversBy, keyMet, Marked, Kept, hopTaken, flagTaken, fieldTaken, withKey, keysWith, Taking}
 
 -- the scan: what it has found, or finds from place i on, is whether the key is met
 module _ (key : ℕ) (keys : List ℕ) (n i : ℕ) (found : Bool) (was : (found || keyMet key (slice i n keys)) ≡ keyMet key (take n keys)) where
@@ -34,8 +32,18 @@ unmet key keys zero f = refl
 unmet key [] (suc n) f = refl
 unmet key (k ∷ keys) (suc n) f = rw (ne-eqb k key (f 0 (omega arith))) (unmet key keys n (λ i h. f (suc i) (omega arith)))
 
-pub slot-clear : (key : ℕ) (keys seen : List ℕ) (n : ℕ) → Marked keys seen n → getD seen (slotOf key) 0 ≡ 0 → true ≡ not (keyMet key (take n keys))
-slot-clear key keys seen n m e = rw (unmet key keys n (λ i h same. m i h (rw same e)))
+slot-clear : (key : ℕ) (keys seen : List ℕ) (n : ℕ) → Marked keys seen n → coversBy (getD seen (slotBy (mixOf key)) 0) (markBy (mixOf key)) ≡ false
+    → keyMet key (take n keys) ≡ false
+slot-clear key keys seen n m e = unmet key keys n (λ i h same. true≢false (sym (rw same at (m i h)) ∙ e))
+
+-- the same of the place and the mark that the code computes
+pub slot-shows : (keys seen : List ℕ) (n key : ℕ) → Marked keys seen n → (mixed : ℕ) → mixed ≡ mixOf key → (slot : ℕ) → slot ≡ slotBy mixed → (mark : ℕ) → mark ≡ markBy mixed
+    → coversBy (getD seen slot 0) mark ≡ false → keyMet key (take n keys) ≡ false
+slot-shows keys seen n key m mixed e slot is mark made c = slot-clear key keys seen n m (rw (made, is, e) at c)
+
+pub uncovered : (old mark : ℕ) → (old ≡ mark → ⊥) → (old ≡ 255 → ⊥) → coversBy old mark ≡ false
+unfolding coversBy
+uncovered old mark h k = rw (ne-eqb old mark h, ne-eqb old 255 k)
 
 -- one more key
 pub met-snoc : (key k : ℕ) (keys : List ℕ) → keyMet key (keys ++ (k ∷ [])) ≡ (keyMet key keys || eqb k key)
@@ -52,28 +60,44 @@ key-same a b c d hb hd =
     (λ y. rw (x, y) (ne-eqb (a * 4294967296 + b) (c * 4294967296 + d) (λ h. eqb-false b d y (omega arith)))))
     (λ x. rw x (ne-eqb (a * 4294967296 + b) (c * 4294967296 + d) (λ h. eqb-false a c x (omega arith))))
 
--- a slot once taken stays taken
-still-marked : (seen : List ℕ) (slot j : ℕ) → slot < length seen → (getD seen j 0 ≡ 0 → ⊥) → getD (set seen slot 1) j 0 ≡ 0 → ⊥
-still-marked seen slot j h m z =
-    by-test (eqb j slot)
-    (λ e. let one : _≡_ {A = ℕ} 1 0 = (rw (eqb-true j slot e, getD-set-same seen slot 1 0 h) at z) in omega arith)
-    (λ e. m (sym (getD-set-other seen slot j 1 0 (eqb-false j slot e)) ∙ z))
+-- once one more key is there, a place has that key and those it had
+cover-new : (old mark : ℕ) → coversBy (markedBy old mark) mark ≡ true
+unfolding coversBy markedBy
+cover-new old mark = by-test (eqb old 0) (λ e. rw (e, eq-eqb mark mark refl)) (λ e. rw (e, or-yes))
 
-module _ (keys seen : List ℕ) (n key slot : ℕ) (k : Kept keys seen n) (room : n < 64) (is : slot ≡ slotOf key) (h : slot < 256) where
-  marks : Marked (set keys n key) (set seen slot 1) (n + 1)
-  marks i below z =
+cover-kept : (old mark mixed : ℕ) → coversBy old (markBy mixed) ≡ true → coversBy (markedBy old mark) (markBy mixed) ≡ true
+unfolding coversBy markedBy markBy
+cover-kept old mark mixed c =
+    by-test (eqb old 0)
+    (λ e. let zero-no = ne-eqb 0 (markBy mixed) (omega arith) in
+    absurd (false≢true (rw (eqb-true old 0 e, zero-no) at c)))
+    (λ e. rw (e, or-yes))
+
+still-covered : (seen : List ℕ) (slot mark j mixed : ℕ) → slot < length seen → coversBy (getD seen j 0) (markBy mixed) ≡ true
+    → coversBy (getD (set seen slot (markedBy (getD seen slot 0) mark)) j 0) (markBy mixed) ≡ true
+still-covered seen slot mark j mixed h c =
+    by-test (eqb j slot)
+    (λ e. let same = eqb-true j slot e in
+    rw (same, getD-set-same seen slot (markedBy (getD seen slot 0) mark) 0 h) (cover-kept (getD seen slot 0) mark mixed (rw same at c)))
+    (λ e. rw (getD-set-other seen slot j (markedBy (getD seen slot 0) mark) 0 (eqb-false j slot e)) c)
+
+module _ (keys seen : List ℕ) (n key slot mark : ℕ) (k : Kept keys seen n) (room : n < 64) (is : slot ≡ slotBy (mixOf key)) (h : slot < 256) (made : mark ≡ markBy (mixOf key)) where
+  abbrev seen′ : List ℕ
+  seen′ = set seen slot (markedBy (getD seen slot 0) mark)
+
+  marks : Marked (set keys n key) seen′ (n + 1)
+  marks i below =
       let in-seen : slot < length seen = omega arith in
       by-test (eqb i n)
-      (λ e. let one : _≡_ {A = ℕ} 1 0 =
-      (rw (eqb-true i n e, getD-set-same keys n key 0 (omega arith), ← is, getD-set-same seen slot 1 0 in-seen) at z) in omega arith)
-      (λ e. let other = eqb-false i n e in
-      still-marked seen slot (slotOf (getD keys i 0)) in-seen (k .marked i (omega arith)) (rw (getD-set-other keys n i key 0 other) at z))
+      (λ e. rw (eqb-true i n e, getD-set-same keys n key 0 (omega arith), ← is, getD-set-same seen slot (markedBy (getD seen slot 0) mark) 0 in-seen, ← made) (cover-new (getD seen slot 0) mark))
+      (λ e. let other = eqb-false i n e in rw (getD-set-other keys n i key 0 other)
+      (still-covered seen slot mark (slotBy (mixOf (getD keys i 0))) (mixOf (getD keys i 0)) in-seen (k .marked i (omega arith))))
 
-  kept-more : Kept (set keys n key) (set seen slot 1) (n + 1)
+  kept-more : Kept (set keys n key) seen′ (n + 1)
   kept-more =
       record { keys-long = rw length-set (k .keys-long); seen-long = rw length-set (k .seen-long); few = omega arith; marked = marks }
 
-  pub admitted : {good : Bool} {met : List ℕ} → good ≡ true → met ≡ take n keys ++ (key ∷ []) → Taking good met (n + 1) (set keys n key) (set seen slot 1)
+  pub admitted : {good : Bool} {met : List ℕ} → good ≡ true → met ≡ take n keys ++ (key ∷ []) → Taking good met (n + 1) (set keys n key) seen′
   admitted e m =
       record {
         judged = e ∙ sym (le-leb (n + 1) 64 (omega arith));
@@ -97,25 +121,25 @@ module _ (keys : List ℕ) (n : ℕ) (v : List ℕ) where
   unfolding hopTaken
   hop-full h = rw (h, and-no, and-no)
 
-  module _ (r : NextHop) (is : r ≡ hopOf v) where
-    pub hop-bad : hopGood r ≡ false → hopTaken keys n v ≡ false
+  pub hop-bad : hopGood (hopOf v) ≡ false → hopTaken keys n v ≡ false
+  unfolding hopTaken
+  hop-bad h = rw (h, and-no)
+
+  pub hop-long : hopTaken keys n v ≡ true → length v ≡ 14
+  unfolding hopTaken
+  hop-long t = eqb-true (length v) 14 (and-true (eqb (length v) 14) (hopGood (hopOf v) && ltb n hopsMost && not (keyMet (keyOf (hopOf v)) keys)) t .0)
+
+  module _ (key : ℕ) (made : key ≡ keyOf (hopOf v)) where
+    pub hop-met : not (keyMet key keys) ≡ false → hopTaken keys n v ≡ false
     unfolding hopTaken
-    hop-bad h = rw ((rw is at h), and-no)
+    hop-met h = rw ((rw made at h), and-no, and-no)
 
-    module _ (key : ℕ) (made : key ≡ keyOf r) where
-      same-key : key ≡ keyOf (hopOf v)
-      same-key = made ∙ ap keyOf is
+    pub hop-new : length v ≡ 14 → hopGood (hopOf v) ≡ true → n < 64 → not (keyMet key keys) ≡ true → hopTaken keys n v ≡ true
+    unfolding hopTaken
+    hop-new a b c h = rw (eq-eqb (length v) 14 a, b, lt-ltb n 64 c, (rw made at h))
 
-      pub hop-met : not (keyMet key keys) ≡ false → hopTaken keys n v ≡ false
-      unfolding hopTaken
-      hop-met h = rw ((rw same-key at h), and-no, and-no)
-
-      pub hop-new : length v ≡ 14 → hopGood r ≡ true → n < 64 → not (keyMet key keys) ≡ true → hopTaken keys n v ≡ true
-      unfolding hopTaken
-      hop-new a b c h = rw (eq-eqb (length v) 14 a, (rw is at b), lt-ltb n 64 c, (rw same-key at h))
-
-      pub keys-new : withKey keys v ≡ keys ++ (key ∷ [])
-      keys-new = rw same-key
+    pub keys-new : withKey keys v ≡ keys ++ (key ∷ [])
+    keys-new = rw made
 
 -- one more field, in the same way
 module _ (keys : List ℕ) (tag : ℕ) (v : List ℕ) where
@@ -136,19 +160,25 @@ module _ (keys : List ℕ) (n tag : ℕ) (v : List ℕ) where
       → Taking (fieldTaken keys n tag v) (keysWith keys tag v) r keys′ seen′
   taking-hop e t = rw (field-hop e, keys-hop keys tag v e) t
 
-  pub field-other : (tag ≡ 2 → ⊥) → (tag ≡ 3 → ⊥) → fieldTaken keys n tag v ≡ false
+  pub field-flag : (tag ≡ 2 → ⊥) → fieldTaken keys n tag v ≡ flagTaken tag v
   unfolding fieldTaken
-  field-other h k = rw (ne-eqb tag 2 h, ne-eqb tag 3 k)
+  field-flag h = rw (ne-eqb tag 2 h)
 
-  module _ (b : tag ≡ 3) where
-    pub flag-long : (length v ≡ 1 → ⊥) → fieldTaken keys n tag v ≡ false
-    unfolding fieldTaken
-    flag-long h = rw (b, ne-eqb (length v) 1 h)
+-- a strip flag
+module _ (tag : ℕ) (v : List ℕ) where
+  pub flag-other : (tag ≡ 3 → ⊥) → flagTaken tag v ≡ false
+  unfolding flagTaken
+  flag-other h = rw (ne-eqb tag 3 h)
 
-    pub flag-bad : 1 < octet v 0 → fieldTaken keys n tag v ≡ false
-    unfolding fieldTaken
-    flag-bad h = rw (b, lt-leb (octet v 0) 1 h, and-no)
+  pub flag-long : (length v ≡ 1 → ⊥) → flagTaken tag v ≡ false
+  unfolding flagTaken
+  flag-long h = rw (ne-eqb (length v) 1 h, and-no)
 
-    pub flag-good : length v ≡ 1 → octet v 0 ≤ 1 → fieldTaken keys n tag v ≡ true
-    unfolding fieldTaken
-    flag-good c h = rw (b, eq-eqb (length v) 1 c, le-leb (octet v 0) 1 h)
+  pub flag-so : tag ≡ 3 → length v ≡ 1 → stripGood v ≡ flagTaken tag v
+  unfolding flagTaken
+  flag-so b c = rw (b, c)
+
+  pub flag-length : flagTaken tag v ≡ true → length v ≡ 1
+  unfolding flagTaken
+  flag-length t =
+      eqb-true (length v) 1 (and-true (eqb (length v) 1) (stripGood v) (and-true (eqb tag 3) (eqb (length v) 1 && stripGood v) t .1) .0)

@@ -2,7 +2,7 @@
 use Prim.Native.Nat.{ℕ, suc, _+_, _*_, _/_, _%_, _≤_, _<_}
 use mathlib.Core.Path.{_≡_}
 use mathlib.Core.List.{List, [], _∷_, _++_}
-use mathlib.Core.Bool.{Bool, false, not, _&&_, _||_}
+use mathlib.Core.Bool.{Bool, true, false, not, _&&_, _||_}
 use lib.ListN.{length, getD, take}
 use lib.Dec.{ltb, leb, eqb}
 use Rattle.rules.specs.Octets.{if_then_else_}
@@ -15,17 +15,30 @@ use Rattle.rules.specs.declared.NextHop.{NextHop}
 abbrev pub keyOf : NextHop → ℕ
 keyOf hop = hop .destination * 4294967296 + hop .serial
 
--- a place for a key among 256
-unfoldable pub slotOf : ℕ → ℕ
-slotOf key = (key / 4294967296 * 37 + key % 256 * 221) % 256
+-- the filter: a key has a place among 256 and a mark; a place has no mark, the mark of the one key there, or 255
+unfoldable pub mixOf : ℕ → ℕ
+mixOf key = key / 4294967296 * 0x85EBCA6B + key % 4294967296 * 0x9E3779B1
+
+unfoldable pub slotBy : ℕ → ℕ
+slotBy mixed = mixed / 16777216 % 256
+
+unfoldable pub markBy : ℕ → ℕ
+markBy mixed = mixed / 65536 % 128 + 1
+
+unfoldable pub markedBy : ℕ → ℕ → ℕ
+markedBy old mark = if eqb old 0 then mark else 255
+
+-- whether a place may have a key of this mark
+unfoldable pub coversBy : ℕ → ℕ → Bool
+coversBy old mark = eqb old mark || eqb old 255
 
 unfoldable pub keyMet : ℕ → List ℕ → Bool
 keyMet key [] = false
 keyMet key (k ∷ keys) = eqb k key || keyMet key keys
 
--- the slot of each of the first n keys is taken
+-- the place of each of the first n keys may have it
 abbrev pub Marked : List ℕ → List ℕ → ℕ → Type 0
-Marked keys seen n = (i : ℕ) → i < n → getD seen (slotOf (getD keys i 0)) 0 ≡ 0 → ⊥
+Marked keys seen n = (i : ℕ) → i < n → coversBy (getD seen (slotBy (mixOf (getD keys i 0))) 0) (markBy (mixOf (getD keys i 0))) ≡ true
 
 pub record Kept (keys seen : List ℕ) (n : ℕ) : Type 0 where
   pub keys-long : length keys ≡ 64
@@ -37,8 +50,11 @@ pub record Kept (keys seen : List ℕ) (n : ℕ) : Type 0 where
 unfoldable pub hopTaken : List ℕ → ℕ → List ℕ → Bool
 hopTaken keys n v = eqb (length v) 14 && (hopGood (hopOf v) && ltb n hopsMost && not (keyMet (keyOf (hopOf v)) keys))
 
+unfoldable pub flagTaken : ℕ → List ℕ → Bool
+flagTaken tag v = eqb tag 3 && (eqb (length v) 1 && stripGood v)
+
 unfoldable pub fieldTaken : List ℕ → ℕ → ℕ → List ℕ → Bool
-fieldTaken keys n tag v = if eqb tag 2 then hopTaken keys n v else if eqb tag 3 then eqb (length v) 1 && stripGood v else false
+fieldTaken keys n tag v = if eqb tag 2 then hopTaken keys n v else flagTaken tag v
 
 -- the keys met once one more record, or field, is taken
 abbrev pub withKey : List ℕ → List ℕ → List ℕ

@@ -168,7 +168,7 @@ pub fn handle(s: &[u8], clock: &[u8], f: &[u8], out: &mut [u8]) -> Handled
     requires { ⌜ (length (now clock) ≡ 6) × (length (now f) ≤ 2048) × (2048 ≤ length (now out)) ⌝ }
     ensures { λ r. ⌜ Done (Rules.handling (settingsRead (now (s .entry))) (now (clock .entry)) (now (f .entry))) r (now (out .entry)) (now (out .exit)) ⌝ }
 {
-    let read = header::read_frame(f);
+    let read = octets::read_frame(f);
     let FrameRead::Trill(h) = read else {
         return unread(read);
     };

@@ -1,20 +1,8 @@
-// Link header and TRILL header (RFC 6325, 3), and the answers that they decide.
-use rules::FrameRead;
+// The TRILL header (RFC 6325, 3), and the answers that it decides.
 use rules::Header;
 ghost use mathlib.Core.Path.{_≡_};
 ghost use Prim.Native.Nat.{_+_, _<_, _≤_};
-ghost use Rattle.rules.specs.Link.{linkLength};
 ghost use Rattle.rules.specs.Header as Rules;
-
-pub fn link_length(f: &[u8]) -> usize
-    ensures { λ r. ⌜ r ≡ linkLength (now (f .entry)) ⌝ }
-{
-    if octets::be16(f, 12) == 0x8100 {
-        18
-    } else {
-        14
-    }
-}
 
 pub fn version(w: u16) -> u16
     ensures { λ r. ⌜ r ≡ Rules.version w ⌝ }
@@ -51,31 +39,6 @@ pub fn header_word(v: u16, r: u16, m: u16, op: u16, hop: u16) -> u16
     ensures { λ w. ⌜ w ≡ Rules.headerWord v r m op hop ⌝ }
 {
     v << 14 | r << 12 | m << 11 | op << 6 | hop
-}
-
-// 10, 11 and 10 again, or the header.
-pub fn read_frame(f: &[u8]) -> FrameRead
-    ensures { λ r. ⌜ r ≡ Rules.readFrame (now (f .entry)) ⌝ }
-{
-    if f.len() < 14 {
-        return FrameRead::Unreadable(10);
-    }
-    let n = link_length(f);
-    if f.len() < n {
-        return FrameRead::Unreadable(10);
-    }
-    if octets::be16(f, n - 2) != 0x22F3 {
-        return FrameRead::Unreadable(11);
-    }
-    if f.len() < n + 6 {
-        return FrameRead::Unreadable(10);
-    }
-    FrameRead::Trill(Header {
-        place: n,
-        word: octets::be16(f, n),
-        egress: octets::be16(f, n + 2),
-        ingress: octets::be16(f, n + 4),
-    })
 }
 
 // Where the inner frame begins.

@@ -1,50 +1,13 @@
 // Whether settings octets are good (document 01, "Settings"): one tag 1 field, then tag 2 and 3 fields; anything else is bad.
-use crate::settings;
 use rules::FieldRead;
-use rules::NextHop;
 ghost use mathlib.Core.Path.{_≡_};
-ghost use mathlib.Core.Bool.{_||_, not};
+ghost use mathlib.Core.Bool.{false, _||_, not};
 ghost use Prim.Native.Nat.{_<_, _≤_};
 ghost use lib.ListN.{length, take};
 ghost use Rattle.rules.specs.Fields.{field};
 ghost use Rattle.rules.specs.Settings as S;
 ghost use Rattle.rules.specs.Campus.{known};
-ghost use Rattle.handler.specs.Keys.{keyOf, slotOf, keyMet, Marked, Kept, hopTaken, fieldTaken, withKey, keysWith, Taking, Verdict};
-
-// 0x0001 to 0xFFBF.
-fn nickname_valid(n: u16) -> bool
-    ensures { λ r. ⌜ r ≡ S.nicknameValid n ⌝ }
-{
-    if n == 0 {
-        return false;
-    }
-    n <= 0xFFBF
-}
-
-// Individual and not all zero.
-fn mac_good(mac: u64) -> bool
-    ensures { λ r. ⌜ r ≡ S.macGood mac ⌝ }
-{
-    if mac == 0 {
-        return false;
-    }
-    mac >> 40 & 1 == 0
-}
-
-fn hop_good(hop: NextHop) -> bool
-    ensures { λ r. ⌜ r ≡ S.hopGood hop ⌝ }
-{
-    if !nickname_valid(hop.destination) {
-        return false;
-    }
-    if !mac_good(hop.mac) {
-        return false;
-    }
-    if hop.neighbour == 0 {
-        return true;
-    }
-    nickname_valid(hop.neighbour)
-}
+ghost use Rattle.handler.specs.Keys.{keyOf, mixOf, slotBy, markBy, coversBy, markedBy, keyMet, Kept, hopTaken, withKey, flagTaken, Taking, Verdict};
 
 fn opens(tag: u8, v: &[u8]) -> bool
     ensures { λ r. ⌜ r ≡ S.opens (field tag (now (v .entry))) ⌝ }
@@ -55,24 +18,43 @@ fn opens(tag: u8, v: &[u8]) -> bool
     if v.len() != 8 {
         return false;
     }
-    if !nickname_valid(octets::be16(v, 0)) {
-        return false;
-    }
-    mac_good(octets::be48(v, 2))
+    octets::switch_good(v)
 }
 
 // Destination above serial.
-fn key_of(hop: NextHop) -> u64
-    ensures { λ r. ⌜ r ≡ keyOf hop ⌝ }
+fn key_of(v: &[u8]) -> u64
+    ensures { λ r. ⌜ r ≡ keyOf (S.hopOf (now (v .entry))) ⌝ }
 {
-    (hop.destination as u64) << 32 | hop.serial as u64
+    (octets::be16(v, 0) as u64) << 32 | octets::be32(v, 10) as u64
 }
 
-// A place for a key among 256. Keys whose destinations, serials or both go up by one have different ones.
-fn slot_of(key: u64) -> usize
-    ensures { λ r. ⌜ (r ≡ slotOf key) × (r < 256) ⌝ }
+// The multipliers spread keys whose destinations, serials or both go up by one.
+fn mix(key: u64) -> u64
+    requires { ⌜ key < 281474976710656 ⌝ }
+    ensures { λ r. ⌜ r ≡ mixOf key ⌝ }
 {
-    ((key >> 32) * 37 + key % 256 * 221) as usize % 256
+    (key >> 32) * 0x85EBCA6B + (key & 0xFFFFFFFF) * 0x9E3779B1
+}
+
+// A place for a key among 256.
+fn slot_of(mixed: u64) -> usize
+    ensures { λ r. ⌜ (r ≡ slotBy mixed) × (r < 256) ⌝ }
+{
+    (mixed >> 24) as usize % 256
+}
+
+// What a key leaves in its slot if it is the first there, 1 to 128.
+fn mark_of(mixed: u64) -> u8
+    ensures { λ r. ⌜ r ≡ markBy mixed ⌝ }
+{
+    (mixed >> 16 & 127) as u8 + 1
+}
+
+// What stands in a slot once one more key is there.
+fn marked(old: u8, mark: u8) -> u8
+    ensures { λ r. ⌜ r ≡ markedBy old mark ⌝ }
+{
+    if old == 0 { mark } else { 255 }
 }
 
 // Whether a key is among the first n.
@@ -95,13 +77,15 @@ fn either(a: bool, b: bool) -> bool
     if a { true } else { b }
 }
 
-// A clear slot shows that no earlier record has this key; only a taken one costs a look at them all.
-fn fresh(keys: &[u64], seen: &[u8], n: usize, key: u64) -> bool
-    requires { ⌜ (n ≤ length (now keys)) × (length (now seen) ≡ 256) × Marked (now keys) (now seen) n ⌝ }
+// Another key's mark alone in the slot, or none, shows that no earlier record has this key; only else is there a look at them all.
+fn fresh(keys: &[u64], n: usize, key: u64, old: u8, mark: u8) -> bool
+    requires { ⌜ (n ≤ length (now keys)) × (coversBy old mark ≡ false → keyMet key (take n (now keys)) ≡ false) ⌝ }
     ensures { λ r. ⌜ r ≡ not (keyMet key (take n (now (keys .entry)))) ⌝ }
 {
-    if seen[slot_of(key)] == 0 {
-        return true;
+    if old != mark {
+        if old != 255 {
+            return true;
+        }
     }
     !met(keys, n, key)
 }
@@ -114,41 +98,38 @@ fn admit(keys: &mut [u64], seen: &mut [u8], n: usize, v: &[u8]) -> usize
     if v.len() != 14 {
         return 65;
     }
-    let r = settings::hop_of(v);
-    if !hop_good(r) {
+    if !octets::hop_good(v) {
         return 65;
     }
     if n == 64 {
         return 65;
     }
-    let key = key_of(r);
-    if !fresh(keys, seen, n, key) {
+    let key = key_of(v);
+    let mixed = mix(key);
+    let slot = slot_of(mixed);
+    let mark = mark_of(mixed);
+    let old = seen[slot];
+    if !fresh(keys, n, key, old, mark) {
         return 65;
     }
     keys[n] = key;
-    seen[slot_of(key)] = 1;
+    seen[slot] = marked(old, mark);
     n + 1
 }
 
-fn taken(keys: &mut [u64], seen: &mut [u8], n: usize, tag: u8, v: &[u8]) -> usize
-    requires { ⌜ Kept (now keys) (now seen) n ⌝ }
-    ensures { λ r. ⌜ Taking (fieldTaken (take n (now (keys .entry))) n tag (now (v .entry))) (keysWith (take n (now (keys .entry))) tag (now (v .entry))) r (now (keys .exit)) (now (seen .exit)) ⌝ }
+fn flag_good(tag: u8, v: &[u8]) -> bool
+    ensures { λ r. ⌜ r ≡ flagTaken tag (now (v .entry)) ⌝ }
 {
-    if tag == 2 {
-        return admit(keys, seen, n, v);
-    }
     if tag != 3 {
-        return 65;
+        return false;
     }
     if v.len() != 1 {
-        return 65;
+        return false;
     }
-    if 1 < octets::octet(v, 0) {
-        return 65;
-    }
-    n
+    octets::octet(v, 0) <= 1
 }
 
+// A good record has 17 octets and a good flag 4: steps that do not wait for the length read.
 fn fields_good(s: &[u8], from: usize) -> bool
     requires { ⌜ from ≤ length (now s) ⌝ }
     ensures { λ r. ⌜ Verdict (now (s .entry)) from r ⌝ }
@@ -166,11 +147,19 @@ fn fields_good(s: &[u8], from: usize) -> bool
         else {
             return false;
         };
-        n = taken(&mut keys, &mut seen, n, tag, &s[at + 3..next]);
-        if 64 < n {
-            return false;
+        let v = &s[at + 3..next];
+        if tag == 2 {
+            n = admit(&mut keys, &mut seen, n, v);
+            if 64 < n {
+                return false;
+            }
+            at += 17;
+        } else {
+            if !flag_good(tag, v) {
+                return false;
+            }
+            at += 4;
         }
-        at = next;
     }
     true
 }

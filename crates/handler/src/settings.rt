@@ -1,13 +1,13 @@
 // The settings of one switch, read from the lent octets (document 01, "Settings").
 use rules::FieldRead;
-use rules::NextHop;
 use rules::Ruling;
 ghost use mathlib.Core.Path.{_≡_};
-ghost use mathlib.Core.Bool.{false};
+ghost use mathlib.Core.Bool.{true, false};
 ghost use Prim.Native.Nat.{_+_, _-_, _≤_};
 ghost use lib.ListN.{length};
 ghost use Rattle.rules.specs.Octets.{part};
 ghost use Rattle.rules.specs.Fields.{field};
+ghost use Rattle.rules.specs.declared.Ruling.{Ruling};
 ghost use Rattle.rules.specs.declared.Ruling.the-variants.{Absent};
 ghost use Rattle.rules.specs.Settings as S;
 ghost use Rattle.handler.specs.Shapes.{ownOf, ruledBy, flaggedBy, FoldedFrom};
@@ -39,17 +39,6 @@ pub fn own_of(s: &[u8]) -> Own
     }
 }
 
-pub fn hop_of(v: &[u8]) -> NextHop
-    ensures { λ r. ⌜ r ≡ S.hopOf (now (v .entry)) ⌝ }
-{
-    NextHop {
-        destination: octets::be16(v, 0),
-        neighbour: octets::be16(v, 2),
-        mac: octets::be48(v, 4),
-        serial: octets::be32(v, 10),
-    }
-}
-
 // The record that rules once the one in `v` is seen too.
 fn newer(d: u16, best: Ruling, v: &[u8]) -> Ruling
     ensures { λ r. ⌜ r ≡ S.newer d best (S.hopOf (now (v .entry))) ⌝ }
@@ -57,7 +46,7 @@ fn newer(d: u16, best: Ruling, v: &[u8]) -> Ruling
     if octets::be16(v, 0) != d {
         return best;
     }
-    let r = hop_of(v);
+    let r = octets::hop_of(v);
     let Ruling::Found(q) = best else {
         return Ruling::Found(r);
     };
@@ -78,6 +67,27 @@ fn ruled(s: &[u8], at: usize, tag: u8, next: usize, d: u16, best: Ruling) -> Rul
     newer(d, best, &s[at + 3..next])
 }
 
+// Whether a field is a record of 14 octets: 17 in all, a step that does not wait for the length read.
+fn is_hop(tag: u8, size: usize) -> bool
+    ensures { λ r. ⌜ (r ≡ true → (tag ≡ 2) × (size ≡ 14)) ⌝ }
+{
+    if tag != 2 {
+        return false;
+    }
+    size == 14
+}
+
+// Whether the field at a place is such a record for another destination.
+fn passed(s: &[u8], at: usize, tag: u8, size: usize, d: u16) -> bool
+    requires { ⌜ at + 3 + size ≤ length (now s) ⌝ }
+    ensures { λ r. ⌜ (r ≡ true → (size ≡ 14) × ((best : Ruling) → best ≡ ruledBy d best (field tag (part (now (s .entry)) (at + 3) size)))) ⌝ }
+{
+    if !is_hop(tag, size) {
+        return false;
+    }
+    octets::be16(s, at + 3) != d
+}
+
 // The record that rules among the fields from a place on.
 fn ruling_from(s: &[u8], from: usize, d: u16) -> Ruling
     requires { ⌜ from ≤ length (now s) ⌝ }
@@ -86,16 +96,15 @@ fn ruling_from(s: &[u8], from: usize, d: u16) -> Ruling
     let mut best = Ruling::Absent;
     let mut at = from;
     while at < s.len() {
-        let FieldRead::Taken {
-            tag,
-            length: _,
-            next,
-        } = octets::field_at(s, at)
-        else {
+        let FieldRead::Taken { tag, length, next } = octets::field_at(s, at) else {
             return best;
         };
-        best = ruled(s, at, tag, next, d, best);
-        at = next;
+        if passed(s, at, tag, length, d) {
+            at += 17;
+        } else {
+            best = ruled(s, at, tag, next, d, best);
+            at = next;
+        }
     }
     best
 }
@@ -139,16 +148,15 @@ fn flag_from(s: &[u8], from: usize) -> bool
     let mut strip = false;
     let mut at = from;
     while at < s.len() {
-        let FieldRead::Taken {
-            tag,
-            length: _,
-            next,
-        } = octets::field_at(s, at)
-        else {
+        let FieldRead::Taken { tag, length, next } = octets::field_at(s, at) else {
             return strip;
         };
-        strip = flagged(s, at, tag, next, strip);
-        at = next;
+        if is_hop(tag, length) {
+            at += 17;
+        } else {
+            strip = flagged(s, at, tag, next, strip);
+            at = next;
+        }
     }
     strip
 }

@@ -1,6 +1,13 @@
-// Big-endian numbers in an octet string and out of one, and copying into a lent buffer. Total: a place past the end reads 0,
-// and what does not fit is not written.
+// Big-endian numbers in an octet string and out of one, copying into a lent buffer, and what settings, descriptions and frames are read
+// from. Total: a place past the end reads 0, and what does not fit is not written.
+mod link;
+mod values;
+
+pub use link::read_frame;
 use rules::FieldRead;
+pub use values::hop_good;
+pub use values::hop_of;
+pub use values::switch_good;
 ghost use mathlib.Core.Path.{_≡_};
 ghost use Prim.Native.Nat.{_*_, _+_, _/_, _%_, _≤_};
 ghost use lib.ListN.{length};

@@ -12,15 +12,12 @@ returns : tie.Need-returns
 unfolding valueGood
 returns c = rw (c .before .if1 .taken) (c .switch-good .ensures)
 
-hop-of-requires : tie.Need-hop-of-requires
-hop-of-requires c κs = search needs
-
 hop-good-requires : tie.Need-hop-good-requires
 hop-good-requires c κs = search needs
 
 returns-2 : tie.Need-returns-2
 unfolding valueGood
-returns-2 c = rw (c .before .before .if2 .taken, ← (c .before .hop-of .ensures)) (c .hop-good .ensures)
+returns-2 c = rw (c .before .if2 .taken) (c .hop-good .ensures)
 
 octet-requires : tie.Need-octet-requires
 octet-requires c κs = search needs
@@ -39,7 +36,6 @@ value-good-spec =
     (tie.spec
     switch-good-requires
     returns
-    hop-of-requires
     hop-good-requires
     returns-2
     octet-requires

@@ -1,21 +1,13 @@
--- `judged::fresh` meets its contract: a clear slot by the law of the filter, a taken one by the scan. Assumes nothing.
-use mathlib.Core.Path.{ap}
+-- `judged::fresh` meets its contract: what the place shows by the requirement, all else by the scan. Assumes nothing.
+use mathlib.Core.Path.{sym, ap}
 use mathlib.Core.Bool.{not}
-use Rattle.handler.proofs.KeyLaws.{slot-clear}
+use Rattle.handler.proofs.KeyLaws.{uncovered}
 use borrow.Author.Needs.{needs}
 use Rattle.handler.proofs.judged.fresh.Statement.{statement}
 use Rattle.handler.proofs.judged.fresh.Tie as tie
 
-slot-of-requires : tie.Need-slot-of-requires
-slot-of-requires c κs = search needs
-
-shared-slice-read-if1 : tie.Need-shared-slice-read-if1
-shared-slice-read-if1 c = search needs
-
 returns : tie.Need-returns
-returns c =
-    let a = c .before .before .before .before .before .args in
-    slot-clear (a .key) (a .keys .now) (a .seen .now) (a .n) (c .before .before .before .before .before .pre .2) (rw (← (c .before .before .slot-of .ensures .0)) (c .if1 .taken))
+returns c = ap not (sym (c .before .before .before .pre .1 (uncovered (c .before .before .before .args .old) (c .before .before .before .args .mark) (c .before .if1 .taken) (c .if2 .taken))))
 
 met-requires : tie.Need-met-requires
 met-requires c κs = search needs
@@ -24,5 +16,4 @@ returns-2 : tie.Need-returns-2
 returns-2 c = ap not (c .met .ensures)
 
 pub fresh-spec : {M : Type 1} → statement M
-fresh-spec =
-    tie.close (tie.spec slot-of-requires shared-slice-read-if1 returns met-requires returns-2)
+fresh-spec = tie.close (tie.spec returns met-requires returns-2)

@@ -3,12 +3,13 @@
 use borrow.Author.Needs.{needs}
 use mathlib.Core.Path.{sym, _∙_}
 use mathlib.Core.Bool.{false}
-use Prim.Native.Nat.{_-_}
+use Prim.Native.Nat.{_+_, _-_}
 use native.Mathlib.Omega.{arith}
 use lib.ListN.{length}
+use Rattle.rules.specs.Octets.{part}
 use Rattle.rules.proofs.FieldLaws.{field-read}
 use Rattle.handler.specs.Shapes.{flaggedBy}
-use Rattle.handler.proofs.FieldWalks.{Folding, flagged-cut, fold-begin, fold-end, fold-cut, fold-on}
+use Rattle.handler.proofs.FieldWalks.{Folding, flagged-cut, flagged-other, fold-begin, fold-end, fold-cut, fold-on, fold-over}
 use Rattle.handler.proofs.settings.flag_from.Statement.{statement}
 use Rattle.handler.proofs.settings.flag_from.Tie as tie
 
@@ -36,24 +37,45 @@ returns c =
     let l = c .before .before .before .before .loop in
     fold-cut flaggedBy false (a .s .now) (a .from) (l .at) (l .strip) (l .inv) (omega arith) (sym (c .before .before .field-at .ensures) ∙ c .enum-told .given .1) (flagged-cut (l .strip))
 
-flagged-requires : tie.Need-flagged-requires Inv-loop μ-loop
-flagged-requires c κs =
-    let f = c .before .tag .given in
-    let i = field-read (c .before .before .before .before .before .before .before .args .s .now) (c .before .before .before .before .before .loop .at) (f .0 .0) (f .0 .1 .0) (f .0 .1 .1 .0) (sym (c .before .before .before .field-at .ensures) ∙ f .1) in
-    (omega arith, omega arith)
+is-hop-requires : tie.Need-is-hop-requires Inv-loop μ-loop
+is-hop-requires c κs = search needs
+
+add-at : tie.Need-add-at Inv-loop μ-loop
+add-at c =
+    let f = c .before .before .before .tag .given in
+    let i = field-read (c .before .before .before .before .before .before .before .before .before .args .s .now) (c .before .before .before .before .before .before .before .loop .at) (f .0 .0) (f .0 .1 .0) (f .0 .1 .1 .0) (sym (c .before .before .before .before .before .field-at .ensures) ∙ f .1) in
+    let p = c .before .is-hop .ensures (c .if1 .taken) .1 in
+    omega arith
 
 loop-less : tie.Need-loop-less Inv-loop μ-loop
-loop-less c =
-    let f = c .before .before .tag .given in
-    let i = field-read (c .before .before .before .before .before .before .before .before .args .s .now) (c .before .before .before .before .before .before .loop .at) (f .0 .0) (f .0 .1 .0) (f .0 .1 .1 .0) (sym (c .before .before .before .before .field-at .ensures) ∙ f .1) in
-    omega arith
+loop-less c = omega arith
 
 loop-again : tie.Need-loop-again Inv-loop μ-loop
 loop-again c =
-    let a = c .before .before .before .before .before .before .before .before .args in
-    let l = c .before .before .before .before .before .before .loop in
-    let f = c .before .before .tag .given in
-    fold-on flaggedBy false (a .s .now) (a .from) (l .at) (l .strip) (l .inv) (omega arith) (f .0 .0) (f .0 .1 .0) (f .0 .1 .1 .0) (sym (c .before .before .before .before .field-at .ensures) ∙ f .1) (c .flagged .result) (c .flagged .ensures)
+    let a = c .before .before .before .before .before .before .before .before .before .args in
+    let l = c .before .before .before .before .before .before .before .loop in
+    let f = c .before .before .before .tag .given in
+    let is = c .before .is-hop .ensures (c .if1 .taken) in
+    fold-over flaggedBy false (a .s .now) (a .from) (l .at) (l .strip) (l .inv) (omega arith) (f .0 .0) (f .0 .1 .0) (f .0 .1 .1 .0) (sym (c .before .before .before .before .before .field-at .ensures) ∙ f .1) 17 (omega (arith, is .1)) (flagged-other (l .strip) (f .0 .0) (part (a .s .now) (l .at + 3) (f .0 .1 .0)) (omega (arith, is .0)))
+
+flagged-requires : tie.Need-flagged-requires Inv-loop μ-loop
+flagged-requires c κs =
+    let f = c .before .before .before .tag .given in
+    let i = field-read (c .before .before .before .before .before .before .before .before .before .args .s .now) (c .before .before .before .before .before .before .before .loop .at) (f .0 .0) (f .0 .1 .0) (f .0 .1 .1 .0) (sym (c .before .before .before .before .before .field-at .ensures) ∙ f .1) in
+    (omega arith, omega arith)
+
+loop-less-2 : tie.Need-loop-less-2 Inv-loop μ-loop
+loop-less-2 c =
+    let f = c .before .before .before .before .tag .given in
+    let i = field-read (c .before .before .before .before .before .before .before .before .before .before .args .s .now) (c .before .before .before .before .before .before .before .before .loop .at) (f .0 .0) (f .0 .1 .0) (f .0 .1 .1 .0) (sym (c .before .before .before .before .before .before .field-at .ensures) ∙ f .1) in
+    omega arith
+
+loop-again-2 : tie.Need-loop-again-2 Inv-loop μ-loop
+loop-again-2 c =
+    let a = c .before .before .before .before .before .before .before .before .before .before .args in
+    let l = c .before .before .before .before .before .before .before .before .loop in
+    let f = c .before .before .before .before .tag .given in
+    fold-on flaggedBy false (a .s .now) (a .from) (l .at) (l .strip) (l .inv) (omega arith) (f .0 .0) (f .0 .1 .0) (f .0 .1 .1 .0) (sym (c .before .before .before .before .before .before .field-at .ensures) ∙ f .1) (c .flagged .result) (c .flagged .ensures)
 
 returns-2 : tie.Need-returns-2 Inv-loop μ-loop
 returns-2 c =
@@ -72,7 +94,11 @@ flag-from-spec =
     enum-known-tag
     enum-told
     returns
-    flagged-requires
+    is-hop-requires
+    add-at
     loop-less
     loop-again
+    flagged-requires
+    loop-less-2
+    loop-again-2
     returns-2)

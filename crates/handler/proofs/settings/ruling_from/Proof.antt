@@ -8,7 +8,7 @@ use lib.ListN.{length}
 use Rattle.rules.specs.declared.Ruling.the-variants.{Absent}
 use Rattle.rules.proofs.FieldLaws.{field-read}
 use Rattle.handler.specs.Shapes.{ruledBy}
-use Rattle.handler.proofs.FieldWalks.{Folding, ruled-cut, fold-begin, fold-end, fold-cut, fold-on}
+use Rattle.handler.proofs.FieldWalks.{Folding, ruled-cut, fold-begin, fold-end, fold-cut, fold-on, fold-over}
 use Rattle.handler.proofs.settings.ruling_from.Statement.{statement}
 use Rattle.handler.proofs.settings.ruling_from.Tie as tie
 
@@ -36,24 +36,48 @@ returns c =
     let l = c .before .before .before .before .loop in
     fold-cut (ruledBy (a .d)) Absent (a .s .now) (a .from) (l .at) (l .best) (l .inv) (omega arith) (sym (c .before .before .field-at .ensures) ∙ c .enum-told .given .1) (ruled-cut (a .d) (l .best))
 
-ruled-requires : tie.Need-ruled-requires Inv-loop μ-loop
-ruled-requires c κs =
+passed-requires : tie.Need-passed-requires Inv-loop μ-loop
+passed-requires c κs =
     let f = c .before .tag .given in
     let i = field-read (c .before .before .before .before .before .before .before .args .s .now) (c .before .before .before .before .before .loop .at) (f .0 .0) (f .0 .1 .0) (f .0 .1 .1 .0) (sym (c .before .before .before .field-at .ensures) ∙ f .1) in
-    (omega arith, omega arith)
+    omega arith
+
+add-at : tie.Need-add-at Inv-loop μ-loop
+add-at c =
+    let f = c .before .before .before .tag .given in
+    let i = field-read (c .before .before .before .before .before .before .before .before .before .args .s .now) (c .before .before .before .before .before .before .before .loop .at) (f .0 .0) (f .0 .1 .0) (f .0 .1 .1 .0) (sym (c .before .before .before .before .before .field-at .ensures) ∙ f .1) in
+    let p = c .before .passed .ensures (c .if1 .taken) .0 in
+    omega arith
 
 loop-less : tie.Need-loop-less Inv-loop μ-loop
-loop-less c =
-    let f = c .before .before .tag .given in
-    let i = field-read (c .before .before .before .before .before .before .before .before .args .s .now) (c .before .before .before .before .before .before .loop .at) (f .0 .0) (f .0 .1 .0) (f .0 .1 .1 .0) (sym (c .before .before .before .before .field-at .ensures) ∙ f .1) in
-    omega arith
+loop-less c = omega arith
 
 loop-again : tie.Need-loop-again Inv-loop μ-loop
 loop-again c =
-    let a = c .before .before .before .before .before .before .before .before .args in
-    let l = c .before .before .before .before .before .before .loop in
-    let f = c .before .before .tag .given in
-    fold-on (ruledBy (a .d)) Absent (a .s .now) (a .from) (l .at) (l .best) (l .inv) (omega arith) (f .0 .0) (f .0 .1 .0) (f .0 .1 .1 .0) (sym (c .before .before .before .before .field-at .ensures) ∙ f .1) (c .ruled .result) (c .ruled .ensures)
+    let a = c .before .before .before .before .before .before .before .before .before .args in
+    let l = c .before .before .before .before .before .before .before .loop in
+    let f = c .before .before .before .tag .given in
+    let p = c .before .passed .ensures (c .if1 .taken) in
+    fold-over (ruledBy (a .d)) Absent (a .s .now) (a .from) (l .at) (l .best) (l .inv) (omega arith) (f .0 .0) (f .0 .1 .0) (f .0 .1 .1 .0) (sym (c .before .before .before .before .before .field-at .ensures) ∙ f .1) 17 (omega (arith, p .0)) (p .1 (l .best))
+
+ruled-requires : tie.Need-ruled-requires Inv-loop μ-loop
+ruled-requires c κs =
+    let f = c .before .before .before .tag .given in
+    let i = field-read (c .before .before .before .before .before .before .before .before .before .args .s .now) (c .before .before .before .before .before .before .before .loop .at) (f .0 .0) (f .0 .1 .0) (f .0 .1 .1 .0) (sym (c .before .before .before .before .before .field-at .ensures) ∙ f .1) in
+    (omega arith, omega arith)
+
+loop-less-2 : tie.Need-loop-less-2 Inv-loop μ-loop
+loop-less-2 c =
+    let f = c .before .before .before .before .tag .given in
+    let i = field-read (c .before .before .before .before .before .before .before .before .before .before .args .s .now) (c .before .before .before .before .before .before .before .before .loop .at) (f .0 .0) (f .0 .1 .0) (f .0 .1 .1 .0) (sym (c .before .before .before .before .before .before .field-at .ensures) ∙ f .1) in
+    omega arith
+
+loop-again-2 : tie.Need-loop-again-2 Inv-loop μ-loop
+loop-again-2 c =
+    let a = c .before .before .before .before .before .before .before .before .before .before .args in
+    let l = c .before .before .before .before .before .before .before .before .loop in
+    let f = c .before .before .before .before .tag .given in
+    fold-on (ruledBy (a .d)) Absent (a .s .now) (a .from) (l .at) (l .best) (l .inv) (omega arith) (f .0 .0) (f .0 .1 .0) (f .0 .1 .1 .0) (sym (c .before .before .before .before .before .before .field-at .ensures) ∙ f .1) (c .ruled .result) (c .ruled .ensures)
 
 returns-2 : tie.Need-returns-2 Inv-loop μ-loop
 returns-2 c =
@@ -72,7 +96,11 @@ ruling-from-spec =
     enum-known-tag
     enum-told
     returns
-    ruled-requires
+    passed-requires
+    add-at
     loop-less
     loop-again
+    ruled-requires
+    loop-less-2
+    loop-again-2
     returns-2)

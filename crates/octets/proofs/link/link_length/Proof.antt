@@ -1,11 +1,11 @@
--- `received::link_length` meets its contract, by the Ethertype at its place. Assumes nothing.
+-- `link::link_length` meets its contract, by its tests in their order. Assumes nothing.
 use mathlib.Core.Path.{sym, _∙_}
 use borrow.Author.Tests.{eq-eqb, ne-eqb}
 use Rattle.rules.specs.Octets.{be16}
 use Rattle.rules.specs.Link.{linkLength}
 use borrow.Author.Needs.{needs}
-use Rattle.campus.proofs.received.link_length.Statement.{statement}
-use Rattle.campus.proofs.received.link_length.Tie as tie
+use Rattle.octets.proofs.link.link_length.Statement.{statement}
+use Rattle.octets.proofs.link.link_length.Tie as tie
 
 be16-requires : tie.Need-be16-requires
 be16-requires c κs = search needs

@@ -1,7 +1,7 @@
--- `tally::hop_of` meets its contract, field by field. Assumes nothing.
+-- `values::hop_of` meets its contract, field by field. Assumes nothing.
 use borrow.Author.Needs.{needs}
-use Rattle.campus.proofs.tally.hop_of.Statement.{statement}
-use Rattle.campus.proofs.tally.hop_of.Tie as tie
+use Rattle.octets.proofs.values.hop_of.Statement.{statement}
+use Rattle.octets.proofs.values.hop_of.Tie as tie
 
 be16-requires : tie.Need-be16-requires
 be16-requires c κs = search needs

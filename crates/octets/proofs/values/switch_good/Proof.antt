@@ -1,10 +1,10 @@
--- `refusals::switch_good` meets its contract: nickname, then MAC. Assumes nothing.
+-- `values::switch_good` meets its contract, by its tests in their order. Assumes nothing.
 use mathlib.Core.Path.{sym, _∙_}
 use borrow.Author.Tests.{not-true, not-false}
 use Rattle.rules.specs.Settings.{switchGood}
 use borrow.Author.Needs.{needs}
-use Rattle.campus.proofs.refusals.switch_good.Statement.{statement}
-use Rattle.campus.proofs.refusals.switch_good.Tie as tie
+use Rattle.octets.proofs.values.switch_good.Statement.{statement}
+use Rattle.octets.proofs.values.switch_good.Tie as tie
 
 be16-requires : tie.Need-be16-requires
 be16-requires c κs = search needs
@@ -16,23 +16,13 @@ returns : tie.Need-returns
 unfolding switchGood
 returns c = rw (← (c .before .before .be16 .ensures), sym (c .before .nickname-valid .ensures) ∙ not-true (c .before .nickname-valid .result) (c .if1 .taken))
 
-be48-requires : tie.Need-be48-requires
-be48-requires c κs = search needs
-
 mac-good-requires : tie.Need-mac-good-requires
 mac-good-requires c κs = search needs
 
 returns-2 : tie.Need-returns-2
 unfolding switchGood
-returns-2 c = rw (← (c .before .before .before .before .be16 .ensures), sym (c .before .before .before .nickname-valid .ensures) ∙ not-false (c .before .before .before .nickname-valid .result) (c .before .before .if1 .left), ← (c .before .be48 .ensures)) (c .mac-good .ensures)
+returns-2 c = rw (← (c .before .before .before .be16 .ensures), sym (c .before .before .nickname-valid .ensures) ∙ not-false (c .before .before .nickname-valid .result) (c .before .if1 .left)) (c .mac-good .ensures)
 
 pub switch-good-spec : {M : Type 1} → statement M
 switch-good-spec =
-    tie.close
-    (tie.spec
-    be16-requires
-    nickname-valid-requires
-    returns
-    be48-requires
-    mac-good-requires
-    returns-2)
+    tie.close (tie.spec be16-requires nickname-valid-requires returns mac-good-requires returns-2)

@@ -1,8 +1,8 @@
--- `handler::judged::nickname_valid` meets its contract, by its tests in their order. Assumes nothing.
+-- `values::nickname_valid` meets its contract, by its tests in their order. Assumes nothing.
 use native.Mathlib.Omega.{arith}
 use borrow.Author.Tests.{lt-leb, le-leb}
-use Rattle.handler.proofs.judged.nickname_valid.Statement.{statement}
-use Rattle.handler.proofs.judged.nickname_valid.Tie as tie
+use Rattle.octets.proofs.values.nickname_valid.Statement.{statement}
+use Rattle.octets.proofs.values.nickname_valid.Tie as tie
 
 returns : tie.Need-returns
 returns c = rw (lt-leb 1 (c .before .args .n) (omega arith))

@@ -1,4 +1,4 @@
--- `header::read_frame` meets its contract, by one law of `readFrame` for each way out. Assumes nothing.
+-- `link::read_frame` meets its contract, by one law of `readFrame` for each way out. Assumes nothing.
 use mathlib.Core.Path.{_≡_, sym, _∙_, ap}
 use Prim.Native.Nat.{_-_}
 use native.Mathlib.Omega.{arith}
@@ -6,8 +6,8 @@ use Rattle.rules.specs.Octets.{be16}
 use Rattle.rules.specs.Link.{linkEthertype, ethertypeTrill}
 use Rattle.rules.proofs.FrameLaws.{read-short, read-tag-short, read-other, read-cut, read-trill, link-length}
 use borrow.Author.Needs.{needs}
-use Rattle.handler.proofs.header.read_frame.Statement.{statement}
-use Rattle.handler.proofs.header.read_frame.Tie as tie
+use Rattle.octets.proofs.link.read_frame.Statement.{statement}
+use Rattle.octets.proofs.link.read_frame.Tie as tie
 
 returns : tie.Need-returns
 returns c = read-short (c .before .before .args .f .now) (omega arith)

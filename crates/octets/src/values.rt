@@ -1,0 +1,64 @@
+// The values of settings and descriptions (document 01, "Settings"): a switch and a next-hop record.
+use rules::NextHop;
+ghost use mathlib.Core.Path.{_≡_};
+ghost use Prim.Native.Nat.{_≤_};
+ghost use Rattle.rules.specs.Octets as O;
+ghost use Rattle.rules.specs.Settings as S;
+
+// 0x0001 to 0xFFBF.
+fn nickname_valid(n: u16) -> bool
+    ensures { λ r. ⌜ r ≡ S.nicknameValid n ⌝ }
+{
+    if n == 0 {
+        return false;
+    }
+    n <= 0xFFBF
+}
+
+// Whether the MAC at a place is individual and not all zero; its first two octets decide for nearly all.
+fn mac_good(v: &[u8], at: usize) -> bool
+    requires { ⌜ at ≤ 4 ⌝ }
+    ensures { λ r. ⌜ r ≡ S.macGood (O.be48 (now (v .entry)) at) ⌝ }
+{
+    let high = crate::be16(v, at);
+    if high >> 8 & 1 == 1 {
+        return false;
+    }
+    if high != 0 {
+        return true;
+    }
+    crate::be32(v, at + 2) != 0
+}
+
+pub fn switch_good(v: &[u8]) -> bool
+    ensures { λ r. ⌜ r ≡ S.switchGood (S.switchOf (now (v .entry))) ⌝ }
+{
+    if !nickname_valid(crate::be16(v, 0)) {
+        return false;
+    }
+    mac_good(v, 2)
+}
+
+// A neighbour is a valid nickname, or 0 for a withdrawal.
+pub fn hop_good(v: &[u8]) -> bool
+    ensures { λ r. ⌜ r ≡ S.hopGood (S.hopOf (now (v .entry))) ⌝ }
+{
+    if !nickname_valid(crate::be16(v, 0)) {
+        return false;
+    }
+    if !mac_good(v, 4) {
+        return false;
+    }
+    crate::be16(v, 2) <= 0xFFBF
+}
+
+pub fn hop_of(v: &[u8]) -> NextHop
+    ensures { λ r. ⌜ r ≡ S.hopOf (now (v .entry)) ⌝ }
+{
+    NextHop {
+        destination: crate::be16(v, 0),
+        neighbour: crate::be16(v, 2),
+        mac: crate::be48(v, 4),
+        serial: crate::be32(v, 10),
+    }
+}
