@@ -104,11 +104,11 @@ module _ (file : List ℕ) (room : ℕ) where
   campus-short h = rw (lt-ltb room traceLeast h)
 
   module _ (h : 640 ≤ room) where
-    campus-refused : (code : ℕ) → described file ≡ refused code → campus file room ≡ refusal code
+    pub campus-refused : (code : ℕ) → described file ≡ refused code → campus file room ≡ refusal code
     unfolding campus
     campus-refused code e = rw (campus, le-ltb room traceLeast h, e)
 
-    campus-accepted : (d : Described) → described file ≡ accepted d → campus file room ≡ record { code = 0; count = length (plainRun d); trace = traceOctets (plainRun d) }
+    pub campus-accepted : (d : Described) → described file ≡ accepted d → campus file room ≡ record { code = 0; count = length (plainRun d); trace = traceOctets (plainRun d) }
     unfolding campus
     campus-accepted d e = rw (campus, le-ltb room traceLeast h, e)
 

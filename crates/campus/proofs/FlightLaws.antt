@@ -160,6 +160,9 @@ module _ (s : List ℕ) (switches : List Settings) (clock frame : List ℕ) (sta
       pub number-small : a .answer .number < 64
       number-small = rw answer-is (handling-bounded T clock f (launched .six) frame-short .number-small)
 
+      pub size-small : a .answer .written ≤ 2048
+      size-small = rw answer-is (handling-bounded T clock f (launched .six) frame-short .fits)
+
       module _ (nickname : ℕ) (named : nickname ≡ T .nickname) (trace′ : List ℕ) (w : trace′ ≡ put trace (k * 8) (entryBy nickname (kindBy replied) (a .answer .number) f)) where
         abbrev state : State
         state = record { switch = T; kind = kindBy replied; frame = f; answer = handling T clock f }
@@ -187,13 +190,17 @@ module _ (s : List ℕ) (switches : List Settings) (clock frame : List ℕ) (sta
             let n : length (l .done ++ (state ∷ [])) ≡ k + 1 = rw (length-append (l .done)) (omega (arith, l .long)) in
             record { counted = e ∙ sym n ∙ ap length all; traced = entered ∙ ap (λ (t : List State). put trace₀ 0 (traceOctets t)) all }
 
-        pub flying-on : (cur′ : List ℕ) (from′ to′ : ℕ) (replied′ : Bool) → goesOn switches (kindBy replied) (a .answer .number) (a .via) ≡ goes (settingsRead (between s from′ to′)) (kindBy replied′)
-            → cur′ ≡ outputAfter next (handledWith T clock (length next) f) → length cur′ ≡ 2048
-            → Flying s switches clock frame (settingsRead (between s start end)) trace₀ trace′ cur′ cur′ (a .answer .written) from′ to′ replied′ (k + 1)
-        flying-on cur′ from′ to′ replied′ g o lc =
+        pub flying-on : (next′ : List ℕ) (from′ to′ : ℕ) (replied′ : Bool) → goesOn switches (kindBy replied) (a .answer .number) (a .via) ≡ goes (settingsRead (between s from′ to′)) (kindBy replied′)
+            → next′ ≡ outputAfter next (handledWith T clock (length next) f) → length next′ ≡ 2048
+            → (cur′ : List ℕ) → cur′ ≡ putFitting cur 0 (take (a .answer .written) next′) → length cur′ ≡ 2048
+            → Flying s switches clock frame (settingsRead (between s start end)) trace₀ trace′ cur′ next′ (a .answer .written) from′ to′ replied′ (k + 1)
+        flying-on next′ from′ to′ replied′ g o ln cur′ copied lc =
             let q : goesOn switches (kindBy replied) (handling T clock f .number) (handling T clock f .via) ≡ goes (settingsRead (between s from′ to′)) (kindBy replied′) = (rw answer-is at g) in
-            let b = handling-bounded T clock f (launched .six) frame-short in
-            let c : take (a .answer .written) cur′ ≡ handling T clock f .octets = rw (answer-is, o, handled-is) (take-put next (handling T clock f .octets)) in
+            let sent : take (a .answer .written) next′ ≡ handling T clock f .octets = rw (answer-is, o, handled-is) (take-put next (handling T clock f .octets)) in
+            let short : length (take (a .answer .written) next′) ≡ a .answer .written = length-take-le (a .answer .written) next′ (omega (arith, ln, size-small)) in
+            let c : take (a .answer .written) cur′ ≡ handling T clock f .octets =
+            rw (copied, put-fits cur 0 (take (a .answer .written) next′) (omega (arith, short, size-small, l .cur-long)))
+            ((rw short at (take-put cur (take (a .answer .written) next′))) ∙ sent) in
             let n : runFrom (128 - k) switches clock T (kindBy replied) f ≡ state ∷ runFrom (128 - (k + 1)) switches clock (settingsRead (between s from′ to′)) (kindBy replied′) (handling T clock f .octets) = rw fuel (run-goes switches clock (128 - (k + 1)) T (kindBy replied) f (settingsRead (between s from′ to′)) (kindBy replied′) q) in
             record {
               done = l .done ++ (state ∷ []);
@@ -201,8 +208,8 @@ module _ (s : List ℕ) (switches : List Settings) (clock frame : List ℕ) (sta
               is = entered;
               rest = rw (c, append-assoc (l .done)) (ap (λ (t : List State). l .done ++ t) (sym n) ∙ l .rest);
               most = omega arith;
-              small = rw answer-is (b .fits);
+              small = size-small;
               cur-long = lc;
-              next-long = lc;
+              next-long = ln;
               same = trace-same;
             }

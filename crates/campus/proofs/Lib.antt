@@ -5,3 +5,5 @@ pub mod SwitchLaws
 pub mod ReadLaws
 pub mod FlightLaws
 pub mod DoneLaws
+pub mod PrintLaws
+pub mod TextLaws

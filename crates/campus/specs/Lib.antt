@@ -3,3 +3,4 @@ pub mod Places
 pub mod Records
 pub mod Flight
 pub mod Done
+pub mod Print

@@ -1,4 +1,5 @@
 // A campus of switches over one frame (document 01, "Campus description and run").
+mod printing;
 mod reading;
 mod received;
 mod refusals;
@@ -6,7 +7,7 @@ mod running;
 mod switches;
 mod tally;
 
-ghost use Rattle.campus.specs.Done.{CampusDone};
+ghost use Rattle.campus.specs.Done.{CampusDone, TextDone};
 
 // What the caller is answered: 0 or the code that refuses, and the number of trace entries.
 #[repr(C)]
@@ -34,5 +35,34 @@ pub extern "C" fn campus_run(description: &[u8], trace: &mut [u8]) -> Outcome
     Outcome {
         code: 0,
         count: count,
+    }
+}
+
+// What is written, 0 where the text does not fit, and how long the text is.
+#[repr(C)]
+pub struct Printed {
+    pub written: u32,
+    pub needed: u32,
+}
+
+// What the program prints for a description.
+#[no_mangle]
+pub extern "C" fn campus_text(description: &[u8], text: &mut [u8]) -> Printed
+    ensures { λ r. ⌜ TextDone (now (description .entry)) (now (text .entry)) (now (text .exit)) (r .written) (r .needed) ⌝ }
+{
+    let mut trace = [0u8; 640];
+    let o = campus_run(description, &mut trace);
+    let mut out = [0u8; 1532];
+    let size = printing::put_text(&mut out, o.code, o.count, &trace);
+    octets::copy(text, 0, &out[..size]);
+    if text.len() < size {
+        return Printed {
+            written: 0,
+            needed: size as u32,
+        };
+    }
+    Printed {
+        written: size as u32,
+        needed: size as u32,
     }
 }

@@ -146,7 +146,7 @@ fn fly(
         to = end;
         replied = r;
         size = a.answer.written as usize;
-        cur = next;
+        octets::copy(&mut cur, 0, &next[..size]);
     }
     k as u32
 }

@@ -10,15 +10,17 @@ use Rattle.rules.specs.Handling.{handledWith, outputAfter}
 use Rattle.handler.specs.Shapes.{routedOf}
 use Rattle.campus.specs.Places.{between, switchesTo}
 use Rattle.campus.specs.Flight.{goesBy}
-use Rattle.campus.proofs.FlightLaws.{Flying, flying-begin, flying-end, number-small, flying-stop, flying-on}
+use Rattle.campus.proofs.FlightLaws.{Flying, flying-begin, flying-end, number-small, size-small, flying-stop, flying-on}
 use Rattle.campus.proofs.running.fly.Statement.{statement}
 use Rattle.campus.proofs.running.fly.Tie as tie
 
 abbrev Inv-loop : tie.InvT-loop
-Inv-loop s starts n place start end clock frame trace₀ cur₀ next₀ size₀ from₀ to₀ replied₀ k₀ trace cur next size from to replied k = Flying s (switchesTo s starts n place) clock frame (settingsRead (between s start end)) trace₀ trace cur next size from to replied k
+Inv-loop s starts n place start end clock frame trace₀ cur₀ next₀ size₀ from₀ to₀ replied₀ k₀ trace cur next size from to replied k =
+    Flying s (switchesTo s starts n place) clock frame (settingsRead (between s start end)) trace₀ trace cur next size from to replied k
 
 abbrev μ-loop : tie.MeasureT-loop
-μ-loop s starts n place start end clock frame trace₀ cur₀ next₀ size₀ from₀ to₀ replied₀ k₀ trace cur next size from to replied k = 80 - k
+μ-loop s starts n place start end clock frame trace₀ cur₀ next₀ size₀ from₀ to₀ replied₀ k₀ trace cur next size from to replied k =
+    80 - k
 
 slice-aggregate-copy : tie.Need-slice-aggregate-copy Inv-loop μ-loop
 slice-aggregate-copy c = search needs
@@ -100,21 +102,47 @@ returns c =
 cast-size : tie.Need-cast-size Inv-loop μ-loop
 cast-size c = search needs
 
+slice-aggregate-copy-2 : tie.Need-slice-aggregate-copy-2 Inv-loop μ-loop
+slice-aggregate-copy-2 c = sym (c .before .before .before .before .before .before .before .before .before .before .before .before .before .before .before .before .before .before .loop .inv .cur-long)
+
+array-share-prefix-next : tie.Need-array-share-prefix-next Inv-loop μ-loop
+array-share-prefix-next c =
+    let a = c .before .before .before .before .before .before .before .before .before .before .before .before .before .before .before .before .before .before .before .before .before .before .before .before .before .before .before .args in
+    let l = c .before .before .before .before .before .before .before .before .before .before .before .before .before .before .before .before .before .before .loop in
+    let small =
+    size-small (a .s .now) (switchesTo (a .s .now) (a .starts .now) (a .n) (a .place)) (a .clock .now) (a .frame .now) (a .start) (a .end) (a .trace .now) (c .before .before .before .before .before .before .before .before .before .before .before .before .before .before .before .before .before .before .before .before .before .before .before .before .before .before .before .pre .1)
+    (l .trace) (l .cur) (l .next) (l .size) (l .from) (l .to) (l .replied) (l .k) (l .inv) (c .before .before .before .before .before .before .before .before .before .before .before .before .before .before .before .before .before .loop-test .taken) (c .before .before .before .before .before .before .before .before .before .before .before .before .before .handle-fields .result)
+    (c .before .before .before .before .before .before .before .before .before .before .before .before .before .handle-fields .ensures .0 ∙ ap (λ x. routedOf (handledWith (settingsRead x) (a .clock .now) (length (l .next)) (take (l .size) (l .cur)))) (c .before .before .before .before .before .before .before .before .before .before .before .before .before .before .before .before .between .ensures)) in
+    omega (arith, small, c .before .before .before .before .before .before .before .before .before .before .before .before .before .handle-fields .kept .1 .1 .1 .0, l .inv .next-long)
+
+slice-aggregate-copy-3 : tie.Need-slice-aggregate-copy-3 Inv-loop μ-loop
+slice-aggregate-copy-3 c =
+    let a = c .before .before .before .before .before .before .before .before .before .before .before .before .before .before .before .before .before .before .before .before .before .before .before .before .before .before .before .before .args in
+    let l = c .before .before .before .before .before .before .before .before .before .before .before .before .before .before .before .before .before .before .before .loop in
+    let small =
+    size-small (a .s .now) (switchesTo (a .s .now) (a .starts .now) (a .n) (a .place)) (a .clock .now) (a .frame .now) (a .start) (a .end) (a .trace .now) (c .before .before .before .before .before .before .before .before .before .before .before .before .before .before .before .before .before .before .before .before .before .before .before .before .before .before .before .before .pre .1)
+    (l .trace) (l .cur) (l .next) (l .size) (l .from) (l .to) (l .replied) (l .k) (l .inv) (c .before .before .before .before .before .before .before .before .before .before .before .before .before .before .before .before .before .before .loop-test .taken) (c .before .before .before .before .before .before .before .before .before .before .before .before .before .before .handle-fields .result)
+    (c .before .before .before .before .before .before .before .before .before .before .before .before .before .before .handle-fields .ensures .0 ∙ ap (λ x. routedOf (handledWith (settingsRead x) (a .clock .now) (length (l .next)) (take (l .size) (l .cur)))) (c .before .before .before .before .before .before .before .before .before .before .before .before .before .before .before .before .before .between .ensures)) in
+    sym (length-take-le (c .before .before .before .before .before .before .before .before .before .before .before .before .before .before .handle-fields .result .answer .written) (c .before .before .before .before .before .before .before .before .before .before .before .before .before .before .handle-fields .last .1 .1 .1 .0) (omega (arith, small, c .before .before .before .before .before .before .before .before .before .before .before .before .before .before .handle-fields .kept .1 .1 .1 .0, l .inv .next-long)))
+
+copy-requires-2 : tie.Need-copy-requires-2 Inv-loop μ-loop
+copy-requires-2 c κs = search needs
+
 loop-less : tie.Need-loop-less Inv-loop μ-loop
-loop-less c = omega (arith, c .before .before .before .before .before .before .before .before .before .before .before .before .before .before .before .before .loop-test .taken)
+loop-less c = omega (arith, c .before .before .before .before .before .before .before .before .before .before .before .before .before .before .before .before .before .before .before .before .loop-test .taken)
 
 loop-again : tie.Need-loop-again Inv-loop μ-loop
 loop-again c =
-    let a = c .before .before .before .before .before .before .before .before .before .before .before .before .before .before .before .before .before .before .before .before .before .before .before .before .before .before .args in
-    let l = c .before .before .before .before .before .before .before .before .before .before .before .before .before .before .before .before .before .loop in
-    let g = c .before .before .start .given in
-    flying-on (a .s .now) (switchesTo (a .s .now) (a .starts .now) (a .n) (a .place)) (a .clock .now) (a .frame .now) (a .start) (a .end) (a .trace .now) (c .before .before .before .before .before .before .before .before .before .before .before .before .before .before .before .before .before .before .before .before .before .before .before .before .before .before .pre .1)
-    (l .trace) (l .cur) (l .next) (l .size) (l .from) (l .to) (l .replied) (l .k) (l .inv) (c .before .before .before .before .before .before .before .before .before .before .before .before .before .before .before .before .loop-test .taken) (c .before .before .before .before .before .before .before .before .before .before .before .before .handle-fields .result)
-    (c .before .before .before .before .before .before .before .before .before .before .before .before .handle-fields .ensures .0 ∙ ap (λ x. routedOf (handledWith (settingsRead x) (a .clock .now) (length (l .next)) (take (l .size) (l .cur)))) (c .before .before .before .before .before .before .before .before .before .before .before .before .before .before .before .between .ensures))
-    (c .before .before .before .before .before .before .before .before .before .nickname-of .result) (c .before .before .before .before .before .before .before .before .before .nickname-of .ensures ∙ ap (λ x. settingsRead x .nickname) (c .before .before .before .before .before .before .before .before .before .before .before .before .before .before .before .between .ensures)) (c .before .before .before .before .before .before .before .put-entry .last .0) (c .before .before .before .before .before .before .before .put-entry .ensures)
-    (c .before .before .before .before .before .before .before .before .before .before .before .before .handle-fields .last .1 .1 .1 .0) (g .0 .0) (g .0 .1 .0) (g .0 .1 .1 .0) (sym (c .before .before .before .before .sent-on .ensures) ∙ ap (goesBy (a .s .now)) (g .1))
-    (c .before .before .before .before .before .before .before .before .before .before .before .before .handle-fields .ensures .1 ∙ ap (λ x. outputAfter (l .next) (handledWith (settingsRead x) (a .clock .now) (length (l .next)) (take (l .size) (l .cur)))) (c .before .before .before .before .before .before .before .before .before .before .before .before .before .before .before .between .ensures))
-    (omega (arith, c .before .before .before .before .before .before .before .before .before .before .before .before .handle-fields .kept .1 .1 .1 .0, l .inv .next-long))
+    let a = c .before .before .before .before .before .before .before .before .before .before .before .before .before .before .before .before .before .before .before .before .before .before .before .before .before .before .before .before .before .before .args in
+    let l = c .before .before .before .before .before .before .before .before .before .before .before .before .before .before .before .before .before .before .before .before .before .loop in
+    let g = c .before .before .before .before .before .before .start .given in
+    flying-on (a .s .now) (switchesTo (a .s .now) (a .starts .now) (a .n) (a .place)) (a .clock .now) (a .frame .now) (a .start) (a .end) (a .trace .now) (c .before .before .before .before .before .before .before .before .before .before .before .before .before .before .before .before .before .before .before .before .before .before .before .before .before .before .before .before .before .before .pre .1)
+    (l .trace) (l .cur) (l .next) (l .size) (l .from) (l .to) (l .replied) (l .k) (l .inv) (c .before .before .before .before .before .before .before .before .before .before .before .before .before .before .before .before .before .before .before .before .loop-test .taken) (c .before .before .before .before .before .before .before .before .before .before .before .before .before .before .before .before .handle-fields .result)
+    (c .before .before .before .before .before .before .before .before .before .before .before .before .before .before .before .before .handle-fields .ensures .0 ∙ ap (λ x. routedOf (handledWith (settingsRead x) (a .clock .now) (length (l .next)) (take (l .size) (l .cur)))) (c .before .before .before .before .before .before .before .before .before .before .before .before .before .before .before .before .before .before .before .between .ensures))
+    (c .before .before .before .before .before .before .before .before .before .before .before .before .before .nickname-of .result) (c .before .before .before .before .before .before .before .before .before .before .before .before .before .nickname-of .ensures ∙ ap (λ x. settingsRead x .nickname) (c .before .before .before .before .before .before .before .before .before .before .before .before .before .before .before .before .before .before .before .between .ensures)) (c .before .before .before .before .before .before .before .before .before .before .before .put-entry .last .0) (c .before .before .before .before .before .before .before .before .before .before .before .put-entry .ensures)
+    (c .before .before .before .before .before .before .before .before .before .before .before .before .before .before .before .before .handle-fields .last .1 .1 .1 .0) (g .0 .0) (g .0 .1 .0) (g .0 .1 .1 .0) (sym (c .before .before .before .before .before .before .before .before .sent-on .ensures) ∙ ap (goesBy (a .s .now)) (g .1))
+    (c .before .before .before .before .before .before .before .before .before .before .before .before .before .before .before .before .handle-fields .ensures .1 ∙ ap (λ x. outputAfter (l .next) (handledWith (settingsRead x) (a .clock .now) (length (l .next)) (take (l .size) (l .cur)))) (c .before .before .before .before .before .before .before .before .before .before .before .before .before .before .before .before .before .before .before .between .ensures))
+    (omega (arith, c .before .before .before .before .before .before .before .before .before .before .before .before .before .before .before .before .handle-fields .kept .1 .1 .1 .0, l .inv .next-long)) (c .before .copy2 .last .0) (c .before .copy2 .ensures) (omega (arith, c .before .copy2 .kept .0, l .inv .cur-long))
 
 cast-result-2 : tie.Need-cast-result-2 Inv-loop μ-loop
 cast-result-2 c = omega (arith, c .before .loop .inv .most)
@@ -156,6 +184,10 @@ fly-spec =
     same-length
     returns
     cast-size
+    slice-aggregate-copy-2
+    array-share-prefix-next
+    slice-aggregate-copy-3
+    copy-requires-2
     loop-less
     loop-again
     cast-result-2
