@@ -3,10 +3,12 @@
 use crate::cause::Fault;
 use crate::handle::step;
 use crate::header::Header;
-use crate::settings::{Field, Switch, MAX_FRAME};
+use crate::settings::{Field, Seen, Switch, MAX_FRAME};
 
 const MAX_FILE: usize = 32_768;
 const MAX_SWITCHES: usize = 16;
+/// Octets of the longest reply, which is an echo reply.
+const LONGEST_REPLY: usize = 572;
 const ENTRY: usize = 8;
 /// At most 64 + 16 entries.
 pub(crate) const TRACE: usize = 80 * ENTRY;
@@ -42,7 +44,7 @@ pub fn explain_run(description: &[u8], trace: &mut [u8]) -> Result<u32, Fault> {
 
 /// An accepted description.
 struct Campus<'a> {
-    switches: Vec<Switch>,
+    switches: Switches<'a>,
     clock: [u8; 6],
     /// Place of the entry switch.
     entry: usize,
@@ -55,14 +57,11 @@ impl<'a> Campus<'a> {
         if description.len() > MAX_FILE {
             return Err(Fault::FileSize);
         }
-        let mut reader = Reader {
-            switches: Vec::with_capacity(MAX_SWITCHES),
-            clock: None,
-            entry: None,
-        };
+        let mut reader = Reader::default();
         let mut rest = description;
         while !rest.is_empty() {
-            reader.accept(Field::take(&mut rest)?)?;
+            let field = Field::take(&mut rest)?;
+            reader.accept(field, rest)?;
         }
         let (entry, frame) = reader.entry.ok_or(Fault::NoFrame)?;
         Ok(Campus {
@@ -73,43 +72,64 @@ impl<'a> Campus<'a> {
         })
     }
 
+    /// Runs the campus. What is written is no longer than the frame put in or
+    /// the longest reply, and small buffers are sooner zeroed.
+    fn run(&self, trace: &mut [u8]) -> u32 {
+        if self.frame.len() <= LONGEST_REPLY {
+            self.run_within(&mut [0; LONGEST_REPLY], &mut [0; LONGEST_REPLY], trace)
+        } else {
+            self.run_within(&mut [0; MAX_FRAME], &mut [0; MAX_FRAME], trace)
+        }
+    }
+
     /// Handles the frame, then what each handling writes, until one writes
     /// nothing or the frame leaves the campus. Gives the number of entries.
-    fn run(&self, trace: &mut [u8]) -> u32 {
-        let [received, sent] = &mut [[0; MAX_FRAME]; 2];
-        let (mut received, mut sent) = (received, sent);
-        let mut length = self.frame.len();
-        received[..length].copy_from_slice(self.frame);
+    fn run_within<'b>(
+        &self,
+        mut received: &'b mut [u8],
+        mut sent: &'b mut [u8],
+        trace: &mut [u8],
+    ) -> u32 {
         let mut at = self.entry;
         let mut reply = false;
+        let mut written = None;
         for (count, entry) in (1..).zip(trace.chunks_exact_mut(ENTRY)) {
-            let frame = &received[..length];
-            let step = step(&self.switches[at], frame, &self.clock, sent);
+            let frame = written.map_or(self.frame, |length| &received[..length]);
+            let switch = &self.switches.all()[at];
+            let step = step(switch, frame, &self.clock, sent);
             let number = step.cause.number();
-            write_entry(entry, self.switches[at].nickname, reply, number, frame);
+            write_entry(entry, switch.nickname, reply, number, frame);
             let next = match number {
-                50 | 53 | 54 => self.place(step.neighbour),
+                50 | 53 | 54 => self.switches.place(step.neighbour),
                 _ => None,
             };
             let Some(next) = next else { return count };
             at = next;
             reply |= number != 50;
-            length = step.written;
+            written = Some(usize::from(step.written));
             std::mem::swap(&mut received, &mut sent);
         }
         unreachable!("a run has at most 80 handlings")
     }
-
-    /// Place of the switch with this nickname, if the campus has it.
-    fn place(&self, nickname: u16) -> Option<usize> {
-        place(&self.switches, nickname)
-    }
 }
 
-fn place(switches: &[Switch], nickname: u16) -> Option<usize> {
-    switches
-        .iter()
-        .position(|switch| switch.nickname == nickname)
+/// Up to 16 switches with different nicknames.
+struct Switches<'a> {
+    count: usize,
+    places: [Switch<'a>; MAX_SWITCHES],
+}
+
+impl<'a> Switches<'a> {
+    fn all(&self) -> &[Switch<'a>] {
+        &self.places[..self.count]
+    }
+
+    /// Place of the switch with this nickname, if there is one.
+    fn place(&self, nickname: u16) -> Option<usize> {
+        self.all()
+            .iter()
+            .position(|switch| switch.nickname == nickname)
+    }
 }
 
 /// Switch 2, frame 1, answer 1, hop count received 1, zero 1, egress 2; the
@@ -125,27 +145,47 @@ fn write_entry(entry: &mut [u8], nickname: u16, reply: bool, number: u32, frame:
 
 /// What the fields read so far say.
 struct Reader<'a> {
-    switches: Vec<Switch>,
+    switches: Switches<'a>,
+    /// Of the records of the latest switch.
+    seen: Seen,
     clock: Option<[u8; 6]>,
     entry: Option<(usize, &'a [u8])>,
 }
 
+impl Default for Reader<'_> {
+    fn default() -> Self {
+        let switches = Switches {
+            count: 0,
+            places: [Switch::EMPTY; MAX_SWITCHES],
+        };
+        Reader {
+            switches,
+            seen: Seen::default(),
+            clock: None,
+            entry: None,
+        }
+    }
+}
+
 impl<'a> Reader<'a> {
-    /// Refusals 43 to 48, in this order within each field.
-    fn accept(&mut self, field: Field<'a>) -> Result<(), Fault> {
+    /// Refusals 43 to 48, in this order within each field; `rest` follows it.
+    fn accept(&mut self, field: Field<'a>, rest: &'a [u8]) -> Result<(), Fault> {
         if self.entry.is_some() {
             return Err(Fault::AfterFrame);
         }
         match field {
-            Field::Switch(value) => self.add_switch(value),
-            Field::Record(value) => self.latest()?.add_record(value),
-            Field::Strip(flag) => self.latest()?.set_strip(flag),
+            Field::Switch(value) => self.add_switch(value, rest),
+            Field::Record(value) => {
+                let (switch, seen) = self.latest()?;
+                switch.add_record(value, seen)
+            }
+            Field::Strip(flag) => self.latest()?.0.set_strip(flag),
             Field::Clock(clock) => match self.clock.replace(*clock) {
                 Some(_) => Err(Fault::SecondClock),
                 None => Ok(()),
             },
             Field::Frame(entry, frame) => {
-                let place = place(&self.switches, entry).ok_or(Fault::EntryUnknown)?;
+                let place = self.switches.place(entry).ok_or(Fault::EntryUnknown)?;
                 self.entry = Some((place, frame));
                 Ok(())
             }
@@ -153,20 +193,23 @@ impl<'a> Reader<'a> {
     }
 
     /// The switch to which records and strip flags belong.
-    fn latest(&mut self) -> Result<&mut Switch, Fault> {
-        self.switches.last_mut().ok_or(Fault::BeforeSwitch)
+    fn latest(&mut self) -> Result<(&mut Switch<'a>, &mut Seen), Fault> {
+        let switches = &mut self.switches;
+        let latest = switches.places[..switches.count].last_mut();
+        Ok((latest.ok_or(Fault::BeforeSwitch)?, &mut self.seen))
     }
 
-    fn add_switch(&mut self, value: &[u8; 8]) -> Result<(), Fault> {
+    fn add_switch(&mut self, value: &[u8; 8], rest: &'a [u8]) -> Result<(), Fault> {
         let mut switch = Switch::EMPTY;
-        switch.begin(value)?;
-        if place(&self.switches, switch.nickname).is_some() {
+        switch.begin(value, rest)?;
+        let switches = &mut self.switches;
+        if switches.place(switch.nickname).is_some() {
             return Err(Fault::NicknameMet);
         }
-        if self.switches.len() == MAX_SWITCHES {
-            return Err(Fault::Switches);
-        }
-        self.switches.push(switch);
+        let place = switches.places.get_mut(switches.count);
+        *place.ok_or(Fault::Switches)? = switch;
+        switches.count += 1;
+        self.seen = Seen::default();
         Ok(())
     }
 }

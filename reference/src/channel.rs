@@ -105,7 +105,7 @@ pub(crate) fn write_echo(out: &mut [u8], head: &ReplyHead, body: &[u8], clock: &
 
 /// The parts of a reply's headers that differ from switch to switch.
 pub(crate) struct ReplyHead<'a> {
-    pub switch: &'a Switch,
+    pub switch: &'a Switch<'a>,
     pub ingress: u16,
     pub hop: NextHop,
 }
@@ -115,7 +115,7 @@ impl ReplyHead<'_> {
     fn write(&self, out: &mut [u8], protocol: u16, flags: u16) {
         let own = &self.switch.mac;
         let mut head = TEMPLATE;
-        head[..6].copy_from_slice(&self.hop.mac);
+        head[..6].copy_from_slice(&self.hop.mac());
         head[6..12].copy_from_slice(own);
         put_u16(&mut head, 16, self.ingress);
         put_u16(&mut head, 18, self.switch.nickname);

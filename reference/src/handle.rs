@@ -25,13 +25,14 @@ pub struct Answer {
     pub length: u32,
 }
 
-/// One handling within a run. The sizes are at most 2,048.
+/// One handling within a run. The sizes are at most 2,048, and small ones let
+/// it be given back in registers.
 #[derive(Clone, Copy)]
 pub(crate) struct Step {
     pub cause: Cause,
-    pub written: usize,
-    pub start: usize,
-    pub length: usize,
+    pub written: u16,
+    pub start: u16,
+    pub length: u16,
     /// Neighbour to which the written frame goes.
     pub neighbour: u16,
 }
@@ -48,10 +49,10 @@ impl Step {
         }
     }
 
-    fn sent(cause: Cause, written: usize, hop: &NextHop) -> Self {
+    fn sent(cause: Cause, written: usize, hop: NextHop) -> Self {
         Step {
-            written,
-            neighbour: hop.neighbour,
+            written: written as u16,
+            neighbour: hop.neighbour(),
             ..Self::bare(cause)
         }
     }
@@ -59,9 +60,9 @@ impl Step {
     fn answer(&self) -> Answer {
         Answer {
             number: self.cause.number(),
-            written: self.written as u32,
-            start: self.start as u32,
-            length: self.length as u32,
+            written: u32::from(self.written),
+            start: u32::from(self.start),
+            length: u32::from(self.length),
         }
     }
 }
@@ -85,9 +86,9 @@ pub fn explain(frame: &[u8], settings: &[u8], clock: &[u8], out: &mut [u8]) -> (
 /// Answers 1, 2 and 3.
 #[inline]
 fn admit<'a>(
-    switch: &mut Switch,
+    switch: &mut Switch<'a>,
     frame: &[u8],
-    settings: &[u8],
+    settings: &'a [u8],
     clock: &'a [u8],
     out: &[u8],
 ) -> Result<&'a [u8; 6], Cause> {
@@ -111,8 +112,8 @@ pub fn part(frame: &[u8], start: usize, length: usize) -> &[u8] {
         .unwrap_or_default()
 }
 
-/// One handling of a frame of at most 2,048 octets into a buffer of at least
-/// that size.
+/// One handling of a frame of at most 2,048 octets. The output has room for the
+/// frame and for the longest reply.
 pub(crate) fn step(switch: &Switch, frame: &[u8], clock: &[u8; 6], out: &mut [u8]) -> Step {
     receive(switch, frame, clock, out).unwrap_or_else(Step::bare)
 }
@@ -136,7 +137,7 @@ fn receive(switch: &Switch, frame: &[u8], clock: &[u8; 6], out: &mut [u8]) -> Re
     }
     let hop = switch.next_hop(header.egress).ok_or(Cause::NoNextHop)?;
     let strip = switch.strip && summary.removable;
-    forward(switch, &header, &hop, strip, frame, out)
+    forward(switch, &header, hop, strip, frame, out)
 }
 
 /// Answers 12 to 17.
@@ -168,7 +169,7 @@ fn check_header(header: &Header, switch: &Switch, frame: &[u8]) -> Result<(), Ca
 fn forward(
     switch: &Switch,
     header: &Header,
-    hop: &NextHop,
+    hop: NextHop,
     strip: bool,
     frame: &[u8],
     out: &mut [u8],
@@ -184,7 +185,7 @@ fn forward(
     let copied = &frame[from..];
     let to = if strip { area_octets } else { 0 };
     rest[to..to + copied.len()].copy_from_slice(copied);
-    head[..6].copy_from_slice(&hop.mac);
+    head[..6].copy_from_slice(&hop.mac());
     head[6..12].copy_from_slice(&switch.mac);
     put_u16(head, 12, TRILL);
     put_u16(head, 14, header.forwarded_word(area_octets));
@@ -213,8 +214,8 @@ fn deliver(
         return Err(Cause::Vlan);
     }
     let delivered = |cause| Step {
-        start,
-        length: inner.len(),
+        start: start as u16,
+        length: inner.len() as u16,
         ..Step::bare(cause)
     };
     if inner[..6] != ALL_EGRESS_RBRIDGES {
@@ -254,7 +255,7 @@ fn fault(
         hop,
     };
     let written = write_error(out, &head, code, &frame[header.ethertype_at..]);
-    Ok(Step::sent(Cause::ErrorReply(code), written, &hop))
+    Ok(Step::sent(Cause::ErrorReply(code), written, hop))
 }
 
 /// Answers 27, 56, 54 and 28.
@@ -286,5 +287,5 @@ fn echo(
         hop,
     };
     let written = write_echo(out, &head, body, clock);
-    Ok(Step::sent(Cause::EchoReply, written, &hop))
+    Ok(Step::sent(Cause::EchoReply, written, hop))
 }

@@ -1,7 +1,7 @@
 //! Fields of settings and descriptions, the settings rules, next-hop records.
 
 use crate::cause::Fault;
-use crate::octets::Mac;
+use crate::octets::{u16_at, Mac};
 
 /// Greatest valid nickname of a switch; the least is 1.
 const LAST_NICKNAME: u16 = 0xFFBF;
@@ -29,6 +29,13 @@ impl<'a> Field<'a> {
     /// length.
     #[inline]
     pub(crate) fn take(rest: &mut &'a [u8]) -> Result<Self, Fault> {
+        // Most fields are records. Their length is a constant here, so that
+        // the next field's place need not wait for it to be loaded.
+        if let Some((&[2, 0, 14, ref value @ ..], after)) = rest.split_first_chunk::<RECORD_FIELD>()
+        {
+            *rest = after;
+            return Ok(Field::Record(value));
+        }
         let [tag, high, low, after @ ..] = *rest else {
             return Err(Fault::HeadCut);
         };
@@ -55,50 +62,59 @@ impl<'a> Field<'a> {
     }
 }
 
-/// A live next hop.
+/// A live next hop: neighbour above MAC, so that it is passed on in a register.
 #[derive(Clone, Copy)]
-pub(crate) struct NextHop {
-    pub neighbour: u16,
-    pub mac: Mac,
+pub(crate) struct NextHop(u64);
+
+impl NextHop {
+    pub(crate) fn neighbour(self) -> u16 {
+        (self.0 >> 48) as u16
+    }
+
+    pub(crate) fn mac(self) -> Mac {
+        let [_, _, mac @ ..] = self.0.to_be_bytes();
+        mac
+    }
 }
 
-/// Settings of one switch, tested.
-pub(crate) struct Switch {
+/// Octets of a tag 2 field.
+const RECORD_FIELD: usize = 17;
+
+/// Settings of one switch, tested. Its records stay where they were read: a
+/// handling asks for one destination, and copying all costs more than that.
+#[derive(Clone, Copy)]
+pub(crate) struct Switch<'a> {
     pub nickname: u16,
     pub mac: Mac,
     pub strip: bool,
+    /// Number of records.
     count: usize,
-    /// Destination above serial: among the keys of one destination the
-    /// greatest rules.
-    keys: [u64; MAX_RECORDS],
-    /// Neighbour above MAC, in the order of `keys`.
-    hops: [u64; MAX_RECORDS],
-    /// Bits of hashed keys; a clear bit says the key is new.
-    seen: [u64; 16],
+    /// The octets after its tag 1 field, its records among them.
+    fields: &'a [u8],
 }
 
-impl Switch {
-    pub(crate) const EMPTY: Switch = Switch {
+impl<'a> Switch<'a> {
+    pub(crate) const EMPTY: Switch<'static> = Switch {
         nickname: 0,
         mac: [0; 6],
         strip: false,
         count: 0,
-        keys: [0; MAX_RECORDS],
-        hops: [0; MAX_RECORDS],
-        seen: [0; 16],
+        fields: &[],
     };
 
     /// Fills an empty switch from settings octets: one tag 1 field, then tag 2
     /// and 3 fields alone.
-    pub(crate) fn read(&mut self, settings: &[u8]) -> Result<(), Fault> {
+    #[inline]
+    pub(crate) fn read(&mut self, settings: &'a [u8]) -> Result<(), Fault> {
         let mut rest = settings;
         let Field::Switch(value) = Field::take(&mut rest)? else {
             return Err(Fault::BeforeSwitch);
         };
-        self.begin(value)?;
+        self.begin(value, rest)?;
+        let mut seen = Seen::default();
         while !rest.is_empty() {
             match Field::take(&mut rest)? {
-                Field::Record(value) => self.add_record(value)?,
+                Field::Record(value) => self.add_record(value, &mut seen)?,
                 Field::Strip(flag) => self.set_strip(flag)?,
                 _ => return Err(Fault::NotSettings),
             }
@@ -106,8 +122,9 @@ impl Switch {
         Ok(())
     }
 
-    /// Nickname and MAC of an empty switch.
-    pub(crate) fn begin(&mut self, value: &[u8; 8]) -> Result<(), Fault> {
+    /// Nickname and MAC of an empty switch, and the octets after them.
+    #[inline]
+    pub(crate) fn begin(&mut self, value: &[u8; 8], fields: &'a [u8]) -> Result<(), Fault> {
         let both = u64::from_be_bytes(*value);
         self.nickname = (both >> 48) as u16;
         if !(1..=LAST_NICKNAME).contains(&self.nickname) {
@@ -117,47 +134,33 @@ impl Switch {
             return Err(Fault::OwnMac);
         }
         self.mac.copy_from_slice(&value[2..]);
+        self.fields = fields;
         Ok(())
     }
 
-    /// Values are tested first, then the number of records, then the serial.
-    #[inline]
-    pub(crate) fn add_record(&mut self, value: &[u8; 14]) -> Result<(), Fault> {
-        let [d0, d1, hop @ .., s0, s1, s2, s3] = *value;
-        let destination = u16::from_be_bytes([d0, d1]);
-        let hop = u64::from_be_bytes(hop);
-        if !(1..=LAST_NICKNAME).contains(&destination) {
+    /// Takes the next record of `fields`. Values are tested first, then the
+    /// number of records, then the serial.
+    #[inline(always)]
+    pub(crate) fn add_record(&mut self, value: &[u8; 14], seen: &mut Seen) -> Result<(), Fault> {
+        let record = Record::read(value);
+        if !(1..=LAST_NICKNAME).contains(&record.destination) {
             return Err(Fault::Destination);
         }
         // Neighbour 0 is a withdrawal; its MAC is tested all the same.
-        if (hop >> 48) as u16 > LAST_NICKNAME {
+        if (record.hop >> 48) as u16 > LAST_NICKNAME {
             return Err(Fault::Neighbour);
         }
-        if !is_station(hop) {
+        if !is_station(record.hop) {
             return Err(Fault::NeighbourMac);
         }
         if self.count == MAX_RECORDS {
             return Err(Fault::Records);
         }
-        let serial = u32::from_be_bytes([s0, s1, s2, s3]);
-        let key = u64::from(destination) << 32 | u64::from(serial);
-        if self.met(key) {
+        if seen.mark(record.key()) && self.met(record.key()) {
             return Err(Fault::SerialMet);
         }
-        self.keys[self.count] = key;
-        self.hops[self.count] = hop;
         self.count += 1;
         Ok(())
-    }
-
-    /// Whether a record has this destination and serial; marks the key as seen.
-    #[inline]
-    fn met(&mut self, key: u64) -> bool {
-        let slot = key.wrapping_mul(0x9E37_79B9_7F4A_7C15) >> 54;
-        let (word, bit) = ((slot >> 6) as usize, 1 << (slot & 63));
-        let maybe = self.seen[word] & bit != 0;
-        self.seen[word] |= bit;
-        maybe && self.keys[..self.count].contains(&key)
     }
 
     /// The last flag given counts.
@@ -170,19 +173,106 @@ impl Switch {
         Ok(())
     }
 
+    /// The records taken so far, in their order.
+    #[inline]
+    fn records(&self) -> Records<'a> {
+        Records {
+            left: self.count,
+            rest: self.fields,
+        }
+    }
+
     /// The record with the greatest serial rules, a withdrawal included.
     #[inline]
     pub(crate) fn next_hop(&self, destination: u16) -> Option<NextHop> {
-        // Keys are above 0; with no record the hop reads as withdrawn.
-        let (mut newest, mut ruling) = (0, 0_u64);
-        for (&key, &hop) in self.keys[..self.count].iter().zip(&self.hops) {
-            if key >> 32 == u64::from(destination) && key > newest {
-                (newest, ruling) = (key, hop);
+        let mut ruling: Option<Record> = None;
+        for value in self.records() {
+            if u16_at(value, 0) == destination {
+                let record = Record::read(value);
+                if ruling.is_none_or(|ruling| ruling.serial < record.serial) {
+                    ruling = Some(record);
+                }
             }
         }
-        let [n0, n1, mac @ ..] = ruling.to_be_bytes();
-        let neighbour = u16::from_be_bytes([n0, n1]);
-        (neighbour != 0).then_some(NextHop { neighbour, mac })
+        let hop = NextHop(ruling?.hop);
+        (hop.neighbour() != 0).then_some(hop)
+    }
+
+    /// Whether a record has this destination and serial.
+    #[cold]
+    fn met(&self, key: u64) -> bool {
+        self.records().any(|value| Record::read(value).key() == key)
+    }
+}
+
+/// Goes over the records among fields that are known to be good.
+struct Records<'a> {
+    /// Records still to come.
+    left: usize,
+    rest: &'a [u8],
+}
+
+impl<'a> Iterator for Records<'a> {
+    type Item = &'a [u8; 14];
+
+    #[inline]
+    fn next(&mut self) -> Option<Self::Item> {
+        self.left = self.left.checked_sub(1)?;
+        loop {
+            // A record is still to come, so that there are enough octets.
+            let ([tag, _, length, value @ ..], after) =
+                self.rest.split_first_chunk::<RECORD_FIELD>()?;
+            if *tag == 2 {
+                self.rest = after;
+                return Some(value);
+            }
+            self.rest = &self.rest[3 + usize::from(*length)..];
+        }
+    }
+}
+
+/// A next-hop record.
+#[derive(Clone, Copy)]
+struct Record {
+    destination: u16,
+    /// Neighbour above MAC.
+    hop: u64,
+    serial: u32,
+}
+
+impl Record {
+    #[inline]
+    fn read(value: &[u8; 14]) -> Self {
+        let [d0, d1, hop @ .., s0, s1, s2, s3] = *value;
+        Record {
+            destination: u16::from_be_bytes([d0, d1]),
+            hop: u64::from_be_bytes(hop),
+            serial: u32::from_be_bytes([s0, s1, s2, s3]),
+        }
+    }
+
+    /// What no two records of a switch share.
+    #[inline]
+    fn key(&self) -> u64 {
+        u64::from(self.destination) << 32 | u64::from(self.serial)
+    }
+}
+
+/// Bits of the hashed keys of one switch's records, so that few records have
+/// to be looked for among the earlier ones.
+#[derive(Default)]
+pub(crate) struct Seen([u64; 16]);
+
+impl Seen {
+    /// Marks the key with two bits of a word; false if it is certainly new.
+    #[inline]
+    fn mark(&mut self, key: u64) -> bool {
+        let hash = key.wrapping_mul(0x9E37_79B9_7F4A_7C15);
+        let bits = 1 << (hash >> 54 & 63) | 1 << (hash >> 48 & 63);
+        let word = &mut self.0[(hash >> 60) as usize];
+        let maybe = *word & bits == bits;
+        *word |= bits;
+        maybe
     }
 }
 

@@ -1,5 +1,7 @@
 //! The printed form of a run.
 
+use std::fmt::Write;
+
 use crate::campus::{run, TRACE};
 use crate::octets::u16_at;
 
@@ -11,20 +13,22 @@ pub fn text(description: &[u8]) -> Vec<u8> {
     if outcome.code != 0 {
         return format!("refused {}\n", outcome.code).into_bytes();
     }
-    let entries = trace.chunks_exact(8).take(outcome.count as usize);
-    let mut lines: String = entries.map(line).collect();
+    let mut lines = String::new();
+    for entry in trace.chunks_exact(8).take(outcome.count as usize) {
+        write_line(&mut lines, entry);
+    }
     lines += &format!("handled {}\n", outcome.count);
     lines.into_bytes()
 }
 
 /// Switch, O(riginal) or R(eply), answer in decimal, hop count, egress.
-fn line(entry: &[u8]) -> String {
+fn write_line(lines: &mut String, entry: &[u8]) {
     let kind = if entry[2] == 0 { 'O' } else { 'R' };
-    format!(
-        "{:04X} {kind} {} {:02X} {:04X}\n",
-        u16_at(entry, 0),
-        entry[3],
-        entry[4],
-        u16_at(entry, 6)
+    let (switch, egress) = (u16_at(entry, 0), u16_at(entry, 6));
+    let (answer, hops) = (entry[3], entry[4]);
+    writeln!(
+        lines,
+        "{switch:04X} {kind} {answer} {hops:02X} {egress:04X}"
     )
+    .expect("a string takes all");
 }

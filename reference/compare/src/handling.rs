@@ -7,9 +7,11 @@ use reference::generate::{handle_input, HandleInput};
 use reference::Answer;
 
 use crate::buffers::Buffers;
-use crate::tally::Tally;
-use crate::{hex, product};
+use crate::hex;
+use crate::tally::{Hit, Tally};
 
+/// Hits that each answer needs.
+const ENOUGH: u64 = 100;
 /// Inputs that are tried with their slices emptied too.
 const EMPTIED: u64 = 64;
 
@@ -21,7 +23,8 @@ struct Trial {
 }
 
 pub fn compare(seed: u64, count: u64) -> Result<Tally, String> {
-    let mut tally = Tally::new((1..=3).chain(10..=28).chain(50..=56));
+    let expected = (1..=3).chain(10..=28).chain(50..=56);
+    let mut tally = Tally::new(ENOUGH, expected.map(Hit::Answer));
     let mut buffers = Buffers::default();
     for input in inputs(seed, count) {
         let trial = trial(&input, &mut buffers);
@@ -29,7 +32,7 @@ pub fn compare(seed: u64, count: u64) -> Result<Tally, String> {
             let report = report(&input, &trial, &mut buffers);
             return Err(format!("{difference}\n{report}"));
         }
-        tally.add(trial.reference.number);
+        tally.add([Hit::Answer(trial.reference.number)]);
     }
     Ok(tally)
 }
@@ -39,12 +42,11 @@ pub fn replay(words: &[String]) -> Result<bool, String> {
     let [settings, clock, room, frame] = words else {
         return Err("a replay takes four words".into());
     };
-    let digits = room.trim_start_matches("0x");
     let input = HandleInput {
         frame: hex::read(frame)?,
         settings: hex::read(settings)?,
         clock: hex::read(clock)?,
-        room: usize::from_str_radix(digits, 16).map_err(|_| format!("{room} is not in hex"))?,
+        room: hex::read_number(room)?,
     };
     let mut buffers = Buffers::default();
     let trial = trial(&input, &mut buffers);

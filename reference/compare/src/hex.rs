@@ -1,4 +1,4 @@
-//! Octets as hex digits.
+//! Octets and numbers as hex digits.
 
 use std::fmt::Write;
 
@@ -23,4 +23,10 @@ pub fn read(digits: &str) -> Result<Vec<u8>, String> {
     pairs
         .map(|pair| Ok((value(&pair[0])? << 4 | value(&pair[1])?) as u8))
         .collect()
+}
+
+/// A number, with or without `0x` before it.
+pub fn read_number(digits: &str) -> Result<usize, String> {
+    let bad = |_| format!("{digits} is not in hex");
+    usize::from_str_radix(digits.trim_start_matches("0x"), 16).map_err(bad)
 }

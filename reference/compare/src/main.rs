@@ -1,39 +1,63 @@
-//! Compares the proved library, linked as a C driver links it, with the
-//! second program on seeded inputs.
+//! Compares the proved libraries, linked as a C driver links them, and the
+//! program with the second program on seeded inputs.
 //!
 //! A module for each call of the product; [`COMPARISONS`] lists them.
 
-#![deny(unsafe_code)]
+#![forbid(unsafe_code)]
 
 mod buffers;
+mod campus;
 mod handling;
 mod hex;
-mod product;
+mod program;
+mod run;
 mod tally;
+mod text;
 
 use std::env;
+use std::path::PathBuf;
 use std::process::ExitCode;
 
 use tally::Tally;
 
 const USAGE: &str = "\
-usage: compare [--seed S] [--count N]
-       compare --replay SETTINGS CLOCK ROOM FRAME    (all in hex)";
+usage: compare [--seed S] [--count N] [--campus-count N] [--program PATH]
+       compare --replay SETTINGS CLOCK ROOM FRAME    (all in hex)
+       compare --replay-campus ROOM DESCRIPTION
+       compare --replay-text ROOM DESCRIPTION";
 
-/// Compares a call on the inputs of a seed, or says on which it differs.
-type Comparison = fn(seed: u64, count: u64) -> Result<Tally, String>;
+/// What is compared: inputs of a seed, how many for each call, and the program
+/// if it is to be run.
+struct Plan {
+    seed: u64,
+    count: u64,
+    campus_count: u64,
+    program: Option<PathBuf>,
+}
 
-const COMPARISONS: [(&str, Comparison); 1] = [("handling", handling::compare)];
+/// Compares a call on the inputs of a plan, or says on which it differs.
+type Comparison = fn(&Plan) -> Result<Tally, String>;
+
+const COMPARISONS: [(&str, Comparison); 3] = [
+    ("handling", |plan| handling::compare(plan.seed, plan.count)),
+    ("campus", |plan| {
+        campus::compare(plan.seed, plan.campus_count)
+    }),
+    ("text", |plan| text::compare(plan.seed, plan.campus_count)),
+];
+
+/// Runs one input given in hex; whether both programs agree.
+type Replay = fn(&[String]) -> Result<bool, String>;
 
 enum Task {
-    Compare { seed: u64, count: u64 },
-    Replay(Vec<String>),
+    Compare(Plan),
+    Replay(Replay, Vec<String>),
 }
 
 fn main() -> ExitCode {
     let done = task(env::args().skip(1)).and_then(|task| match task {
-        Task::Compare { seed, count } => Ok(compare(seed, count)),
-        Task::Replay(words) => handling::replay(&words),
+        Task::Compare(plan) => Ok(compare(&plan)),
+        Task::Replay(replay, words) => replay(&words),
     });
     match done {
         Ok(true) => ExitCode::SUCCESS,
@@ -46,16 +70,28 @@ fn main() -> ExitCode {
 }
 
 fn task(mut words: impl Iterator<Item = String>) -> Result<Task, String> {
-    let (mut seed, mut count) = (1, 200_000);
+    let mut plan = Plan {
+        seed: 1,
+        count: 200_000,
+        campus_count: 50_000,
+        program: None,
+    };
     while let Some(word) = words.next() {
         match word.as_str() {
-            "--seed" => seed = number(words.next())?,
-            "--count" => count = number(words.next())?,
-            "--replay" => return Ok(Task::Replay(words.collect())),
+            "--seed" => plan.seed = number(words.next())?,
+            "--count" => plan.count = number(words.next())?,
+            "--campus-count" => plan.campus_count = number(words.next())?,
+            "--program" => {
+                let path = words.next().ok_or("--program lacks its path")?;
+                plan.program = Some(path.into());
+            }
+            "--replay" => return Ok(Task::Replay(handling::replay, words.collect())),
+            "--replay-campus" => return Ok(Task::Replay(campus::replay, words.collect())),
+            "--replay-text" => return Ok(Task::Replay(text::replay, words.collect())),
             _ => return Err(format!("unknown option {word}")),
         }
     }
-    Ok(Task::Compare { seed, count })
+    Ok(Task::Compare(plan))
 }
 
 fn number(word: Option<String>) -> Result<u64, String> {
@@ -64,8 +100,14 @@ fn number(word: Option<String>) -> Result<u64, String> {
 }
 
 /// Runs every comparison; whether all passed.
-fn compare(seed: u64, count: u64) -> bool {
-    let results = COMPARISONS.map(|(name, comparison)| passes(name, comparison(seed, count)));
+fn compare(plan: &Plan) -> bool {
+    let mut results = Vec::new();
+    for (name, comparison) in COMPARISONS {
+        results.push(passes(name, comparison(plan)));
+    }
+    if let Some(path) = &plan.program {
+        results.push(passes("program", program::compare(path, plan.seed)));
+    }
     let passed = results.iter().filter(|&&good| good).count();
     let failed = results.len() - passed;
     println!("compare: {passed} passed, {failed} failed");
@@ -75,11 +117,11 @@ fn compare(seed: u64, count: u64) -> bool {
 fn passes(name: &str, result: Result<Tally, String>) -> bool {
     match result {
         Ok(tally) => {
-            print!("{name}: hits of each answer\n{tally}");
-            for number in tally.rare() {
-                println!("{name}: too few hits of {number}");
+            print!("{name}: hits\n{tally}");
+            for hit in tally.rare() {
+                println!("{name}: too few hits of {hit}");
             }
-            println!("{name}: {} inputs compared", tally.total());
+            println!("{name}: {} inputs compared", tally.inputs());
             tally.rare().next().is_none()
         }
         Err(difference) => {

@@ -1,43 +1,84 @@
-//! How often each answer was hit.
+//! How often each thing that inputs should show was met.
 
 use std::collections::BTreeMap;
 use std::fmt;
 
-/// Hits that every expected answer needs.
-const ENOUGH: u64 = 100;
+/// What an input can show.
+#[derive(Clone, Copy, PartialEq, Eq, PartialOrd, Ord)]
+pub enum Hit {
+    /// An answer of one handling.
+    Answer(u32),
+    /// A code of a campus call.
+    Code(u32),
+    /// Something else, in words.
+    Feature(&'static str),
+}
 
-pub struct Tally(BTreeMap<u32, u64>);
+pub struct Tally {
+    /// Hits that each expected thing needs.
+    enough: u64,
+    inputs: u64,
+    hits: BTreeMap<Hit, u64>,
+}
 
 impl Tally {
-    pub fn new(expected: impl IntoIterator<Item = u32>) -> Self {
-        Tally(expected.into_iter().map(|number| (number, 0)).collect())
+    pub fn new(enough: u64, expected: impl IntoIterator<Item = Hit>) -> Self {
+        Tally {
+            enough,
+            inputs: 0,
+            hits: expected.into_iter().map(|hit| (hit, 0)).collect(),
+        }
     }
 
-    pub fn add(&mut self, number: u32) {
-        *self.0.entry(number).or_default() += 1;
+    /// Counts one input by all that it shows.
+    pub fn add(&mut self, hits: impl IntoIterator<Item = Hit>) {
+        self.inputs += 1;
+        for hit in hits {
+            *self.hits.entry(hit).or_default() += 1;
+        }
     }
 
-    pub fn total(&self) -> u64 {
-        self.0.values().sum()
+    pub fn inputs(&self) -> u64 {
+        self.inputs
     }
 
-    /// Answers with too few hits.
-    pub fn rare(&self) -> impl Iterator<Item = u32> + '_ {
-        let rare = self.0.iter().filter(|(_, &hits)| hits < ENOUGH);
-        rare.map(|(&number, _)| number)
+    /// What was met too few times.
+    pub fn rare(&self) -> impl Iterator<Item = Hit> + '_ {
+        let rare = self.hits.iter().filter(|(_, &hits)| hits < self.enough);
+        rare.map(|(&hit, _)| hit)
     }
 }
 
-/// Four answers to a line.
+impl fmt::Display for Hit {
+    fn fmt(&self, f: &mut fmt::Formatter) -> fmt::Result {
+        match self {
+            Hit::Answer(number) => write!(f, "{number:>2}"),
+            Hit::Code(code) => write!(f, "code {code:>2}"),
+            Hit::Feature(words) => f.write_str(words),
+        }
+    }
+}
+
+/// Four answers or codes to a line, then a line for each feature.
 impl fmt::Display for Tally {
     fn fmt(&self, f: &mut fmt::Formatter) -> fmt::Result {
-        let cells: Vec<_> = self.0.iter().collect();
-        for line in cells.chunks(4) {
-            for (number, hits) in line {
-                write!(f, "  {number:>2} {hits:>9}")?;
+        let cells: Vec<_> = self.hits.iter().collect();
+        for kind in cells.chunk_by(|(one, _), (other, _)| same_kind(one, other)) {
+            let cells_to_a_line = match kind[0].0 {
+                Hit::Feature(_) => 1,
+                _ => 4,
+            };
+            for line in kind.chunks(cells_to_a_line) {
+                for (hit, hits) in line {
+                    write!(f, "  {hit} {hits:>9}")?;
+                }
+                writeln!(f)?;
             }
-            writeln!(f)?;
         }
         Ok(())
     }
+}
+
+fn same_kind(one: &Hit, other: &Hit) -> bool {
+    std::mem::discriminant(one) == std::mem::discriminant(other)
 }

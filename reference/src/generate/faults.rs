@@ -233,7 +233,9 @@ pub(super) fn fill_file(fields: &mut Fields, size: usize) {
     fields.insert(place, field(3, &[1]).repeat(missing / 4));
     if let Some(frame) = fields.last_mut().filter(|field| has_tag(field, 5)) {
         frame.extend(vec![0; missing % 4]);
-        let length = (frame.len() - 3) as u16;
-        frame[1..3].copy_from_slice(&length.to_be_bytes());
+        // An earlier fault may have cut the field within its length.
+        if let Some(length) = frame.len().checked_sub(3) {
+            frame[1..3].copy_from_slice(&(length as u16).to_be_bytes());
+        }
     }
 }
