@@ -1,0 +1,276 @@
+/*
+ * Staffripple: one proved TRILL frame handler, and a campus of such switches, for C11 and C++.
+ *
+ * "Document 01" is the paper of rules that the library is proved to follow. What holds of every call:
+ *
+ *   - It takes every octet string of every length, ends, and gives one of the answers named here.
+ *   - It keeps nothing between calls: no state, no heap, no input or output. So it is reentrant, and any
+ *     number of threads may call at once, each with an output buffer of its own.
+ *   - It only reads its inputs, and writes only what its description says; all other octets stay.
+ *   - No two of its buffers may overlap.
+ *   - A pointer may not be null, even where its length is 0. The staffripple_ calls at the end of this
+ *     file take null with length 0 too.
+ *
+ * Numbers within octets are big-endian. The compiled library is for x86-64 with the System V calling
+ * convention; it needs memcpy and memset and nothing else.
+ */
+#ifndef STAFFRIPPLE_H
+#define STAFFRIPPLE_H
+
+#include <stddef.h>
+#include <stdint.h>
+
+#ifdef __cplusplus
+extern "C" {
+#endif
+
+/* ---- One frame at one switch ---- */
+
+#define TRILL_FRAME_MOST 2048   /* octets of a frame: a longer one is refused, and none longer is written */
+#define TRILL_OUTPUT_LEAST 2048 /* octets that the output buffer must have */
+#define TRILL_CLOCK 6           /* octets of a clock: 3 for seconds, 3 for microseconds */
+
+/*
+ * The numbers of an answer, in the order in which document 01 numbers them: constant, number, meaning.
+ * Only TRILL_FORWARDED, TRILL_ERROR_REPLY and TRILL_ECHO_REPLY write; only TRILL_DELIVERED and
+ * TRILL_HANDED_UP have a delivered part.
+ */
+#define TRILL_ANSWERS(ANSWER)                                                                              \
+    /* The call is refused. Nothing is written. */                                                         \
+    ANSWER(TRILL_REFUSED_SETTINGS, 1, "settings bad, or clock not six octets")                             \
+    ANSWER(TRILL_REFUSED_OUTPUT, 2, "output buffer under 2,048 octets")                                    \
+    ANSWER(TRILL_REFUSED_FRAME, 3, "frame over 2,048 octets")                                              \
+    /* The frame is dropped. Nothing is written. */                                                        \
+    ANSWER(TRILL_DROP_SHORT, 10, "link header or TRILL header cut short")                                  \
+    ANSWER(TRILL_DROP_ETHERTYPE, 11, "Ethertype not 0x22F3")                                               \
+    ANSWER(TRILL_DROP_OUTER_DA, 12, "outer DA not own MAC")                                                \
+    ANSWER(TRILL_DROP_VERSION, 13, "V not 0")                                                              \
+    ANSWER(TRILL_DROP_MULTI, 14, "M is 1")                                                                 \
+    ANSWER(TRILL_DROP_INGRESS, 15, "ingress nickname 0 or from 0xFFC0")                                    \
+    ANSWER(TRILL_DROP_EGRESS, 16, "egress nickname 0 or above 0xFFC0")                                     \
+    ANSWER(TRILL_DROP_HOP_COUNT, 17, "hop count 0")                                                        \
+    ANSWER(TRILL_DROP_OPTIONS_PAST, 18, "options area runs past the frame")                                \
+    ANSWER(TRILL_DROP_OPTIONS_ILL_FORMED, 19, "options area not well formed")                              \
+    ANSWER(TRILL_DROP_CRITICAL, 20, "CHbH is 1, or CItE is 1 at the egress")                               \
+    ANSWER(TRILL_DROP_NO_NEXT_HOP, 21, "not the egress and no next hop")                                   \
+    ANSWER(TRILL_DROP_INNER_SHORT, 22, "inner frame under 18 octets")                                      \
+    ANSWER(TRILL_DROP_INNER_TAG, 23, "inner tag type not 0x8100, or VLAN 0 or 4,095")                      \
+    ANSWER(TRILL_DROP_INNER_DA, 24, "egress Any-RBridge, inner DA not All-Egress-RBridges")                \
+    ANSWER(TRILL_DROP_CHANNEL_FAULT, 25, "channel fault, no error reply is made")                          \
+    ANSWER(TRILL_DROP_CHANNEL_ERR, 26, "channel protocol not 0x001 and ERR not 0")                         \
+    ANSWER(TRILL_DROP_ECHO_BODY, 27, "echo body under 18 or over 530 octets, or SPID neither 3 nor 4")     \
+    ANSWER(TRILL_DROP_ECHO_UNANSWERED, 28, "echo request, no reply is made")                               \
+    /* Not the egress: the frame for the next hop is written. */                                           \
+    ANSWER(TRILL_FORWARDED, 50, "forwarded")                                                               \
+    /* The inner frame is delivered: start and length say where it is in the frame. Nothing is written. */ \
+    ANSWER(TRILL_DELIVERED, 51, "delivered")                                                               \
+    ANSWER(TRILL_HANDED_UP, 52, "handed up: inner Ethertype 0x22F4")                                       \
+    /* A reply to the ingress is written. */                                                               \
+    ANSWER(TRILL_ERROR_REPLY, 53, "channel fault: error reply")                                            \
+    ANSWER(TRILL_ECHO_REPLY, 54, "echo request: echo reply")                                               \
+    /* A reply to us has arrived. Nothing is written. */                                                   \
+    ANSWER(TRILL_ERROR_HEARD, 55, "error heard")                                                           \
+    ANSWER(TRILL_ECHO_HEARD, 56, "echo reply heard")
+
+/* The codes of a campus run: constant, number, meaning. Only CAMPUS_RAN writes. */
+#define CAMPUS_CODES(CODE)                                                                    \
+    /* The run is done, and its entries are written. */                                       \
+    CODE(CAMPUS_RAN, 0, "run")                                                                \
+    /* The description is refused. Nothing is written. */                                     \
+    CODE(CAMPUS_REFUSED_LONG, 40, "description over 32,768 octets")                           \
+    CODE(CAMPUS_REFUSED_CUT, 41, "field cut short")                                           \
+    CODE(CAMPUS_REFUSED_TAG, 42, "unknown tag or length")                                     \
+    CODE(CAMPUS_REFUSED_PLACE, 43, "tag out of place, or no tag 5 at the end")                \
+    CODE(CAMPUS_REFUSED_VALUE, 44, "value outside the settings rules, or strip flag above 1") \
+    CODE(CAMPUS_REFUSED_NICKNAME, 45, "nickname of an earlier switch")                        \
+    CODE(CAMPUS_REFUSED_NUMBER, 46, "over 16 switches, or over 64 records at a switch")       \
+    CODE(CAMPUS_REFUSED_SERIAL, 47, "serial met before for that destination at that switch")  \
+    CODE(CAMPUS_REFUSED_ENTRY, 48, "entry switch unknown")                                    \
+    /* The call is refused; this is tested before the others. Nothing is written. */          \
+    CODE(CAMPUS_REFUSED_TRACE, 49, "trace buffer under 640 octets")
+
+#define STAFFRIPPLE_CONSTANT(constant, number, meaning) constant = number,
+enum trill_number { TRILL_ANSWERS(STAFFRIPPLE_CONSTANT) };
+enum campus_code { CAMPUS_CODES(STAFFRIPPLE_CONSTANT) };
+#undef STAFFRIPPLE_CONSTANT
+
+struct trill_answer {
+    uint32_t number;  /* a constant of TRILL_ANSWERS */
+    uint32_t written; /* octets written at the start of the output: 20 to 2,048, or 0 where nothing is written */
+    uint32_t start;   /* the delivered part: where it begins in the frame, 0 where there is none */
+    uint32_t length;  /* its octets, 0 where there is none; trill_part_of gives it */
+};
+
+/*
+ * Handles one received frame.
+ *
+ *   frame     an Ethernet frame from its destination address on, without FCS
+ *   settings  the switch: fields of a tag (1 octet), a length (2) and a value.
+ *               tag 1, length 8    own nickname 2, own MAC 6: once, and first
+ *               tag 2, length 14   next hop: destination nickname 2, neighbour nickname 2 (0 withdraws the
+ *                                  destination), neighbour MAC 6, serial 4: up to 64
+ *               tag 3, length 1    strip flag, 0 or 1: the last one counts, 0 if there is none
+ *             Anything else is bad settings; document 01 has the rules of the values. Of a destination's
+ *             records the one with the greatest serial rules.
+ *   clock     TRILL_CLOCK octets, put into the time received of an echo reply
+ *   out       at least TRILL_OUTPUT_LEAST octets
+ *
+ * TRILL_FORWARDED, TRILL_ERROR_REPLY and TRILL_ECHO_REPLY write a frame, ready to send, to the first
+ * `written` octets of out, and leave the octets after it. Every other answer leaves all of out as it was.
+ * What is written may be shorter than Ethernet wants: padding and FCS are the port driver's part.
+ */
+struct trill_answer trill_handle(const uint8_t *frame, size_t frame_len, const uint8_t *settings, size_t settings_len,
+                                 const uint8_t *clock, size_t clock_len, uint8_t *out, size_t out_len);
+
+/* ---- A campus of switches over one frame ---- */
+
+#define CAMPUS_DESCRIPTION_MOST 32768 /* octets of a description: a longer one is refused */
+#define CAMPUS_TRACE_LEAST 640 /* octets that the trace buffer must have: 80 entries, as many as a run can have */
+#define CAMPUS_ENTRY 8         /* octets of a trace entry */
+#define CAMPUS_TEXT_MOST 1451  /* octets of the longest text */
+
+struct campus_answer {
+    uint32_t code;  /* a constant of CAMPUS_CODES */
+    uint32_t count; /* trace entries, one for each handling: 1 to 80; 0 for a refusal */
+};
+
+/*
+ * Runs one frame through a campus of up to 16 switches until it, or the reply to it, is dropped, delivered,
+ * heard or gone.
+ *
+ *   description  fields as in settings, for each switch in turn; besides
+ *                  tag 4, length 6             clock: at most once, zero if there is none
+ *                  tag 5, length 2 to 2,050    nickname of the entry switch, then the frame: once, and last
+ *   trace        at least CAMPUS_TRACE_LEAST octets
+ *
+ * CAMPUS_RAN writes `count` entries of CAMPUS_ENTRY octets to the start of trace and leaves the octets after
+ * them. An entry: switch 2, frame 1 (0 original, 1 reply), answer 1 (a constant of TRILL_ANSWERS), hop count
+ * received 1, zero 1, egress nickname 2. Every other code leaves all of trace as it was.
+ */
+struct campus_answer campus_run(const uint8_t *description, size_t description_len, uint8_t *trace, size_t trace_len);
+
+struct campus_text_answer {
+    uint32_t written; /* octets written: needed, or 0 where text is too small */
+    uint32_t needed;  /* octets of the text: at most CAMPUS_TEXT_MOST */
+};
+
+/*
+ * Runs a description, as campus_run does, and writes the run as the text that the program prints: a line for
+ * each entry and the line `handled` with their number, or the one line `refused` with the code.
+ *
+ *   text  CAMPUS_TEXT_MOST octets are always enough
+ *
+ * The text has `needed` octets, each line with a line feed at its end, and no zero octet after it. It is
+ * written to the start of text, and the octets after it stay; if text_len is under needed, nothing is written.
+ */
+struct campus_text_answer campus_text(const uint8_t *description, size_t description_len, uint8_t *text,
+                                      size_t text_len);
+
+#ifdef __cplusplus
+}
+#endif
+
+/* ---- Helpers ---- */
+
+#define STAFFRIPPLE_MEANING(constant, number, meaning) \
+    case constant:                                     \
+        return meaning;
+
+/* What an answer's number means, in a few words. */
+static inline const char *trill_answer_name(uint32_t number)
+{
+    switch (number) {
+        TRILL_ANSWERS(STAFFRIPPLE_MEANING)
+    default:
+        return "no answer of document 01";
+    }
+}
+
+/* What a campus run's code means, in a few words. */
+static inline const char *campus_code_name(uint32_t code)
+{
+    switch (code) {
+        CAMPUS_CODES(STAFFRIPPLE_MEANING)
+    default:
+        return "no code of document 01";
+    }
+}
+
+#undef STAFFRIPPLE_MEANING
+
+/* The big-endian number at octets, and the number put there. */
+static inline uint16_t staffripple_get16(const uint8_t *octets)
+{
+    return (uint16_t)(octets[0] << 8 | octets[1]);
+}
+
+static inline uint32_t staffripple_get32(const uint8_t *octets)
+{
+    return (uint32_t)staffripple_get16(octets) << 16 | staffripple_get16(octets + 2);
+}
+
+static inline void staffripple_put16(uint8_t *octets, uint16_t value)
+{
+    octets[0] = (uint8_t)(value >> 8);
+    octets[1] = (uint8_t)(value & 0xFF);
+}
+
+static inline void staffripple_put32(uint8_t *octets, uint32_t value)
+{
+    staffripple_put16(octets, (uint16_t)(value >> 16));
+    staffripple_put16(octets + 2, (uint16_t)(value & 0xFFFF));
+}
+
+/* A pointer that the calls take: octets, or for null the place of an empty string. */
+static inline const uint8_t *staffripple_input(const uint8_t *octets)
+{
+    static const uint8_t empty[1] = {0};
+    return octets ? octets : empty;
+}
+
+static inline uint8_t *staffripple_output(uint8_t *octets)
+{
+    static uint8_t empty[1];
+    return octets ? octets : empty;
+}
+
+struct trill_part {
+    const uint8_t *octets; /* within the frame, not copied; never null */
+    size_t length;
+};
+
+/*
+ * The part of a frame that an answer's start and length name, or an empty part if the range does not lie
+ * within the frame. No start and length, however great, make it reach outside.
+ */
+static inline struct trill_part trill_part_of(const uint8_t *frame, size_t frame_len, size_t start, size_t length)
+{
+    struct trill_part part;
+    int within = start <= frame_len && length <= frame_len - start;
+    part.octets = within && frame ? frame + start : staffripple_input(frame);
+    part.length = within ? length : 0;
+    return part;
+}
+
+/* The three calls for pointers that may be null with length 0, such as those of an empty container. */
+static inline struct trill_answer staffripple_handle(const uint8_t *frame, size_t frame_len, const uint8_t *settings,
+                                                     size_t settings_len, const uint8_t *clock, size_t clock_len,
+                                                     uint8_t *out, size_t out_len)
+{
+    return trill_handle(staffripple_input(frame), frame_len, staffripple_input(settings), settings_len,
+                        staffripple_input(clock), clock_len, staffripple_output(out), out_len);
+}
+
+static inline struct campus_answer staffripple_campus_run(const uint8_t *description, size_t description_len,
+                                                          uint8_t *trace, size_t trace_len)
+{
+    return campus_run(staffripple_input(description), description_len, staffripple_output(trace), trace_len);
+}
+
+static inline struct campus_text_answer staffripple_campus_text(const uint8_t *description, size_t description_len,
+                                                                uint8_t *text, size_t text_len)
+{
+    return campus_text(staffripple_input(description), description_len, staffripple_output(text), text_len);
+}
+
+#endif

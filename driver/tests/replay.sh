@@ -1,0 +1,317 @@
+#!/bin/sh
+# Tests of the replay tool given: captures are made from hex text and its output is compared octet by octet.
+# Prints `ok NAME` or `not ok NAME: WHY` for each.
+set -u
+tool=$(cd "$(dirname "$1")" && pwd)/$(basename "$1")
+dir=$(mktemp -d) || exit 1
+trap 'rm -rf "$dir"' EXIT
+cd "$dir" || exit 1
+failed=0
+
+# ---- Octets from hex text and back ----
+
+octets() { printf "$(printf '\\%03o' $(printf '%s' "$*" | tr -d ' \n' | sed 's/../0x& /g'))"; }
+hex() { od -An -v -tx1 "$1" | tr -d ' \n'; }
+
+# u32 NUMBER: in the byte order in $order, be or le
+u32() {
+    case $order in
+    be) printf '%08x' "$1" ;;
+    le) printf '%08x' "$1" | sed 's/\(..\)\(..\)\(..\)\(..\)/\4\3\2\1/' ;;
+    esac
+}
+
+# header SNAPLEN [LINKTYPE]: a file header with the magic number in $magic, zone 0 and accuracy 0
+header() {
+    u32 "0x$magic"
+    case $order in be) printf 00020004 ;; le) printf 02000400 ;; esac
+    u32 0
+    u32 0
+    u32 "$1"
+    u32 "${2:-1}"
+}
+
+# record SECONDS FRACTION FRAME [ORIGINAL-LENGTH]
+record() {
+    frame=$(printf '%s' "$3" | tr -d ' ' | tr A-F a-f)
+    length=$((${#frame} / 2))
+    u32 "$1"
+    u32 "$2"
+    u32 "$length"
+    u32 "${4:-$length}"
+    printf '%s' "$frame"
+}
+
+# ---- Running and judging ----
+
+# run STATUS WORDS..: runs the tool; what it says goes to the files said and complained
+run() {
+    wanted=$1
+    shift
+    "$tool" "$@" > said 2> complained
+    status=$?
+}
+
+# judge NAME [OUTPUT TEXT]..: the status was as wanted, and the texts are what OUTPUT holds
+judge() {
+    name=$1 why=
+    shift
+    [ "$status" -eq "$wanted" ] || why="exit status $status: $(cat complained)"
+    while [ -z "$why" ] && [ $# -gt 0 ]; do
+        case $1 in
+        *.pcap) got=$(hex "$1") ;;
+        *) got=$(cat "$1") ;;
+        esac
+        [ "$got" = "$2" ] || why="$1 is: $got"
+        shift 2
+    done
+    if [ -z "$why" ]; then
+        echo "ok $name"
+    else
+        failed=$((failed + 1))
+        printf 'not ok %s: %s\n' "$name" "$why"
+    fi
+}
+
+# ---- Switch 0x0001, which reaches 0x0009 over 0x0005, and frames for C2 to C9 and C12 of document 01 ----
+
+switch='01 0008 0001 020000000001'
+hop='02 000E 0009 0005 020000000005 00000001'
+octets "$switch $hop 03 0001 01" > strip
+cat > strip.txt <<TEXT
+# a switch
+$switch
+$hop	# its next hop
+03 00 01
+  01
+TEXT
+octets "$switch 02 000E 0009 0007 020000000007 00000007 02 000E 0009 0000 020000000008 00000008" > withdrawn
+
+received='020000000001 020000000002 22F3'
+sent='020000000005 020000000001 22F3'
+inner='020000000077 020000000088 8100 0005 0800 4500'
+zeros=$(printf '%0236d' 0)
+to_us='0001 0004'
+c2="$received 0000 $to_us $inner"
+c3="$received 0001 $to_us $inner"
+c4="$received 07C5 $to_us 00000000 45F6 $zeros $inner"
+c5="$received 07C5 $to_us 00000000 45F7 $zeros $inner"
+c6="$received 0105 $to_us 00000000 4587AAAA AAAAAAAA AA000000 $inner"
+c7="$received 0105 0009 0004 00000000 41820007 4583AABB CC000000 $inner"
+c7_sent="$sent 0084 0009 0004 00000000 41820007 $inner"
+c8="$received 00C5 $to_us 00000000 41820007 41820008 $inner"
+c9="$received 0005 $to_us 020000000077 020000000088 8100 0FFF 0800 4500"
+transit="$received 0001 0009 0004 $inner"
+transit_sent="$sent 0000 0009 0004 $inner"
+channel="$received 0005 0001 0009 0180C2000042 020000000009 8100 0001 8946"
+reply="$sent 003F 0009 0001 0180C2000042 020000000001 8100 0001 8946"
+echo_asked="$channel 0FF8 4000 30000001 02 00 000001000002 000000000000"
+echo_sent="$reply 0FF8 C000 40000001 02 00 000001000002"
+
+cases() {
+    number=0
+    for frame in "$c2" "$c3" "$c4" "$c5" "$c6" "$c7" "$c8" "$c9" "$transit"; do
+        number=$((number + 1))
+        record $((1700000000 + number)) $((number * $1)) "$frame"
+    done
+}
+
+summary='    frames
+         9  read
+         9  handled, by answer:
+         1    17 hop count 0
+         2    19 options area not well formed
+         1    23 inner tag type not 0x8100, or VLAN 0 or 4,095
+         2    50 forwarded
+         3    51 delivered
+         2  written, 88 octets'
+
+# format NAME MAGIC ORDER UNIT: the cases in that format; UNIT sets the fractions of the time stamps
+format() {
+    magic=$2 order=$3
+    octets "$(header 65535; cases "$4")" > "in-$1.pcap"
+    expected=$(header 2048; record 1700000006 $((6 * $4)) "$c7_sent"; record 1700000009 $((9 * $4)) "$transit_sent")
+    run 0 strip "in-$1.pcap" out.pcap
+    judge "C2 to C9, $1" out.pcap "$expected" said "$summary" complained ''
+}
+format nano-be a1b23c4d be 111111111
+format nano-le a1b23c4d le 111111111
+format micro-be a1b2c3d4 be 111111
+format micro-le a1b2c3d4 le 111111
+
+# From here on microseconds, little-endian.
+run 0 strip.txt in-micro-le.pcap text.pcap
+judge 'settings in hex text' text.pcap "$expected" said "$summary"
+run 0 -v withdrawn in-micro-le.pcap none.pcap
+judge 'C12, and -v' none.pcap "$(header 2048)" said "1 1700000001.111111 40 octets: 17 hop count 0; hop count 0, egress 0001, ingress 0004
+2 1700000002.222222 40 octets: 51 delivered; hop count 1, egress 0001, ingress 0004; part at octet 20, 20 octets
+3 1700000003.333333 164 octets: 51 delivered; hop count 5, egress 0001, ingress 0004; part at octet 144, 20 octets
+4 1700000004.444444 164 octets: 19 options area not well formed; hop count 5, egress 0001, ingress 0004
+5 1700000005.555555 56 octets: 51 delivered; hop count 5, egress 0001, ingress 0004; part at octet 36, 20 octets
+6 1700000006.666666 56 octets: 21 not the egress and no next hop; hop count 5, egress 0009, ingress 0004
+7 1700000007.777777 52 octets: 19 options area not well formed; hop count 5, egress 0001, ingress 0004
+8 1700000008.888888 40 octets: 23 inner tag type not 0x8100, or VLAN 0 or 4,095; hop count 5, egress 0001, ingress 0004
+9 1700000009.999999 40 octets: 21 not the egress and no next hop; hop count 1, egress 0009, ingress 0004
+    frames
+         9  read
+         9  handled, by answer:
+         1    17 hop count 0
+         2    19 options area not well formed
+         2    21 not the egress and no next hop
+         1    23 inner tag type not 0x8100, or VLAN 0 or 4,095
+         3    51 delivered
+         0  written, 0 octets"
+
+octets "$(header 65535; record 7 8 "$echo_asked")" > echo.pcap
+run 0 -c 0000010000aF strip echo.pcap out.pcap
+judge 'the clock' out.pcap "$(header 2048; record 7 8 "$echo_sent 0000010000AF")"
+run 0 strip echo.pcap out.pcap
+judge 'no clock' out.pcap "$(header 2048; record 7 8 "$echo_sent 000000000000")"
+
+run 0 strip - out.pcap < in-micro-le.pcap
+judge 'standard input' out.pcap "$expected" said "$summary"
+run 0 strip in-micro-le.pcap -
+mv said out.pcap
+judge 'standard output' out.pcap "$expected" complained "$summary"
+
+octets "$(header 65535; record 1 2 ''; record 3 4 "$received 0005"; record 5 6 "$(printf '%04098d' 0)")" > odd.pcap
+run 0 -v strip odd.pcap out.pcap
+judge 'frames without a TRILL header' said '1 1.000002 0 octets: 10 link header or TRILL header cut short
+2 3.000004 16 octets: 10 link header or TRILL header cut short
+3 5.000006 2049 octets: 3 frame over 2,048 octets
+    frames
+         3  read
+         3  handled, by answer:
+         1     3 frame over 2,048 octets
+         2    10 link header or TRILL header cut short
+         0  written, 0 octets'
+
+octets "$(header 40; record 1 2 "$transit" 41; record 3 4 "$transit")" > snapped.pcap
+run 0 -v strip snapped.pcap out.pcap
+judge 'a snapped frame' out.pcap "$(header 2048; record 3 4 "$transit_sent")" said '1 1.000002 41 octets: snapped at 40, not handled
+2 3.000004 40 octets: 50 forwarded; hop count 1, egress 0009, ingress 0004; 40 octets written
+    frames
+         2  read
+         1  snapped: captured in part only, so not handled
+         1  handled, by answer:
+         1    50 forwarded
+         1  written, 40 octets'
+
+octets "$(header 65535 0x24000001; record 1 2 "$transit DEADBEEF"; record 3 4 "$transit" 44; record 5 6 "$transit" 45; record 7 8 AABBCC)" > fcs.pcap
+run 0 strip fcs.pcap out.pcap
+judge 'frames with FCS' out.pcap "$(header 2048; record 1 2 "$transit_sent"; record 3 4 "$transit_sent")" said '    frames
+         4  read
+            (each without its FCS of 4 octets)
+         1  snapped: captured in part only, so not handled
+         3  handled, by answer:
+         1    10 link header or TRILL header cut short
+         2    50 forwarded
+         2  written, 80 octets'
+octets "$(header 65535 0x50000001; record 1 2 "$transit")" > reserved.pcap
+run 0 strip reserved.pcap out.pcap
+judge 'FCS bits that are not in force' out.pcap "$(header 2048; record 1 2 "$transit_sent")"
+
+# ---- Damaged captures: what was done is kept ----
+
+# damaged NAME WHERE OCTETS: a good record, then the octets; WHERE is the end of the message
+damaged() {
+    octets "$(header 65535; record 3 4 "$transit")$3" > "$1.pcap"
+    run 1 strip "$1.pcap" out.pcap
+    judge "damaged, $1" out.pcap "$(header 2048; record 3 4 "$transit_sent")" \
+        complained "trill-replay: $1.pcap: record 2 at offset 80: $2" said '    frames
+         1  read
+         1  handled, by answer:
+         1    50 forwarded
+         1  written, 40 octets'
+}
+damaged header-cut 'record header cut short, 7 of 16 octets' 01000000020000
+damaged frame-cut 'frame cut short, 2 of 40 octets' "$(u32 5; u32 6; u32 40; u32 40)0200"
+damaged no-frame 'frame cut short, 0 of 40 octets' "$(u32 5; u32 6; u32 40; u32 40)"
+damaged absurd 'captured length 4294967295 is over 262144' "$(u32 5; u32 6; u32 0xffffffff; u32 0xffffffff)0200"
+damaged over 'captured length 2 is over the original length 1' "$(u32 5; u32 6; u32 2; u32 1)0200"
+
+# ---- Files that are refused, and an older output that stays ----
+
+# refused NAME MESSAGE OCTETS
+refused() {
+    octets "$3" > refused.pcap
+    printf 'older' > kept
+    run 1 strip refused.pcap kept
+    judge "refused, $1" kept older complained "trill-replay: refused.pcap: $2" said ''
+}
+refused 'pcapng' 'a pcapng file; convert it with: editcap -F pcap IN OUT, or -F nsecpcap for nanoseconds' '0A0D0D0A 1C000000 4D3C2B1A 01000000'
+refused 'gzip' 'a gzip file; unpack it first, as with: gzip -dc IN.pcap.gz | trill-replay SETTINGS - OUT' '1F8B0800 00000000'
+refused 'text' 'not a classic pcap file: it begins with 68 65 6C 6C' '68656C6C 6F20776F 726C640A'
+refused 'a short file header' 'file header cut short: 20 of 24 octets' "$(header 65535 | cut -c 1-40)"
+refused 'link type 113' 'link type 113: only captures of Ethernet, link type 1, are read' "$(header 65535 113)"
+refused 'version 2.3' 'pcap version 2.3: only version 2.4 is read; convert with: editcap -F pcap IN OUT' \
+    "$(header 65535 | sed 's/02000400/02000300/')"
+: > empty
+run 1 strip empty kept
+judge 'refused, an empty file' kept older complained 'trill-replay: empty: an empty file, not a capture'
+run 1 strip absent kept
+judge 'refused, no file' kept older complained 'trill-replay: absent: No such file or directory'
+
+cp in-micro-le.pcap same.pcap
+ln same.pcap link.pcap
+run 2 strip same.pcap link.pcap
+judge 'the output is the input' same.pcap "$(hex in-micro-le.pcap)" complained 'trill-replay: link.pcap: is the input, too'
+run 2 strip.txt same.pcap ./strip.txt
+judge 'the output is the settings file' complained 'trill-replay: ./strip.txt: is the settings file, too'
+
+# ---- Settings and words that are refused ----
+
+# settings NAME MESSAGE TEXT
+settings() {
+    printf '%b' "$3" > wrong
+    run 1 wrong in-micro-le.pcap kept
+    judge "settings, $1" kept older complained "trill-replay: wrong: $2" said ''
+}
+settings 'no hex digit' 'line 2, column 4: octet 47 is no hex digit (and raw settings begin with octet 01)' '# 0G\n01 G'
+settings 'half an octet' 'line 1, column 7: an octet of one digit' '01 00 8\n'
+settings 'half an octet at a comment' 'line 1, column 4: an octet of one digit' '01 0# a\n'
+settings 'half an octet at the end' 'line 2, column 1: an octet of one digit' '01\n0'
+settings 'nothing' 'no settings in it' '# nothing\n'
+settings 'a bad field' 'line 3: field 2, at octet 11, with tag 2: bad settings by document 01' \
+    "# a\n$switch\n02 000E 0000 0005 020000000005 00000001\n"
+settings 'a field cut short' 'line 2: field 2, at octet 11, with tag 3: bad settings by document 01' "$switch\n03 00"
+settings 'a bad switch' 'line 1: field 1, at octet 0, with tag 1: bad settings by document 01' '01 0008 FFC0 020000000001'
+octets "$switch $hop $hop" > wrong
+run 1 wrong in-micro-le.pcap kept
+judge 'settings, a serial twice' complained 'trill-replay: wrong: field 3, at octet 28, with tag 2: bad settings by document 01'
+
+run 2 strip in-micro-le.pcap
+judge 'too few words' said ''
+run 2 -c 00000100000 strip in-micro-le.pcap kept
+judge 'a clock of 11 digits' kept older complained 'trill-replay: 00000100000: a clock has 12 hex digits'
+run 2 -c 00000100000G strip in-micro-le.pcap kept
+judge 'a clock that is not hex' kept older complained 'trill-replay: 00000100000G: a clock has 12 hex digits'
+run 0 -h
+judge 'help' complained ''
+
+# ---- A longer capture, and writing that fails ----
+
+octets "$(record 1 2 "$transit")" > records
+for doubling in 1 2 3 4 5 6 7 8 9 10 11 12 13 14; do
+    cat records records > twice
+    mv twice records
+done
+octets "$(header 65535)" > long.pcap
+cat records >> long.pcap
+run 0 strip long.pcap out.pcap
+judge '16,384 frames' complained '' said '    frames
+     16384  read
+     16384  handled, by answer:
+     16384    50 forwarded
+     16384  written, 655360 octets'
+run 1 strip long.pcap /dev/full
+judge 'no room on the device' complained 'trill-replay: /dev/full: No space left on device'
+{ "$tool" strip long.pcap - 2> complained; echo $? > ended; } | :
+status=$(cat ended) wanted=1
+head -n 1 complained > first
+judge 'a closed pipe' first 'trill-replay: -: Broken pipe'
+"$tool" strip long.pcap out.pcap > /dev/full 2> complained
+status=$?
+judge 'no room for the summary' complained 'trill-replay: summary: No space left on device'
+
+[ "$failed" -eq 0 ]
