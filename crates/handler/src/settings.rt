@@ -56,17 +56,6 @@ fn newer(d: u16, best: Ruling, v: &[u8]) -> Ruling
     Ruling::Found(q)
 }
 
-// The same, for the field at a place.
-fn ruled(s: &[u8], at: usize, tag: u8, next: usize, d: u16, best: Ruling) -> Ruling
-    requires { ⌜ (at + 3 ≤ next) × (next ≤ length (now s)) ⌝ }
-    ensures { λ r. ⌜ r ≡ ruledBy d best (field tag (part (now (s .entry)) (at + 3) (next - (at + 3)))) ⌝ }
-{
-    if tag != 2 {
-        return best;
-    }
-    newer(d, best, &s[at + 3..next])
-}
-
 // Whether a field is a record of 14 octets: 17 in all, a step that does not wait for the length read.
 fn is_hop(tag: u8, size: usize) -> bool
     ensures { λ r. ⌜ (r ≡ true → (tag ≡ 2) × (size ≡ 14)) ⌝ }
@@ -102,7 +91,9 @@ fn ruling_from(s: &[u8], from: usize, d: u16) -> Ruling
         if passed(s, at, tag, length, d) {
             at += 17;
         } else {
-            best = ruled(s, at, tag, next, d, best);
+            if tag == 2 {
+                best = newer(d, best, &s[at + 3..next]);
+            }
             at = next;
         }
     }
