@@ -5,6 +5,7 @@ use mathlib.Core.List.{List, [], _∷_, _++_, foldl, foldl-append}
 use mathlib.Core.Bool.{Bool, true, false, not, true≢false}
 use Prim.Native.Nat.{ℕ, suc, _+_, _-_, _≤_, _<_}
 use native.Mathlib.Omega.{arith}
+use borrow.Author.Needs.{needs}
 use borrow.Author.Tests.{lt-ltb, le-ltb, ltb-true, ltb-false, eq-eqb, ne-eqb, eqb-true, eqb-false}
 use lib.Dec.{ltb, eqb}
 use lib.ListN.{length}
@@ -14,11 +15,13 @@ use Rattle.rules.specs.Settings.{Settings, newer, ruling, nextHop, switchOf, ho
 use Rattle.rules.specs.declared.NextHop.{NextHop}
 use Rattle.rules.specs.declared.Ruling.{Ruling}
 use Rattle.rules.specs.declared.Ruling.the-variants.{Found, Absent}
+use Rattle.rules.specs.declared.FieldRead.{FieldRead}
 use Rattle.rules.specs.declared.FieldRead.the-variants.{Taken, Cut}
 use Rattle.rules.proofs.TestLaws.{by-test}
 use Rattle.rules.proofs.OctetLaws.{be16-part}
 use Rattle.rules.proofs.FieldLaws.{field-read, fields-end, fields-cut, fields-on}
 use Rattle.handler.specs.Shapes.{ownOf, ruledBy, flaggedBy, FoldedFrom}
+use Rattle.handler.proofs.Taken.{its, taken}
 use Rattle.handler.proofs.JudgeLaws.{with-hop, with-other, first}
 
 -- the record that rules once one more is seen
@@ -48,9 +51,12 @@ module _ (d : ℕ) (best : Ruling) where
   ruled-cut = refl
 
   module _ (tag : ℕ) (v : List ℕ) where
-    pub ruled-hop : tag ≡ 2 → newer d best (hopOf v) ≡ ruledBy d best (field tag v)
+    ruled-hop : tag ≡ 2 → newer d best (hopOf v) ≡ ruledBy d best (field tag v)
     unfolding ruledBy
     ruled-hop e = rw e
+
+    pub ruled-newer : (r : Ruling) → r ≡ newer d best (hopOf v) → tag ≡ 2 → r ≡ ruledBy d best (field tag v)
+    ruled-newer r is e = is ∙ ruled-hop e
 
     pub ruled-other : (tag ≡ 2 → ⊥) → best ≡ ruledBy d best (field tag v)
     unfolding ruledBy
@@ -102,36 +108,47 @@ module _ {A : Type 0} (step : A → Field → A) (start : A) (s : List ℕ) (fro
         let l = w .left g k in
         ap (foldl step acc) (sym (fields-end (l .fuel) s at h)) ∙ l .gives
 
-    module _ (h : at < length s) where
-      pub fold-cut : fieldAt s at ≡ Cut → step acc cut ≡ acc → FoldedFrom step start s from acc
+    module _ (h : at < length s) (read : FieldRead) (f : read ≡ fieldAt s at) where
+      pub fold-cut : read ≡ Cut → step acc cut ≡ acc → FoldedFrom step start s from acc
       fold-cut e c g k =
           let l = w .left g k in
-          sym c ∙ ap (foldl step acc) (sym (fields-cut (l .fuel) s at h e)) ∙ l .gives
+          sym c ∙ ap (foldl step acc) (sym (fields-cut (l .fuel) s at h (sym f ∙ e))) ∙ l .gives
 
-      pub fold-on : (tag size next : ℕ) → fieldAt s at ≡ Taken tag size next → (acc′ : A) → acc′ ≡ step acc (field tag (part s (at + 3) (next - (at + 3)))) → Folding step start s from next acc′
-      fold-on tag size next e acc′ a =
-          let i = field-read s at tag size next e in
-          let the-size : next - (at + 3) ≡ size = omega (arith, i) in
-          record {
-            within = i .within;
-            left = λ g k.
-                let l = w .left g k in
-                let less : suc (l .fuel - 1) ≡ l .fuel = omega (arith, l .enough) in
-                record {
-                  fuel = l .fuel - 1;
-                  enough = omega (arith, l .enough, i);
-                  gives = rw (a, the-size, less) (ap (foldl step acc) (sym (fields-on (l .fuel) s at tag size next h e)) ∙ l .gives);
-                };
-          }
+      module _ (tag size next : ℕ) (t : read ≡ Taken tag size next) where
+        pub fold-on : (acc′ : A) → acc′ ≡ step acc (field tag (part s (at + 3) (next - (at + 3)))) → Folding step start s from next acc′
+        fold-on acc′ a =
+            let i = its s at tag size next read t f in
+            let the-size : next - (at + 3) ≡ size = omega (arith, i) in
+            record {
+              within = i .within;
+              left = λ g k.
+                  let l = w .left g k in
+                  let less : suc (l .fuel - 1) ≡ l .fuel = omega (arith, l .enough) in
+                  record {
+                    fuel = l .fuel - 1;
+                    enough = omega (arith, l .enough, i);
+                    gives = rw (a, the-size, less) (ap (foldl step acc) (sym (fields-on (l .fuel) s at tag size next h (sym f ∙ t))) ∙ l .gives);
+                  };
+            }
 
-      -- a field that changes nothing and has `width` octets in all
-      pub fold-over : (tag size next : ℕ) → fieldAt s at ≡ Taken tag size next → (width : ℕ) → width ≡ 3 + size → acc ≡ step acc (field tag (part s (at + 3) size))
-          → Folding step start s from (at + width) acc
-      fold-over tag size next e width w′ same =
-          let i = field-read s at tag size next e in
-          let ends : at + width ≡ next = omega (arith, i) in
-          let the-size : next - (at + 3) ≡ size = omega (arith, i) in
-          rw ends (fold-on tag size next e acc (rw the-size same))
+        -- a record that changes nothing
+        fold-over : size ≡ 14 → acc ≡ step acc (field tag (part s (at + 3) size)) → Folding step start s from (at + 17) acc
+        fold-over k same =
+            let i = its s at tag size next read t f in
+            let ends : at + 17 ≡ next = omega (arith, i) in
+            let the-size : next - (at + 3) ≡ size = omega (arith, i) in
+            rw ends (fold-on acc (rw the-size same))
+
+module _ (s : List ℕ) (from at : ℕ) (h : at < length s) (read : FieldRead) (f : read ≡ fieldAt s at) (tag size next : ℕ) (t : read ≡ Taken tag size next) (b : Bool) (is : b ≡ true) where
+  pub ruled-over : (d : ℕ) (best : Ruling) → Folding (ruledBy d) Absent s from at best → (b ≡ true → Passed d s at tag size) → Folding (ruledBy d) Absent s from (at + 17) best
+  ruled-over d best w p = fold-over (ruledBy d) Absent s from at best w h read f tag size next t (p is .0) (p is .1 best)
+
+  pub flagged-over : (strip : Bool) → Folding flaggedBy false s from at strip → (b ≡ true → (tag ≡ 2) × (size ≡ 14)) → Folding flaggedBy false s from (at + 17) strip
+  flagged-over strip w p = fold-over flaggedBy false s from at strip w h read f tag size next t (p is .1) (flagged-other strip tag _ (omega (arith, p is .0)))
+
+pub ruleset ruling-from-laws = (needs, fold-begin, fold-end, fold-cut, fold-on, taken, ruled-cut, ruled-newer, ruled-other, ruled-over)
+
+pub ruleset flag-from-laws = (needs, fold-begin, fold-end, fold-cut, fold-on, taken, flagged-cut, flagged-over)
 
 -- the settings read, by the first field
 opened-cut : opened cut ≡ switchOf []

@@ -1,12 +1,13 @@
 -- What the loop over the settings fields keeps, from the first field to the verdict: the records read so far and the keys met agree, and the
 -- rest of the fields decides as the whole does. By one law of fields and of settings for each step. Assumes nothing.
-use mathlib.Core.Path.{_≡_, refl, _∙_}
+use mathlib.Core.Path.{_≡_, refl, sym, _∙_}
 use mathlib.Core.List.{List, [], _∷_, _++_}
-use mathlib.Core.Bool.{Bool, true, false, _&&_, _||_, or-assoc}
+use mathlib.Core.Bool.{Bool, true, false, not, _&&_, _||_, or-assoc}
 use mathlib.Core.Option.{Option, none, some}
 use Prim.Native.Nat.{ℕ, suc, _+_, _-_, _<_, _≤_}
 use native.Mathlib.Omega.{arith}
-use borrow.Author.Tests.{ltb-true, ltb-false, eqb-true, eqb-false, ne-eqb, le-leb, lt-leb}
+use borrow.Author.Needs.{needs}
+use borrow.Author.Tests.{ltb-true, ltb-false, eqb-true, eqb-false, ne-eqb, le-leb, lt-leb, not-true, not-false}
 use lib.Dec.{ltb, eqb}
 use lib.ListN.{length, take, replicate, length-replicate, length-append}
 use lib.Seq.{length-take-le}
@@ -15,12 +16,14 @@ use Rattle.rules.specs.Fields.{Field, field, cut, fieldAt, fieldsFrom, fields, 
 use Rattle.rules.specs.Settings.{Settings, hopOf, serialMet, withField, opens, opened, continues, settingsFrom, settingsOf}
 use Rattle.rules.specs.Campus.{known}
 use Rattle.rules.specs.declared.NextHop.{NextHop}
+use Rattle.rules.specs.declared.FieldRead.{FieldRead}
 use Rattle.rules.specs.declared.FieldRead.the-variants.{Taken, Cut}
 use Rattle.rules.proofs.TestLaws.{by-test, and-no, or-no}
 use Rattle.rules.proofs.OctetLaws.{length-part}
 use Rattle.rules.proofs.FieldLaws.{field-read, fields-end, fields-cut, fields-on}
 use Rattle.rules.proofs.SettingsLaws.{from-on, from-bad}
 use Rattle.handler.specs.Keys.{keyOf, keyMet, Kept, hopTaken, flagTaken, fieldTaken, withKey, keysWith, Taking, Verdict}
+use Rattle.handler.proofs.Taken.{taken}
 use Rattle.handler.proofs.KeyLaws.{met-snoc, key-same, keys-hop, keys-other, refused, unchanged, hop-long, taking-hop, field-flag, flag-length}
 
 serial-snoc : (r q : NextHop) (hops : List NextHop)
@@ -159,11 +162,14 @@ module _ {s : List ℕ} {from : ℕ} {keys seen : List ℕ} {n at : ℕ} (j : Ju
   pub ends : length s ≤ at → Verdict s from true
   ends h T g e k = rest-end s (settingsFrom T (fieldsFrom (suc g) s from)) (take n keys) at (j .rest T g e k) h
 
-  module _ (h : at < length s) where
-    pub cut-off : fieldAt s at ≡ Cut → Verdict s from false
-    cut-off c T g e k = rest-cut s (settingsFrom T (fieldsFrom (suc g) s from)) (take n keys) at (j .rest T g e k) h c
+  module _ (h : at < length s) {read : FieldRead} (q : read ≡ fieldAt s at) where
+    pub cut-off : read ≡ Cut → Verdict s from false
+    cut-off c T g e k = rest-cut s (settingsFrom T (fieldsFrom (suc g) s from)) (take n keys) at (j .rest T g e k) h (sym q ∙ c)
 
-    module _ {tag size next : ℕ} (f : fieldAt s at ≡ Taken tag size next) where
+    module _ {tag size next : ℕ} (taken : read ≡ Taken tag size next) where
+      f : fieldAt s at ≡ Taken tag size next
+      f = sym q ∙ taken
+
       the-size : next - (at + 3) ≡ size
       the-size = omega (arith, field-read s at tag size next f)
 
@@ -194,7 +200,7 @@ module _ {s : List ℕ} {from : ℕ} {keys seen : List ℕ} {n at : ℕ} (j : Ju
         pub hop-stops : 64 < r → Verdict s from false
         hop-stops = stops (taking-hop (take n keys) n tag v two t)
 
-        pub hop-next : r ≤ 64 → at + 17 ≡ next
+        hop-next : r ≤ 64 → at + 17 ≡ next
         hop-next b =
             let fourteen = hop-long (take n keys) n v (t .judged ∙ le-leb r 64 b) in
             omega (arith, fourteen, long, field-read s at tag size next f)
@@ -207,15 +213,24 @@ module _ {s : List ℕ} {from : ℕ} {keys seen : List ℕ} {n at : ℕ} (j : Ju
         as-flag : {b : Bool} → flagTaken tag v ≡ b → fieldTaken (take n keys) n tag v ≡ b
         as-flag e = field-flag (take n keys) n tag v other ∙ e
 
-        pub flag-stops : flagTaken tag v ≡ false → Verdict s from false
-        flag-stops e = stops (refused {keys = keys} {seen = seen} (as-flag e)) (omega arith)
+        module _ {good : Bool} (is : good ≡ flagTaken tag v) where
+          pub flag-stops : not good ≡ true → Verdict s from false
+          flag-stops n = stops (refused {keys = keys} {seen = seen} (as-flag (sym is ∙ not-true good n))) (omega arith)
 
-        module _ (e : flagTaken tag v ≡ true) where
-          pub flag-next : at + 4 ≡ next
-          flag-next = omega (arith, flag-length tag v e, long, field-read s at tag size next f)
+          pub flag-on : not good ≡ false → Judging s from keys seen n (at + 4)
+          flag-on b =
+              let e = sym is ∙ not-false good b in
+              let ends : at + 4 ≡ next = omega (arith, flag-length tag v e, long, field-read s at tag size next f) in
+              rw ends (goes-on (unchanged (j .kept) (as-flag e) (keys-other (take n keys) tag v other)) (j .kept .few))
 
-          pub flag-on : Judging s from keys seen n (at + 4)
-          flag-on = rw flag-next (goes-on (unchanged (j .kept) (as-flag e) (keys-other (take n keys) tag v other)) (j .kept .few))
+-- what is lent of the keys is whole
+pub keys-count : {keys seen : List ℕ} {n : ℕ} → Kept keys seen n → 64 ≡ length keys
+keys-count k = sym (k .keys-long)
+
+pub seen-count : {keys seen : List ℕ} {n : ℕ} → Kept keys seen n → 256 ≡ length seen
+seen-count k = sym (k .seen-long)
+
+pub ruleset fields-good-laws = (needs, taken, begins, ends, cut-off, hop-stops, hop-on, flag-stops, flag-on, keys-count, seen-count)
 
 -- the first field
 module _ (s : List ℕ) (f : Field) (fs : List Field) (is : fields s ≡ f ∷ fs) where

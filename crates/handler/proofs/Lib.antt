@@ -5,6 +5,7 @@ pub mod Strips
 pub mod Ways
 pub mod Rests
 pub mod Bodies
+pub mod Taken
 pub mod KeyLaws
 pub mod JudgeLaws
 pub mod FieldWalks
