@@ -29,11 +29,12 @@ fn length_of(w: u16) -> u8
     (w & 127) as u8
 }
 
+// The two leading octets and the data, rounded up to four octets by one mask.
 fn option_size(size: u8) -> usize
     requires { ⌜ size < 128 ⌝ }
     ensures { λ r. ⌜ r ≡ O.optionSize size ⌝ }
 {
-    (2 + size as usize + 3) / 4 * 4
+    (size as usize + 2 + 3) & 0xFC
 }
 
 // One option, or what is wrong with it. `floor` is one more than the key before, and 0 at the first.
