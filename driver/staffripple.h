@@ -109,7 +109,9 @@ struct trill_answer {
  *               tag 1, length 8    own nickname 2, own MAC 6: once, and first
  *               tag 2, length 14   next hop: destination nickname 2, neighbour nickname 2 (0 withdraws the
  *                                  destination), neighbour MAC 6, serial 4: up to 64
- *               tag 3, length 1    strip flag, 0 or 1: the last one counts, 0 if there is none
+ *               tag 3, length 1    strip flag, 0 or 1: the last one counts, 0 if there is none. With 1 a forwarded
+ *                                  frame loses its unknown mutable hop-by-hop options (IE 0, NC 1, MT 1; not a
+ *                                  pad, nor a Flow ID of Length 2)
  *             Anything else is bad settings; document 01 has the rules of the values. Of a destination's
  *             records the one with the greatest serial rules.
  *   clock     TRILL_CLOCK octets, put into the time received of an echo reply

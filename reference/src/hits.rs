@@ -1,14 +1,34 @@
-//! Counts how often generated inputs meet each answer, cause and refusal.
+//! Counts how often generated inputs meet each answer, cause and refusal, and
+//! says what they meet too rarely.
+
+mod expected;
 
 use std::collections::BTreeMap;
 use std::fmt;
 
-use crate::generate::{campus_input, handle_input, part_input};
+use crate::generate::{campus_input, handle_input, part_input, HandleInput};
+use crate::header::Header;
+use crate::octets::u16_at;
 use crate::{explain, explain_run, part, Cause, Fault};
 
-/// Properties of accepted runs and of parts that inputs should have.
+/// Nine-bit key of the Flow ID, and its Length.
+const FLOW_ID: u16 = 0x083;
+const FLOW_ID_LENGTH: u16 = 2;
+const MAX_LENGTH: u16 = 118;
+
+/// Properties of forwarded frames, of parts and of accepted runs that inputs
+/// must have.
 #[derive(Clone, Copy, Debug, PartialEq, Eq, PartialOrd, Ord)]
 pub enum Feature {
+    /// The strip flag takes another option out and leaves the Flow ID in.
+    FlowIdStays,
+    /// An option with the Flow ID's key is taken out: of Length 0 or 1, of 3 or
+    /// more, of the greatest Length.
+    ShorterFlowIdGoes,
+    LongerFlowIdGoes,
+    LongestFlowIdGoes,
+    /// Without the strip flag such an option is copied.
+    OtherFlowIdCopied,
     /// A part with octets, an empty one within the frame, one not within it.
     PartFull,
     PartEmpty,
@@ -57,6 +77,22 @@ impl Hits {
         let mut out = vec![0; input.room];
         let (_, cause) = explain(&input.frame, &input.settings, &input.clock, &mut out);
         *self.handle.entry(cause).or_default() += 1;
+        if matches!(cause, Cause::Forwarded | Cause::ForwardedStripped) {
+            self.count_flow_id(&input, &out, cause == Cause::ForwardedStripped);
+        }
+    }
+
+    fn count_flow_id(&mut self, input: &HandleInput, out: &[u8], stripped: bool) {
+        let Some(length) = flow_id_length(&input.frame) else {
+            return;
+        };
+        let gone = stripped && flow_id_length(out).is_none();
+        let other = length != FLOW_ID_LENGTH;
+        self.feature(Feature::FlowIdStays, stripped && !gone);
+        self.feature(Feature::ShorterFlowIdGoes, gone && length < FLOW_ID_LENGTH);
+        self.feature(Feature::LongerFlowIdGoes, gone && length > FLOW_ID_LENGTH);
+        self.feature(Feature::LongestFlowIdGoes, gone && length == MAX_LENGTH);
+        self.feature(Feature::OtherFlowIdCopied, other && !gone);
     }
 
     fn count_part(&mut self, seed: u64, index: u64) {
@@ -116,6 +152,50 @@ impl Hits {
         }
         codes
     }
+
+    /// A line for all that must be met and is met fewer than `least` times, and
+    /// for all that is met and is not expected.
+    pub fn shortfalls(&self, least: u64) -> Vec<String> {
+        let mut lines = rare(least, &self.handle, expected::causes());
+        lines.extend(rare(least, &self.numbers(), expected::numbers()));
+        lines.extend(rare(least, &self.refusals, expected::REFUSALS));
+        lines.extend(rare(least, &self.codes(), expected::codes()));
+        lines.extend(rare(least, &self.entries, expected::entries()));
+        lines.extend(rare(least, &self.features, expected::FEATURES));
+        lines
+    }
+}
+
+fn rare<K: Ord + Copy + fmt::Debug>(
+    least: u64,
+    hits: &BTreeMap<K, u64>,
+    expected: impl IntoIterator<Item = K>,
+) -> Vec<String> {
+    let mut left = hits.clone();
+    let mut lines = Vec::new();
+    for key in expected {
+        let hits = left.remove(&key).unwrap_or_default();
+        if hits < least {
+            lines.push(format!("{key:?} is met {hits} times"));
+        }
+    }
+    lines.extend(left.keys().map(|key| format!("{key:?} is not expected")));
+    lines
+}
+
+/// Length of the option with the Flow ID's key in a frame that is forwarded.
+fn flow_id_length(frame: &[u8]) -> Option<u16> {
+    let header = Header::read(frame).ok()?;
+    let mut rest = frame[header.area_at()..header.inner_at()].get(4..)?;
+    while !rest.is_empty() {
+        let head = u16_at(rest, 0);
+        let length = head & 0x7F;
+        if head >> 7 == FLOW_ID {
+            return Some(length);
+        }
+        rest = &rest[(usize::from(length) + 2).next_multiple_of(4)..];
+    }
+    None
 }
 
 impl fmt::Display for Hits {

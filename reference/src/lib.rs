@@ -1,6 +1,6 @@
 //! Independent reference of the Staffripple TRILL frame handler.
 //!
-//! Written from document 01 alone. [`handle`] answers one received frame,
+//! Written from documents 01 and 02 alone. [`handle`] answers one received frame,
 //! [`part`] hands back a delivered part of it, [`run`] runs a campus of
 //! switches over one frame and [`text`] prints that run.
 //!

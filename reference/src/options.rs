@@ -8,8 +8,9 @@ const IE: u16 = 1 << 8;
 const NC: u16 = 1 << 7;
 const TYPE: u16 = 0x3F << 1;
 const MT: u16 = 1;
-/// Type 0x01 with IE 0, NC 1, MT 1.
+/// Type 0x01 with IE 0, NC 1, MT 1; of another Length it is no Flow ID.
 const FLOW_ID: u16 = NC | 0x01 << 1 | MT;
+const FLOW_ID_LENGTH: u16 = 2;
 /// Type 0x20 with NC 1, whatever IE and MT are.
 const PAD: u16 = NC | 0x20 << 1;
 /// First of the reserved Lengths.
@@ -26,10 +27,12 @@ pub(crate) struct Summary {
     pub removable: bool,
 }
 
-/// Key and octets of the first TLV option in `rest`.
+/// Head and octets of the first TLV option in `rest`.
 struct TlvOption {
     /// The nine high bits.
     key: u16,
+    /// Octets of data.
+    length: u16,
     /// Two leading octets, data and padding.
     size: usize,
 }
@@ -47,14 +50,15 @@ impl TlvOption {
         if size > rest.len() {
             return Err(Cause::OptionPastArea);
         }
-        Ok(TlvOption { key, size })
+        Ok(TlvOption { key, length, size })
     }
 
     /// Hop-by-hop, non-critical, mutable and not implemented.
     #[inline]
     fn removable(&self) -> bool {
-        let implemented = self.key == FLOW_ID || self.key & (NC | TYPE) == PAD;
-        self.key & (IE | NC | MT) == NC | MT && !implemented
+        let flow_id = self.key == FLOW_ID && self.length == FLOW_ID_LENGTH;
+        let pad = self.key & (NC | TYPE) == PAD;
+        self.key & (IE | NC | MT) == NC | MT && !flow_id && !pad
     }
 }
 

@@ -239,7 +239,7 @@ fn mt(key: u16) -> u16
     key & 1
 }
 
-// Flow ID, or pad, of any Length.
+// Flow ID, of Length 2, or pad, of any Length.
 fn implemented(key: u16, size: u8) -> bool
     ensures { λ r. ⌜ r ≡ O.implemented key size ⌝ }
 {
@@ -255,7 +255,10 @@ fn implemented(key: u16, size: u8) -> bool
     if ie(key) != 0 {
         return false;
     }
-    mt(key) == 1
+    if mt(key) != 1 {
+        return false;
+    }
+    size == 2
 }
 
 fn strippable(key: u16, size: u8) -> bool

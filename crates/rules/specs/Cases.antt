@@ -101,6 +101,10 @@ areaTaken name word area = delivers name settings1 (frameTo word (hex "0001") ar
 abbrev pub areaRefused : String → List ℕ → List ℕ → Case
 areaRefused name word area = drops name settings1 (frameTo word (hex "0001") area inner) 19
 
+-- forwarded to 0x0005 with the strip flag set: first word and area before and after
+abbrev pub strips : String → List ℕ → List ℕ → List ℕ → List ℕ → Case
+strips name word area word′ area′ = writes name settings1Strip (frameTo word (hex "0009") area inner) 50 5 (frameSent word′ area′ inner)
+
 abbrev pub zeros : ℕ → List ℕ
 zeros n = replicate n 0
 
@@ -212,20 +216,8 @@ cases =
     ∷ areaRefused "C6 Length 6 in three" (hex "0105") (hex "00000000 4586AAAA AAAAAAAA 00000000")
     ∷ areaRefused "C6 Length 7 in two words" (hex "00C5") (hex "00000000 4587AAAA AAAAAAAA")
     ∷ areaTaken "C6 Length 7 in three" (hex "0105") (hex "00000000 4587AAAA AAAAAAAA AA000000")
-    ∷ writes
-    "C7 stripped"
-    settings1Strip
-    (frameTo (hex "0105") (hex "0009") (hex "00000000 41820007 4583AABB CC000000") inner)
-    50
-    5
-    (frameSent (hex "0084") (hex "00000000 41820007") inner)
-    ∷ writes
-    "C7 an immutable option stays"
-    settings1Strip
-    (frameTo (hex "0105") (hex "0009") (hex "00000000 41820007 4503AABB CC0000EE") inner)
-    50
-    5
-    (frameSent (hex "0104") (hex "00000000 41820007 4503AABB CC0000EE") inner)
+    ∷ strips "C7 stripped" (hex "0105") (hex "00000000 41820007 4583AABB CC000000") (hex "0084") (hex "00000000 41820007")
+    ∷ strips "C7 an immutable option stays" (hex "0105") (hex "00000000 41820007 4503AABB CC0000EE") (hex "0104") (hex "00000000 41820007 4503AABB CC0000EE")
     ∷ writes
     "C7 without the flag"
     settings1
@@ -249,4 +241,22 @@ cases =
     ∷ writes "C12 serials 7 and 8" (settingsC12 (live7 ++ live8)) frameC12 50 8 (sentC12 (hex "020000000008"))
     ∷ writes "C12 serials 8 and 7" (settingsC12 (live8 ++ live7)) frameC12 50 8 (sentC12 (hex "020000000008"))
     ∷ drops "C12 serial 8 twice" (settingsC12 (live8 ++ withdrawn8)) frameC12 1
+    ∷ strips "T-03 Flow ID of Length 0" (hex "0085") (hex "00000000 41800000") (hex "0044") (hex "00000000")
+    ∷ strips "T-03 Flow ID of Length 1" (hex "0085") (hex "00000000 4181AA00") (hex "0044") (hex "00000000")
+    ∷ strips "T-03 Flow ID of Length 2" (hex "0085") (hex "00000000 4182AAAA") (hex "0084") (hex "00000000 4182AAAA")
+    ∷ strips "T-03 Flow ID of Length 3" (hex "00C5") (hex "00000000 4183AAAA AA000000") (hex "0044") (hex "00000000")
+    ∷ strips "T-03 the probe, Length 5" (hex "00C5") (hex "00000000 4185AAAA AAAAAA00") (hex "0044") (hex "00000000")
+    ∷ strips "T-03 Flow ID of Length 118" (hex "07C5") (hex "00000000 41F6" ++ zeros 118) (hex "0044") (hex "00000000")
+    ∷ strips "T-03 MT 0, Length 2" (hex "0085") (hex "00000000 4102AAAA") (hex "0084") (hex "00000000 4102AAAA")
+    ∷ strips "T-03 MT 0, Length 5" (hex "00C5") (hex "00000000 4105AAAA AAAAAA00") (hex "00C4") (hex "00000000 4105AAAA AAAAAA00")
+    ∷ strips "T-03 IE 1, Length 2" (hex "0085") (hex "00000000 C182AAAA") (hex "0084") (hex "00000000 C182AAAA")
+    ∷ strips "T-03 IE 1, Length 5" (hex "00C5") (hex "00000000 C185AAAA AAAAAA00") (hex "00C4") (hex "00000000 C185AAAA AAAAAA00")
+    ∷ strips "T-03 pad of Length 5" (hex "00C5") (hex "00000000 6085AAAA AAAAAA00") (hex "00C4") (hex "00000000 6085AAAA AAAAAA00")
+    ∷ writes
+    "T-03 the probe without the flag"
+    settings1
+    (frameTo (hex "00C5") (hex "0009") (hex "00000000 4185AAAA AAAAAA00") inner)
+    50
+    5
+    (frameSent (hex "00C4") (hex "00000000 4185AAAA AAAAAA00") inner)
     ∷ []

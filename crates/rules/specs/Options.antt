@@ -107,10 +107,11 @@ summarized area (options os) =
 unfoldable pub areaRead : List ℕ → AreaRead
 areaRead area = summarized area (optionsOf area)
 
--- "Implemented: Flow ID, which is Type 0x01 with IE 0, NC 1, MT 1; and pad, Type 0x20 with NC 1." Of any Length.
+-- "Implemented: Flow ID, which is Type 0x01 with IE 0, NC 1, MT 1; and pad, Type 0x20 with NC 1."
+-- T-03: "source document 001 fixes the length at 2", that of a Flow ID; a pad is of any Length.
 unfoldable pub implemented : ℕ → ℕ → Bool
 implemented key size =
-    (eqb (typeOf key) 0x01 && eqb (ie key) 0 && eqb (nc key) 1 && eqb (mt key) 1)
+    (eqb (typeOf key) 0x01 && eqb (ie key) 0 && eqb (nc key) 1 && eqb (mt key) 1 && eqb size 2)
     || (eqb (typeOf key) 0x20 && eqb (nc key) 1)
 
 -- "loses each option that has IE 0, NC 1, MT 1 and isn't implemented"

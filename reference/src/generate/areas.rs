@@ -3,6 +3,10 @@
 use super::rng::Rng;
 
 const FLOW_ID: u16 = 0x083;
+/// Other Types and flags beside the Flow ID's, none of them critical.
+const BESIDE_FLOW_ID: [u16; 6] = [0x080, 0x081, 0x082, 0x084, 0x085, 0x183];
+/// Greatest Length that is not reserved.
+const MAX_LENGTH: usize = 118;
 /// Keys with NC 1: hop-by-hop, then ingress-to-egress.
 const NON_CRITICAL: [u16; 2] = [0x080, 0x180];
 const CRITICAL: [u16; 2] = [0x000, 0x100];
@@ -30,6 +34,19 @@ impl TlvOption {
             length: (most - spare) as u16,
             rest: rng.octets(most),
         }
+    }
+
+    /// An option with this Length and no word more than it needs.
+    fn of_length(rng: &mut Rng, key: u16, length: usize) -> Self {
+        TlvOption {
+            key,
+            length: length as u16,
+            rest: rng.octets((length + 2).next_multiple_of(4) - 2),
+        }
+    }
+
+    fn words(&self) -> usize {
+        (2 + self.rest.len()) / 4
     }
 }
 
@@ -122,11 +139,37 @@ fn words(rng: &mut Rng) -> usize {
 
 /// Well formed and without a critical summary bit; often empty.
 pub(super) fn carried(rng: &mut Rng) -> Vec<u8> {
-    if rng.one_in(3) {
-        return Vec::new();
+    match rng.below(6) {
+        0 | 1 => Vec::new(),
+        2 => flow_id(rng),
+        _ => {
+            let words = words(rng);
+            Area::new(rng, words, false).octets()
+        }
     }
-    let words = words(rng);
-    Area::new(rng, words, false).octets()
+}
+
+/// The Flow ID's Type and flags, or others beside them, with any Length, among
+/// other options where there is room.
+pub(super) fn flow_id(rng: &mut Rng) -> Vec<u8> {
+    let key = if rng.one_in(3) {
+        rng.pick(&BESIDE_FLOW_ID)
+    } else {
+        FLOW_ID
+    };
+    let length = match rng.below(8) {
+        0 | 1 => rng.below(8),
+        2..5 => 2,
+        5 => MAX_LENGTH,
+        _ => rng.below(MAX_LENGTH + 1),
+    };
+    let option = TlvOption::of_length(rng, key, length);
+    let words = 1 + rng.below(32 - option.words());
+    let mut area = Area::new(rng, words, false);
+    area.options.retain(|other| other.key != key);
+    area.options.push(option);
+    area.options.sort_by_key(|option| option.key);
+    area.octets()
 }
 
 /// Well formed with one or both summary bits set, with or without a TLV option

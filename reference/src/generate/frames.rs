@@ -281,6 +281,9 @@ fn transit(rng: &mut Rng, site: &Site) -> Vec<u8> {
         0 => site.unreachable(rng),
         _ => site.reachable(rng),
     };
+    if rng.one_in(2) {
+        draft = draft.with_area(areas::flow_id(rng));
+    }
     draft.octets()
 }
 

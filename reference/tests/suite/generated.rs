@@ -3,157 +3,28 @@
 
 use crate::support::ask;
 use reference::generate::{campus_input, handle_input, part_input};
-use reference::hits::{Feature, Hits};
-use reference::Silence::{ErrorCode, ErrorProtocol, OwnIngress, ReplyMode, SilentFlag};
-use reference::{handle, part, run, text, Cause, Fault, Silence};
+use reference::hits::Hits;
+use reference::{handle, part, run, text};
 
 const COUNT: u64 = 100_000;
 const LEAST: u64 = 100;
-
-const SETTINGS_FAULTS: [Fault; 14] = [
-    Fault::HeadCut,
-    Fault::ValueCut,
-    Fault::UnknownTag,
-    Fault::Length,
-    Fault::BeforeSwitch,
-    Fault::NotSettings,
-    Fault::OwnNickname,
-    Fault::OwnMac,
-    Fault::Destination,
-    Fault::Neighbour,
-    Fault::NeighbourMac,
-    Fault::StripFlag,
-    Fault::Records,
-    Fault::SerialMet,
-];
-
-const PLAIN_CAUSES: [Cause; 38] = [
-    Cause::ClockLength,
-    Cause::OutputRoom,
-    Cause::FrameSize,
-    Cause::LinkCut,
-    Cause::TagCut,
-    Cause::NotTrill,
-    Cause::TrillCut,
-    Cause::OuterDestination,
-    Cause::Version,
-    Cause::MultiDestination,
-    Cause::Ingress,
-    Cause::Egress,
-    Cause::HopCount,
-    Cause::AreaPastFrame,
-    Cause::ReservedLength,
-    Cause::OptionPastArea,
-    Cause::EqualKeys,
-    Cause::FallingKeys,
-    Cause::UnsummedHopByHop,
-    Cause::UnsummedToEgress,
-    Cause::CriticalHopByHop,
-    Cause::CriticalToEgress,
-    Cause::NoNextHop,
-    Cause::Forwarded,
-    Cause::ForwardedStripped,
-    Cause::InnerCut,
-    Cause::InnerTag,
-    Cause::Vlan,
-    Cause::AnyRbridgeUnicast,
-    Cause::Delivered,
-    Cause::HandedUp,
-    Cause::ErrorField,
-    Cause::ErrorHeard,
-    Cause::EchoShort,
-    Cause::EchoLong,
-    Cause::EchoKind,
-    Cause::EchoHeard,
-    Cause::EchoReply,
-];
-
-/// Every cause of an answer of one handling.
-fn causes() -> Vec<Cause> {
-    let mut causes: Vec<Cause> = SETTINGS_FAULTS.map(Cause::Settings).to_vec();
-    causes.extend(PLAIN_CAUSES);
-    causes.extend([ReplyMode, OwnIngress, Silence::NoNextHop].map(Cause::EchoUnsent));
-    for code in 1..=5 {
-        causes.push(Cause::ErrorReply(code));
-        causes.extend([OwnIngress, Silence::NoNextHop].map(|why| Cause::ErrorUnsent(code, why)));
-    }
-    for code in 4..=5 {
-        causes.extend([SilentFlag, ErrorCode].map(|why| Cause::ErrorUnsent(code, why)));
-    }
-    causes.push(Cause::ErrorUnsent(4, ErrorProtocol));
-    causes
-}
-
-const REFUSALS: [Fault; 21] = [
-    Fault::FileSize,
-    Fault::HeadCut,
-    Fault::ValueCut,
-    Fault::UnknownTag,
-    Fault::Length,
-    Fault::BeforeSwitch,
-    Fault::SecondClock,
-    Fault::AfterFrame,
-    Fault::NoFrame,
-    Fault::OwnNickname,
-    Fault::OwnMac,
-    Fault::Destination,
-    Fault::Neighbour,
-    Fault::NeighbourMac,
-    Fault::StripFlag,
-    Fault::NicknameMet,
-    Fault::Switches,
-    Fault::Records,
-    Fault::SerialMet,
-    Fault::EntryUnknown,
-    Fault::TraceRoom,
-];
-
-/// Answers within a run, original and reply.
-const ORIGINALS: [u32; 26] = [
-    10, 11, 12, 13, 14, 15, 16, 17, 18, 19, 20, 21, 22, 23, 24, 25, 26, 27, 28, 50, 51, 52, 53, 54,
-    55, 56,
-];
-const REPLIES: [u32; 6] = [12, 17, 21, 50, 55, 56];
-
-const FEATURES: [Feature; 9] = [
-    Feature::PartFull,
-    Feature::PartEmpty,
-    Feature::PartOutside,
-    Feature::PartWraps,
-    Feature::LeftCampus,
-    Feature::ReplyTravels,
-    Feature::Handled64OrMore,
-    Feature::Handled80,
-    Feature::GreatestFile,
-];
-
-/// Every key is met often enough, and no other is met.
-fn assert_met<K: Ord + Copy + std::fmt::Debug>(
-    hits: &std::collections::BTreeMap<K, u64>,
-    expected: impl IntoIterator<Item = K>,
-) {
-    let mut expected: Vec<K> = expected.into_iter().collect();
-    expected.sort();
-    let met: Vec<K> = hits.keys().copied().collect();
-    assert_eq!(met, expected);
-    for (key, &hits) in hits {
-        assert!(hits >= LEAST, "{key:?} is met {hits} times");
-    }
-}
 
 #[test]
 fn every_answer_cause_and_refusal_is_met() {
     let hits = Hits::count(1, COUNT);
     println!("{hits}");
-    assert_met(&hits.handle, causes());
-    let numbers = (1..=3).chain(10..=28).chain(50..=56);
-    assert_met(&hits.numbers(), numbers);
-    assert_met(&hits.refusals, REFUSALS);
-    assert_met(&hits.codes(), std::iter::once(0).chain(40..=49));
-    let originals = ORIGINALS.map(|number| (number, false));
-    let replies = REPLIES.map(|number| (number, true));
-    assert_met(&hits.entries, originals.into_iter().chain(replies));
-    assert_met(&hits.features, FEATURES);
+    assert_eq!(hits.shortfalls(LEAST), [""; 0]);
+}
+
+#[test]
+fn what_is_met_too_rarely_is_named() {
+    let hits = Hits::count(1, 1000);
+    assert_eq!(hits.shortfalls(0), [""; 0]);
+    let rare = hits.shortfalls(LEAST);
+    assert!(rare
+        .iter()
+        .any(|line| line.starts_with("GreatestFile is met")));
+    assert!(!rare.iter().any(|line| line.starts_with("PartFull is met")));
 }
 
 #[test]

@@ -205,12 +205,46 @@ fn stays(option: &str) -> bool {
     left == hex(&whole)
 }
 
+/// Octets of an area of one word and one option under the strip flag.
+fn left_of(option: &str) -> (usize, usize) {
+    let whole = format!("00000000 {option}");
+    (hex(&whole).len(), stripped(&whole).len())
+}
+
 #[test]
-fn flow_id_of_any_length() {
-    assert!(stays("41820007"));
-    assert!(stays("41800000"));
-    assert!(stays("41830007 01000000"));
-    assert!(stays("41860007 01020304"));
+fn flow_id_of_another_length_goes() {
+    assert_eq!(left_of("41800000"), (8, 4));
+    assert_eq!(left_of("41810000"), (8, 4));
+    assert_eq!(left_of("41820007"), (8, 8));
+    assert_eq!(left_of("41830102 03000000"), (12, 4));
+    assert_eq!(left_of("41850102 03040500"), (12, 4));
+    // Other flags with the same Type, and pad, stay with any Length.
+    assert_eq!(left_of("41020007"), (8, 8));
+    assert_eq!(left_of("C1820007"), (8, 8));
+    assert_eq!(left_of("41050102 03040500"), (12, 12));
+    assert_eq!(left_of("C1850102 03040500"), (12, 12));
+    assert_eq!(left_of("60850102 03040500"), (12, 12));
+}
+
+#[test]
+fn flow_id_of_each_length() {
+    for length in 0..=118_usize {
+        let octets = (length + 2).next_multiple_of(4);
+        let option = format!("41{:02X} {}", 0x80 | length, "5A".repeat(octets - 2));
+        let left = if length == 2 { octets } else { 0 };
+        assert_eq!(left_of(&option), (4 + octets, 4 + left), "Length {length}");
+    }
+}
+
+#[test]
+fn flow_id_of_another_length_is_copied_without_the_flag() {
+    let rest = format!("0003 0001 00000000 41850102 03040500 {PLAIN}");
+    let expected = format!("020000000003 020000000002 22F3 00C4 {rest}");
+    let frame = hex(&format!("{LINK} 00C5 {rest}"));
+    assert_eq!(sent(&frame), (50, hex(&expected)));
+    let stripped = format!("020000000003 020000000002 22F3 0044 0003 0001 00000000 {PLAIN}");
+    let settings = format!("{SWITCH} {STRIP}");
+    assert_eq!(sent_at(&frame, &settings), (50, hex(&stripped)));
 }
 
 #[test]
@@ -274,9 +308,9 @@ fn first_word_stays() {
 #[test]
 fn order_octets_and_padding_stay() {
     let left = stripped(
-        "0000000A 41830102 03DEADBE 44820000 4585AABB CCDDEEFF 46030405 06BADBAD C7820809",
+        "0000000A 41030102 03DEADBE 44820000 4585AABB CCDDEEFF 46030405 06BADBAD C7820809",
     );
-    let expected = "0000000A 41830102 03DEADBE 46030405 06BADBAD C7820809";
+    let expected = "0000000A 41030102 03DEADBE 46030405 06BADBAD C7820809";
     assert_eq!(left, hex(expected));
 }
 

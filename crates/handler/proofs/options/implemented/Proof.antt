@@ -1,58 +1,54 @@
--- `handler::options::implemented` meets its contract, by its tests in their order. Assumes nothing.
-use mathlib.Core.Path.{_∙_, sym}
-use borrow.Author.Tests.{eq-eqb, ne-eqb}
-use Rattle.rules.specs.Options.{implemented, ie, nc, typeOf, mt}
-use Rattle.rules.proofs.TestLaws.{and-no, or-no, or-yes}
+-- `handler::options::implemented` meets its contract: one law for each way out, by its tests in their order. Assumes nothing.
+use mathlib.Core.Path.{_≡_, _∙_, sym}
+use mathlib.Core.Bool.{Bool, true, false}
+use Prim.Native.Nat.{ℕ}
 use borrow.Author.Needs.{needs}
+use borrow.Author.Tests.{eq-eqb, ne-eqb}
+use lib.Dec.{eqb}
+use Rattle.rules.specs.Options.{implemented, ie, nc, typeOf, mt}
+use Rattle.rules.proofs.TestLaws.{and-no, and-yes, or-no, or-yes}
 use Rattle.handler.proofs.options.implemented.Statement.{statement}
 use Rattle.handler.proofs.options.implemented.Tie as tie
 
-nc-requires : tie.Need-nc-requires
-nc-requires c κs = search needs
+module _ (key size : ℕ) {n : ℕ} (is-nc : n ≡ nc key) where
+  critical : (n ≡ 1 → ⊥) → false ≡ implemented key size
+  unfolding implemented
+  critical h = simp (ne-eqb (nc key) 1 (λ e. h (is-nc ∙ e)), and-no)
 
-returns : tie.Need-returns
-unfolding implemented
-returns c = simp (ne-eqb (nc (c .before .before .args .key)) 1 (λ h. c .if1 .taken (c .before .nc .ensures ∙ h)), and-no)
+  module _ (one : n ≡ 1) {t : ℕ} (is-type : t ≡ typeOf key) where
+    pad : t ≡ 0x20 → true ≡ implemented key size
+    unfolding implemented
+    pad e = simp (eq-eqb (nc key) 1 (sym is-nc ∙ one), eq-eqb (typeOf key) 0x20 (sym is-type ∙ e), or-yes)
 
-type-of-requires : tie.Need-type-of-requires
-type-of-requires c κs = search needs
+    module _ (no-pad : t ≡ 0x20 → ⊥) {u : ℕ} (is-type-2 : u ≡ typeOf key) where
+      other : (u ≡ 0x01 → ⊥) → false ≡ implemented key size
+      unfolding implemented
+      other h = simp (ne-eqb (typeOf key) 0x20 (λ e. no-pad (is-type ∙ e)), ne-eqb (typeOf key) 0x01 (λ e. h (is-type-2 ∙ e)))
 
-returns-2 : tie.Need-returns-2
-unfolding implemented
-returns-2 c = simp (eq-eqb (nc (c .before .before .before .before .args .key)) 1 (sym (c .before .before .before .nc .ensures) ∙ (c .before .before .if1 .left)), eq-eqb (typeOf (c .before .before .before .before .args .key)) 0x20 (sym (c .before .type-of .ensures) ∙ (c .if2 .taken)), or-yes)
+      module _ (flow : u ≡ 0x01) {i : ℕ} (is-ie : i ≡ ie key) where
+        ingress : (i ≡ 0 → ⊥) → false ≡ implemented key size
+        unfolding implemented
+        ingress h = simp (ne-eqb (typeOf key) 0x20 (λ e. no-pad (is-type ∙ e)), ne-eqb (ie key) 0 (λ e. h (is-ie ∙ e)), and-no)
 
-type-of-requires-2 : tie.Need-type-of-requires-2
-type-of-requires-2 c κs = search needs
+        module _ (hop : i ≡ 0) {m : ℕ} (is-mt : m ≡ mt key) where
+          immutable : (m ≡ 1 → ⊥) → false ≡ implemented key size
+          unfolding implemented
+          immutable h = simp (ne-eqb (typeOf key) 0x20 (λ e. no-pad (is-type ∙ e)), ne-eqb (mt key) 1 (λ e. h (is-mt ∙ e)), and-no)
 
-returns-3 : tie.Need-returns-3
-unfolding implemented
-returns-3 c = simp (ne-eqb (typeOf (c .before .before .before .before .before .before .args .key)) 0x20 (λ h. c .before .before .if2 .left (c .before .before .before .type-of .ensures ∙ h)), ne-eqb (typeOf (c .before .before .before .before .before .before .args .key)) 0x01 (λ h. c .if3 .taken (c .before .type-of2 .ensures ∙ h)))
+          flow-id : m ≡ 1 → eqb size 2 ≡ implemented key size
+          unfolding implemented
+          flow-id e = simp (
+            ne-eqb (typeOf key) 0x20 (λ e. no-pad (is-type ∙ e)),
+            eq-eqb (typeOf key) 0x01 (sym is-type-2 ∙ flow),
+            eq-eqb (ie key) 0 (sym is-ie ∙ hop),
+            eq-eqb (nc key) 1 (sym is-nc ∙ one),
+            eq-eqb (mt key) 1 (sym is-mt ∙ e),
+            or-no,
+          )
 
-ie-requires : tie.Need-ie-requires
-ie-requires c κs = search needs
-
-returns-4 : tie.Need-returns-4
-unfolding implemented
-returns-4 c = simp (ne-eqb (typeOf (c .before .before .before .before .before .before .before .before .args .key)) 0x20 (λ h. c .before .before .before .before .if2 .left (c .before .before .before .before .before .type-of .ensures ∙ h)), ne-eqb (ie (c .before .before .before .before .before .before .before .before .args .key)) 0 (λ h. c .if4 .taken (c .before .ie .ensures ∙ h)), and-no)
-
-mt-requires : tie.Need-mt-requires
-mt-requires c κs = search needs
-
-returns-5 : tie.Need-returns-5
-unfolding implemented
-returns-5 c = simp (ne-eqb (typeOf (c .before .before .before .before .before .before .before .before .before .args .key)) 0x20 (λ h. c .before .before .before .before .before .if2 .left (c .before .before .before .before .before .before .type-of .ensures ∙ h)), eq-eqb (typeOf (c .before .before .before .before .before .before .before .before .before .args .key)) 0x01 (sym (c .before .before .before .before .type-of2 .ensures) ∙ (c .before .before .before .if3 .left)), eq-eqb (ie (c .before .before .before .before .before .before .before .before .before .args .key)) 0 (sym (c .before .before .ie .ensures) ∙ (c .before .if4 .left)), eq-eqb (nc (c .before .before .before .before .before .before .before .before .before .args .key)) 1 (sym (c .before .before .before .before .before .before .before .before .nc .ensures) ∙ (c .before .before .before .before .before .before .before .if1 .left)), c .mt .ensures, or-no)
+ruleset laws = (needs, critical, pad, other, ingress, immutable, flow-id)
 
 pub implemented-spec : {M : Type 1} → statement M
-implemented-spec =
-    tie.close
-    (tie.spec
-    nc-requires
-    returns
-    type-of-requires
-    returns-2
-    type-of-requires-2
-    returns-3
-    ie-requires
-    returns-4
-    mt-requires
-    returns-5)
+implemented-spec = tie.close (tie.spec
+    (λ c κs. search laws) (λ c. search laws) (λ c κs. search laws) (λ c. search laws) (λ c κs. search laws) (λ c. search laws)
+    (λ c κs. search laws) (λ c. search laws) (λ c κs. search laws) (λ c. search laws) (λ c. search laws))

@@ -1,0 +1,143 @@
+//! What generated inputs must meet.
+
+use super::Feature;
+use crate::Silence::{ErrorCode, ErrorProtocol, OwnIngress, ReplyMode, SilentFlag};
+use crate::{Cause, Fault, Silence};
+
+const SETTINGS_FAULTS: [Fault; 14] = [
+    Fault::HeadCut,
+    Fault::ValueCut,
+    Fault::UnknownTag,
+    Fault::Length,
+    Fault::BeforeSwitch,
+    Fault::NotSettings,
+    Fault::OwnNickname,
+    Fault::OwnMac,
+    Fault::Destination,
+    Fault::Neighbour,
+    Fault::NeighbourMac,
+    Fault::StripFlag,
+    Fault::Records,
+    Fault::SerialMet,
+];
+
+const PLAIN_CAUSES: [Cause; 38] = [
+    Cause::ClockLength,
+    Cause::OutputRoom,
+    Cause::FrameSize,
+    Cause::LinkCut,
+    Cause::TagCut,
+    Cause::NotTrill,
+    Cause::TrillCut,
+    Cause::OuterDestination,
+    Cause::Version,
+    Cause::MultiDestination,
+    Cause::Ingress,
+    Cause::Egress,
+    Cause::HopCount,
+    Cause::AreaPastFrame,
+    Cause::ReservedLength,
+    Cause::OptionPastArea,
+    Cause::EqualKeys,
+    Cause::FallingKeys,
+    Cause::UnsummedHopByHop,
+    Cause::UnsummedToEgress,
+    Cause::CriticalHopByHop,
+    Cause::CriticalToEgress,
+    Cause::NoNextHop,
+    Cause::Forwarded,
+    Cause::ForwardedStripped,
+    Cause::InnerCut,
+    Cause::InnerTag,
+    Cause::Vlan,
+    Cause::AnyRbridgeUnicast,
+    Cause::Delivered,
+    Cause::HandedUp,
+    Cause::ErrorField,
+    Cause::ErrorHeard,
+    Cause::EchoShort,
+    Cause::EchoLong,
+    Cause::EchoKind,
+    Cause::EchoHeard,
+    Cause::EchoReply,
+];
+
+/// Every cause of an answer of one handling.
+pub(super) fn causes() -> Vec<Cause> {
+    let mut causes: Vec<Cause> = SETTINGS_FAULTS.map(Cause::Settings).to_vec();
+    causes.extend(PLAIN_CAUSES);
+    causes.extend([ReplyMode, OwnIngress, Silence::NoNextHop].map(Cause::EchoUnsent));
+    for code in 1..=5 {
+        causes.push(Cause::ErrorReply(code));
+        causes.extend([OwnIngress, Silence::NoNextHop].map(|why| Cause::ErrorUnsent(code, why)));
+    }
+    for code in 4..=5 {
+        causes.extend([SilentFlag, ErrorCode].map(|why| Cause::ErrorUnsent(code, why)));
+    }
+    causes.push(Cause::ErrorUnsent(4, ErrorProtocol));
+    causes
+}
+
+pub(super) const REFUSALS: [Fault; 21] = [
+    Fault::FileSize,
+    Fault::HeadCut,
+    Fault::ValueCut,
+    Fault::UnknownTag,
+    Fault::Length,
+    Fault::BeforeSwitch,
+    Fault::SecondClock,
+    Fault::AfterFrame,
+    Fault::NoFrame,
+    Fault::OwnNickname,
+    Fault::OwnMac,
+    Fault::Destination,
+    Fault::Neighbour,
+    Fault::NeighbourMac,
+    Fault::StripFlag,
+    Fault::NicknameMet,
+    Fault::Switches,
+    Fault::Records,
+    Fault::SerialMet,
+    Fault::EntryUnknown,
+    Fault::TraceRoom,
+];
+
+/// Answers within a run to an original, and to a reply.
+const ORIGINALS: [u32; 26] = [
+    10, 11, 12, 13, 14, 15, 16, 17, 18, 19, 20, 21, 22, 23, 24, 25, 26, 27, 28, 50, 51, 52, 53, 54,
+    55, 56,
+];
+const REPLIES: [u32; 6] = [12, 17, 21, 50, 55, 56];
+
+/// Answers within runs, each with whether a reply is answered so.
+pub(super) fn entries() -> impl Iterator<Item = (u32, bool)> {
+    let originals = ORIGINALS.into_iter().map(|number| (number, false));
+    originals.chain(REPLIES.into_iter().map(|number| (number, true)))
+}
+
+/// Answers of one handling.
+pub(super) fn numbers() -> impl Iterator<Item = u32> {
+    (1..=3).chain(10..=28).chain(50..=56)
+}
+
+/// Codes of a campus call, 0 for an accepted description.
+pub(super) fn codes() -> impl Iterator<Item = u32> {
+    std::iter::once(0).chain(40..=49)
+}
+
+pub(super) const FEATURES: [Feature; 14] = [
+    Feature::FlowIdStays,
+    Feature::ShorterFlowIdGoes,
+    Feature::LongerFlowIdGoes,
+    Feature::LongestFlowIdGoes,
+    Feature::OtherFlowIdCopied,
+    Feature::PartFull,
+    Feature::PartEmpty,
+    Feature::PartOutside,
+    Feature::PartWraps,
+    Feature::LeftCampus,
+    Feature::ReplyTravels,
+    Feature::Handled64OrMore,
+    Feature::Handled80,
+    Feature::GreatestFile,
+];
