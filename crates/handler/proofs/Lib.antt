@@ -1,4 +1,5 @@
 pub mod Words
+pub mod TreatmentLaws
 pub mod Walks
 pub mod Stages
 pub mod Strips

@@ -1,61 +1,57 @@
 -- The stripping loop over lists: what was written, and what is kept of the options from a place on, is what is kept in all. Assumes nothing.
 use mathlib.Core.Path.{_≡_, refl, sym, ap, _∙_}
 use mathlib.Core.List.{List, [], _∷_, _++_, append-assoc, append-nil}
-use mathlib.Core.Bool.{true, false}
+use mathlib.Core.Bool.{Bool, true, false}
 use Prim.Native.Nat.{ℕ, suc, _+_, _-_, _≤_, _<_}
 use native.Mathlib.Omega.{arith}
 use native.Mathlib.Nat.{add-zero}
-use lib.ListN.{length, take, length-append}
+use borrow.Author.Needs.{needs}
+use lib.ListN.{length, take, getD, length-append}
 use lib.Seq.{length-take-le}
-use Rattle.rules.specs.Octets.{part, put}
-use Rattle.rules.specs.Options.{TlvOption, Options, options, fault, optionFirst, optionAt, optionsFrom, optionsOf, strippable, keptOptions, octetsOf, areaRead, stripped}
-use Rattle.rules.specs.declared.OptionFault.{OptionFault}
-use Rattle.rules.specs.declared.OptionRead.the-variants.{Taken, Fault}
+use Rattle.rules.specs.Octets.{be16, part, put}
+use Rattle.rules.specs.Options.{TlvOption, Options, options, keyOf, lengthOf, optionSize, optionsFrom, optionsOf, strippable, keptOptions, octetsOf, areaRead, stripped}
 use Rattle.rules.specs.declared.AreaRead.the-variants.{WellFormed}
 use Rattle.rules.proofs.TestLaws.{by-test}
 use Rattle.rules.proofs.OctetLaws.{put-none, put-put, length-put, length-part}
-use Rattle.rules.proofs.OptionLaws.{Read, option-read, options-end, options-fault, options-on, options-same, kept-nothing, kept-not, kept-too, area-well, stripped-is, stripped-shorter}
+use Rattle.rules.proofs.OptionLaws.{Read, Walked, ended, took, walked, options-end, options-same, kept-nothing, kept-not, kept-too, area-well, stripped-is, stripped-shorter}
 use Rattle.octets.specs.Copy.{putFitting}
 use Rattle.octets.proofs.Ends.{put-fits}
-use Rattle.handler.specs.Shapes.{keptOctets, keptFrom}
+use Rattle.handler.specs.Shapes.{keptIf, keptFrom}
+use Rattle.handler.specs.Treatment.{Treats, strippedBy}
 use Rattle.handler.proofs.Stages.{copied, after}
 
 -- what stays of one option
-module _ (key size : ℕ) (option : List ℕ) where
-  kept-gone : strippable key size ≡ true → keptOctets key size option ≡ []
-  unfolding keptOctets
-  kept-gone e = rw e
+module _ (out : List ℕ) (to : ℕ) (option : List ℕ) (stripped : Bool) where
+  pub gone-end : stripped ≡ true → to ≡ to + length (keptIf stripped option)
+  gone-end e = rw e (sym (add-zero to))
 
-  kept-there : strippable key size ≡ false → keptOctets key size option ≡ option
-  unfolding keptOctets
-  kept-there e = rw e
+  pub gone-put : stripped ≡ true → out ≡ put out to (keptIf stripped option)
+  gone-put e = rw e (sym (put-none out to))
 
-  pub kept-none : strippable key size ≡ true → (out : List ℕ) (to : ℕ) → (to ≡ to + length (keptOctets key size option)) × (out ≡ put out to (keptOctets key size option))
-  kept-none e out to = rw (kept-gone e) (sym (add-zero to), sym (put-none out to))
+  pub keep-end : stripped ≡ false → to + length option ≡ to + length (keptIf stripped option)
+  keep-end e = rw e
 
-  pub kept-all : strippable key size ≡ false → (out : List ℕ) (to : ℕ) (out′ : List ℕ) → out′ ≡ putFitting out to option → to + length option ≤ length out
-      → (to + length option ≡ to + length (keptOctets key size option)) × (out′ ≡ put out to (keptOctets key size option))
-  kept-all e out to out′ w fits = rw (kept-there e) (refl, w ∙ put-fits out to option fits)
+  pub keep-put : stripped ≡ false → (out′ : List ℕ) → out′ ≡ putFitting out to option → to + length option ≤ length out → out′ ≡ put out to (keptIf stripped option)
+  keep-put e out′ w fits = rw e (w ∙ put-fits out to option fits)
 
-  kept-short : length (keptOctets key size option) ≤ length option
-  kept-short = by-test (strippable key size) (λ e. rw (kept-gone e) (omega arith)) (λ e. rw (kept-there e) (omega arith))
+kept-short : (stripped : Bool) (option : List ℕ) → length (keptIf stripped option) ≤ length option
+kept-short true option = omega arith
+kept-short false option = omega arith
 
 -- what stays of an option and those after it
-kept-first : (o : TlvOption) (os : List TlvOption) → octetsOf (keptOptions (o ∷ os)) ≡ keptOctets (o .key) (o .size) (o .octets) ++ octetsOf (keptOptions os)
+kept-first : (o : TlvOption) (os : List TlvOption) → octetsOf (keptOptions (o ∷ os)) ≡ keptIf (strippable (o .key) (o .size)) (o .octets) ++ octetsOf (keptOptions os)
 unfolding octetsOf
-kept-first o os =
-    by-test (strippable (o .key) (o .size))
-    (λ e. rw (kept-not o os e, kept-gone (o .key) (o .size) (o .octets) e))
-    (λ e. rw (kept-too o os e, kept-there (o .key) (o .size) (o .octets) e))
+kept-first o os = by-test (strippable (o .key) (o .size)) (λ e. rw (kept-not o os e, e)) (λ e. rw (kept-too o os e, e))
 
 kept-empty : octetsOf (keptOptions []) ≡ []
 unfolding octetsOf
 kept-empty = rw kept-nothing
 
 -- the loop's state
-pub record Stripping (area out₀ : List ℕ) (from : ℕ) (out : List ℕ) (at floor to : ℕ) : Type 0 where
+pub record Stripping (area out₀ : List ℕ) (from : ℕ) (out : List ℕ) (at to : ℕ) : Type 0 where
   pub start : 4 ≤ at
   pub within : at ≤ length area
+  pub floor : ℕ
   pub fuel : ℕ
   pub enough : length area < at + suc fuel
   pub left : List TlvOption
@@ -67,14 +63,22 @@ pub record Stripping (area out₀ : List ℕ) (from : ℕ) (out : List ℕ) (at 
   pub rest : written ++ octetsOf (keptOptions left) ≡ keptFrom (optionsOf area)
   pub same : length out ≡ length out₀
 
+-- the next option, as it stands in the area
+record Next (area : List ℕ) (at fuel : ℕ) (left : List TlvOption) : Type 0 where
+  after : List TlvOption
+  fits : at + optionSize (lengthOf (be16 area at)) ≤ length area
+  others : optionsFrom fuel area (keyOf (be16 area at) + 1) (at + optionSize (lengthOf (be16 area at))) ≡ options after
+  first : left ≡ record { key = keyOf (be16 area at); size = lengthOf (be16 area at); octets = part area at (optionSize (lengthOf (be16 area at))) } ∷ after
+
 module _ (area out₀ : List ℕ) (from : ℕ) where
-  pub strip-begin : areaRead area ≡ WellFormed → 4 ≤ length area → Stripping area out₀ from out₀ 4 0 from
+  pub strip-begin : areaRead area ≡ WellFormed → 4 ≤ length area → Stripping area out₀ from out₀ 4 from
   unfolding optionsOf
   strip-begin e h =
       let w = area-well area e in
       record {
         start = omega arith;
         within = h;
+        floor = 0;
         fuel = length area;
         enough = omega arith;
         left = w .its-options;
@@ -87,74 +91,123 @@ module _ (area out₀ : List ℕ) (from : ℕ) where
         same = refl;
       }
 
-  module _ (room : from + length area ≤ length out₀ + 4) (out : List ℕ) (at floor to : ℕ) (s : Stripping area out₀ from out at floor to) where
-    pub strip-end : length area ≤ at → (to ≡ from + length (keptFrom (optionsOf area))) × (out ≡ put out₀ from (keptFrom (optionsOf area)))
-    strip-end h =
-        let none-left : s .left ≡ [] = options-same (s .left) [] (sym (s .next-ones) ∙ options-end (s .fuel) area floor at h) in
-        let all : s .written ≡ keptFrom (optionsOf area) = sym (append-nil (s .written)) ∙ ap (λ (x : List ℕ). s .written ++ x) (sym (ap (λ (os : List TlvOption). octetsOf (keptOptions os)) none-left ∙ kept-empty)) ∙ s .rest in
-        rw (← all) (s .place, s .is)
+  module _ (room : from + length area ≤ length out₀ + 4) (out : List ℕ) (at to : ℕ) (s : Stripping area out₀ from out at to) where
+    all-written : length area ≤ at → s .written ≡ keptFrom (optionsOf area)
+    all-written h =
+        let none-left : s .left ≡ [] = options-same (s .left) [] (sym (s .next-ones) ∙ options-end (s .fuel) area (s .floor) at h) in
+        sym (append-nil (s .written)) ∙ ap (λ (x : List ℕ). s .written ++ x) (sym (ap (λ (os : List TlvOption). octetsOf (keptOptions os)) none-left ∙ kept-empty)) ∙ s .rest
+
+    pub strip-ends : length area ≤ at → to ≡ from + length (keptFrom (optionsOf area))
+    strip-ends h = rw (← all-written h) (s .place)
+
+    pub strip-wrote : length area ≤ at → out ≡ put out₀ from (keptFrom (optionsOf area))
+    strip-wrote h = rw (← all-written h) (s .is)
+
+    pub strip-same : length out ≡ length out₀
+    strip-same = s .same
 
     module _ (h : at < length area) where
-      pub strip-fault : {X : Type 0} (kind : OptionFault) (place : ℕ) → optionAt area floor at ≡ Fault kind place → X
-      strip-fault kind place e =
-          let q : options (s .left) ≡ fault kind place = sym (s .next-ones) ∙ options-fault (s .fuel) area floor at kind place h e in
-          let z : _≡_ {A = ℕ} 0 1 = cc q in
-          absurd (omega arith)
+      next-option : Next area at (s .fuel) (s .left)
+      next-option = go (walked (s .fuel) area (s .floor) at (s .left) (s .next-ones))
+        where
+          go : Walked (s .fuel) area (s .floor) at (s .left) → Next area at (s .fuel) (s .left)
+          go (ended le is) = absurd (omega arith)
+          go (took key size next os lt r is f) =
+              let e : next ≡ at + optionSize size = r .ends in
+              let n : next - at ≡ optionSize size = omega (arith, e) in
+              record {
+                after = os;
+                fits = rw (r .its-size) (omega (arith, e, r .within));
+                others = rw (r .its-key, r .its-size, ← e) f;
+                first = rw (r .its-key, r .its-size, ← n) is;
+              }
 
-      module _ (key size next : ℕ) (e : optionAt area floor at ≡ Taken key size next) where
-        pub strip-read : Read area floor at key size next
-        strip-read = option-read area floor at key size next e
+      -- what the code reads there
+      module _ (w : ℕ) (word : w ≡ be16 area at) where
+        pub strip-key : (key : ℕ) → key ≡ keyOf w → key < 512
+        strip-key key k = omega (arith, k)
 
-        pub strip-fits : to + length (part area at (next - at)) ≤ length out
-        strip-fits =
-            let r = strip-read in
-            let l = length-part area at (next - at) (omega (arith, r .ends, r .within)) in
-            omega (arith, r .ends, r .within, l, s .place, s .fewer, s .same)
+        pub strip-length : (size : ℕ) → size ≡ lengthOf w → size < 128
+        strip-length size n = omega (arith, n)
 
-        following : (w : Options) → optionsFrom (s .fuel) area (key + 1) next ≡ w → (os : List TlvOption) × (w ≡ options os) × (s .left ≡ record { key = key; size = size; octets = part area at (next - at) } ∷ os)
-        following (options os) f =
-            let o : TlvOption = record { key = key; size = size; octets = part area at (next - at) } in
-            let on : options (s .left) ≡ options (o ∷ os) = sym (s .next-ones) ∙ options-on (s .fuel) area floor at key size next h e ∙ ap (optionFirst o) f in
-            (os, refl, options-same (s .left) (o ∷ os) on)
-        following (fault kind place) f =
-            let o : TlvOption = record { key = key; size = size; octets = part area at (next - at) } in
-            let on : options (s .left) ≡ fault kind place = sym (s .next-ones) ∙ options-on (s .fuel) area floor at key size next h e ∙ ap (optionFirst o) f in
-            let z : _≡_ {A = ℕ} 0 1 = cc on in
-            absurd (omega arith)
+        module _ (size : ℕ) (n : size ≡ lengthOf w) (step : ℕ) (long : step ≡ optionSize size) where
+          its-step : step ≡ optionSize (lengthOf (be16 area at))
+          its-step = long ∙ rw (n, word)
 
-        pub strip-step : (out′ : List ℕ) (to′ : ℕ) → to′ ≡ to + length (keptOctets key size (part area at (next - at))) → out′ ≡ put out to (keptOctets key size (part area at (next - at)))
-            → Stripping area out₀ from out′ next (key + 1) to′
-        strip-step out′ to′ et eo =
-            let r = strip-read in
-            let k : List ℕ = keptOctets key size (part area at (next - at)) in
-            let l = length-part area at (next - at) (omega (arith, r .ends, r .within)) in
-            let kl = kept-short key size (part area at (next - at)) in
-            let a = following (optionsFrom (s .fuel) area (key + 1) next) refl in
-            let f : suc (s .fuel - 1) ≡ s .fuel = omega (arith, s .enough, r .ends, r .within) in
-            let wl : length (s .written ++ k) ≡ length (s .written) + length k = length-append (s .written) k in
-            record {
-              start = omega (arith, s .start, r .ends);
-              within = r .within;
-              fuel = s .fuel - 1;
-              enough = omega (arith, s .enough, r .ends);
-              left = a .0;
-              next-ones = rw f (a .1);
-              written = s .written ++ k;
-              fewer = omega (arith, wl, kl, l, s .fewer, r .ends);
-              place = omega (arith, wl, et, s .place);
-              is = eo ∙ rw (s .is) (put-put out₀ from (s .written) (omega (arith, s .fewer, s .within)) to k (s .place) (omega (arith, s .place, s .fewer, kl, l, r .ends, r .within)));
-              rest = append-assoc (s .written) k (octetsOf (keptOptions (a .0))) ∙ ap (λ (x : List ℕ). s .written ++ x) (sym (kept-first (record { key = key; size = size; octets = part area at (next - at) }) (a .0)) ∙ ap (λ (os : List TlvOption). octetsOf (keptOptions os)) (sym (a .2))) ∙ s .rest;
-              same = ap length eo ∙ length-put out to k (omega (arith, s .same, s .place, s .fewer, kl, l, r .ends, r .within)) ∙ s .same;
-            }
+          pub strip-next : at + step ≤ length area
+          strip-next = omega (arith, its-step, next-option .fits)
+
+          pub strip-from : at ≤ at + step
+          strip-from = omega arith
+
+          pub strip-less : length area - (at + step) < length area - at
+          strip-less = omega (arith, its-step)
+
+          abbrev lent : List ℕ
+          lent = part area at (at + step - at)
+
+          its-part : length lent ≡ step
+          its-part = length-part area at (at + step - at) (omega (arith, strip-next)) ∙ omega arith
+
+          pub strip-fits : to + length lent ≤ length out
+          strip-fits = omega (arith, its-part, strip-next, s .place, s .fewer, s .same)
+
+          pub strip-on : (table : List ℕ) → Treats table → (key : ℕ) → key ≡ keyOf w → (gone : Bool) → gone ≡ strippedBy (getD table key 0) key size → (out′ : List ℕ) (to′ : ℕ)
+              → to′ ≡ to + length (keptIf gone lent) → out′ ≡ put out to (keptIf gone lent) → Stripping area out₀ from out′ (at + step) to′
+          strip-on table treats key ik gone ig out′ to′ et eo =
+              let a = next-option in
+              let k : List ℕ = keptIf gone lent in
+              let kl : length k ≤ length lent = kept-short gone lent in
+              let as-long : at + step - at ≡ optionSize (lengthOf (be16 area at)) = omega (arith, its-step) in
+              let f : suc (s .fuel - 1) ≡ s .fuel = omega (arith, s .enough, its-step, a .fits) in
+              let wl : length (s .written ++ k) ≡ length (s .written) + length k = length-append (s .written) k in
+              let gone-is : gone ≡ strippable (keyOf (be16 area at)) (lengthOf (be16 area at)) = ig ∙ treats .strip key size (omega (arith, ik)) ∙ rw (ik, n, word) in
+              let here : octetsOf (keptOptions (s .left)) ≡ k ++ octetsOf (keptOptions (a .after)) =
+              ap (λ (os : List TlvOption). octetsOf (keptOptions os)) (a .first)
+              ∙ kept-first (record { key = keyOf (be16 area at); size = lengthOf (be16 area at); octets = part area at (optionSize (lengthOf (be16 area at))) }) (a .after)
+              ∙ rw (← gone-is, ← as-long) in
+              record {
+                start = omega (arith, s .start);
+                within = strip-next;
+                floor = keyOf (be16 area at) + 1;
+                fuel = s .fuel - 1;
+                enough = omega (arith, s .enough, its-step);
+                left = a .after;
+                next-ones = rw (f, its-step) (a .others);
+                written = s .written ++ k;
+                fewer = omega (arith, wl, kl, its-part, s .fewer);
+                place = omega (arith, wl, et, s .place);
+                is = eo ∙ rw (s .is) (put-put out₀ from (s .written) (omega (arith, s .fewer, s .within)) to k (s .place) (omega (arith, s .place, s .fewer, kl, its-part, strip-next)));
+                rest = append-assoc (s .written) k (octetsOf (keptOptions (a .after))) ∙ ap (λ (x : List ℕ). s .written ++ x) (sym here) ∙ s .rest;
+                same = ap length eo ∙ length-put out to k (omega (arith, s .same, s .place, s .fewer, kl, its-part, strip-next)) ∙ s .same;
+              }
+
+pub ruleset keep-laws = (needs, gone-end, gone-put, keep-end, keep-put)
+
+pub ruleset strip-options-laws = (needs, strip-begin, strip-ends, strip-wrote, strip-same, strip-key, strip-length, strip-next, strip-from, strip-less, strip-fits, strip-on)
 
 -- a whole area: its first word, then what is kept
 pub strip-whole : (area : List ℕ) → areaRead area ≡ WellFormed → stripped area ≡ take 4 area ++ keptFrom (optionsOf area)
 strip-whole area e = let w = area-well area e in stripped-is area (w .its-options) (w .are) ∙ rw (w .are)
 
-pub strip-both : (area d d1 d2 : List ℕ) (base end : ℕ) → areaRead area ≡ WellFormed → 4 ≤ length area → base + length area ≤ length d → d1 ≡ putFitting d base (take 4 area)
-    → end ≡ base + 4 + length (keptFrom (optionsOf area)) → d2 ≡ put d1 (base + 4) (keptFrom (optionsOf area)) → (end - base ≡ length (stripped area)) × (d2 ≡ put d base (stripped area))
-strip-both area d d1 d2 base end well some room p e q =
-    let four : length (take 4 area) ≡ 4 = length-take-le 4 area some in
-    let is = strip-whole area well in
-    let long : length (stripped area) ≡ 4 + length (keptFrom (optionsOf area)) = ap length is ∙ length-append (take 4 area) (keptFrom (optionsOf area)) ∙ ap (λ (x : ℕ). x + length (keptFrom (optionsOf area))) four in
-    (omega (arith, long, e), after d d1 d2 base (base + 4) (take 4 area) (keptFrom (optionsOf area)) (copied d d1 base (take 4 area) (take 4 area) p refl (omega (arith, four))) q (omega (arith, four)) (omega (arith, long, stripped-shorter area well)) ∙ ap (put d base) (sym is))
+pub word-lent : (area : List ℕ) → 4 ≤ length area → 4 ≡ length (take 4 area)
+word-lent area h = sym (length-take-le 4 area h)
+
+module _ (area d d1 d2 : List ℕ) (base end : ℕ) (well : areaRead area ≡ WellFormed) (some : 4 ≤ length area) where
+  abbrev kept : List ℕ
+  kept = keptFrom (optionsOf area)
+
+  long : length (stripped area) ≡ 4 + length kept
+  long = ap length (strip-whole area well) ∙ length-append (take 4 area) kept ∙ ap (λ (x : ℕ). x + length kept) (length-take-le 4 area some)
+
+  pub area-ends : end ≡ base + 4 + length kept → end - base ≡ length (stripped area)
+  area-ends e = omega (arith, long, e)
+
+  pub area-wrote : d2 ≡ put d1 (base + 4) kept → d1 ≡ putFitting d base (take 4 area) → base + length area ≤ length d → d2 ≡ put d base (stripped area)
+  area-wrote q p room =
+      let four = word-lent area some in
+      let word = copied d d1 base (take 4 area) (take 4 area) p refl (omega (arith, four)) in
+      after d d1 d2 base (base + 4) (take 4 area) kept word q (omega (arith, four)) (omega (arith, long, stripped-shorter area well))
+      ∙ ap (put d base) (sym (strip-whole area well))
+
+pub ruleset strip-area-laws = (needs, word-lent, area-ends, area-wrote)

@@ -11,7 +11,7 @@ use Rattle.rules.specs.Settings.{Settings, newer, hopOf, settingsRead}
 use Rattle.rules.specs.Link.{link, ethertypeTag, ethertypeTrill}
 use Rattle.rules.specs.Header.{version, reserved, multi, hopCount, headerWord, readFrame, innerStart, innerOf, headerRefusal}
 use Rattle.rules.specs.Handling.{vlan}
-use Rattle.rules.specs.Options.{Options, options, fault, some-key, hopByHopCritical, ingressToEgressCritical, strippable, keptOptions, octetsOf, stripped}
+use Rattle.rules.specs.Options.{Options, options, fault, some-key, hopByHopCritical, ingressToEgressCritical, keptOptions, octetsOf, stripped}
 use Rattle.rules.specs.Channel.{allEgressRBridges, ethertypeChannel, ethertypeIsIs}
 use Rattle.rules.specs.Answer as A
 use Rattle.rules.specs.declared.Ruling.{Ruling}
@@ -80,8 +80,8 @@ stoppedBy (Fault kind place) = Stopped kind place
 stoppedBy (Taken key size next) = Ended false false
 
 -- what stays of one option, and of all
-unfoldable pub keptOctets : ℕ → ℕ → List ℕ → List ℕ
-keptOctets key size octets = if strippable key size then [] else octets
+abbrev pub keptIf : Bool → List ℕ → List ℕ
+keptIf stripped octets = if stripped then [] else octets
 
 abbrev pub keptFrom : Options → List ℕ
 keptFrom (options os) = octetsOf (keptOptions os)

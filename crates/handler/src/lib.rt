@@ -8,6 +8,7 @@ mod judged;
 mod options;
 mod reply;
 mod settings;
+mod treatment;
 mod way;
 
 ghost use mathlib.Core.Path.{_≡_};

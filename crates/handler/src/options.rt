@@ -1,4 +1,5 @@
 // The options area (source document 001): one option, the walk over all, and the area without what is stripped.
+use crate::treatment;
 use rules::AreaRead;
 use rules::OptionFault;
 use rules::OptionRead;
@@ -9,7 +10,8 @@ ghost use lib.ListN.{length};
 ghost use Rattle.rules.specs.Octets.{put};
 ghost use Rattle.rules.specs.Options as O;
 ghost use Rattle.rules.specs.declared.AreaRead.the-variants.{WellFormed};
-ghost use Rattle.handler.specs.Shapes.{walkOf, stoppedBy, faultyBy, keptOctets, keptFrom};
+ghost use Rattle.handler.specs.Shapes.{walkOf, stoppedBy, faultyBy, keptIf, keptFrom};
+ghost use Rattle.handler.specs.Treatment.{Treats, transitDiscards, egressDiscards};
 
 // Whether critical options of the two kinds were met, or the first fault.
 pub enum Walk {
@@ -77,30 +79,27 @@ pub fn option_at(area: &[u8], floor: u16, at: usize) -> OptionRead
     }
 }
 
-// IE 0, NC 0.
-fn hop_critical(seen: bool, key: u16) -> bool
-    ensures { λ r. ⌜ r ≡ (seen || O.hopByHopCritical key) ⌝ }
+// A critical hop-by-hop option was met, or is now.
+fn hop_met(seen: bool, entry: u8) -> bool
+    ensures { λ r. ⌜ r ≡ (seen || transitDiscards entry) ⌝ }
 {
     if seen {
         return true;
     }
-    if ie(key) != 0 {
-        return false;
-    }
-    nc(key) == 0
+    treatment::transit_discards(entry)
 }
 
-// IE 1, NC 0.
-fn egress_critical(seen: bool, key: u16) -> bool
-    ensures { λ r. ⌜ r ≡ (seen || O.ingressToEgressCritical key) ⌝ }
+// The same of a critical ingress-to-egress option: the egress discards it and transit does not.
+fn egress_met(seen: bool, entry: u8) -> bool
+    ensures { λ r. ⌜ r ≡ (seen || (egressDiscards entry && not (transitDiscards entry))) ⌝ }
 {
     if seen {
         return true;
     }
-    if ie(key) != 1 {
+    if treatment::transit_discards(entry) {
         return false;
     }
-    nc(key) == 0
+    treatment::egress_discards(entry)
 }
 
 fn stopped(read: OptionRead) -> Walk
@@ -118,7 +117,8 @@ fn stopped(read: OptionRead) -> Walk
     }
 }
 
-pub fn walk_area(area: &[u8]) -> Walk
+fn walk_area(area: &[u8], table: &[u8; 512]) -> Walk
+    requires { ⌜ Treats (now table) ⌝ }
     ensures { λ r. ⌜ r ≡ walkOf false false (O.optionsOf (now (area .entry))) ⌝ }
 {
     let mut at = 4;
@@ -135,8 +135,9 @@ pub fn walk_area(area: &[u8]) -> Walk
         else {
             return stopped(read);
         };
-        hop = hop_critical(hop, key);
-        egress = egress_critical(egress, key);
+        let entry = table[key as usize];
+        hop = hop_met(hop, entry);
+        egress = egress_met(egress, entry);
         floor = key + 1;
         at = next;
     }
@@ -179,7 +180,11 @@ fn missing(needed: bool, there: bool) -> bool
 pub fn read_area(area: &[u8]) -> AreaRead
     ensures { λ r. ⌜ r ≡ O.areaRead (now (area .entry)) ⌝ }
 {
-    let w = walk_area(area);
+    if area.len() <= 4 {
+        return AreaRead::WellFormed;
+    }
+    let table = treatment::treatments();
+    let w = walk_area(area, &table);
     let Walk::Ended { hop, egress } = w else {
         return faulty(w);
     };
@@ -214,106 +219,45 @@ pub fn area_stops(egress: bool, area: &[u8]) -> bool
     if egress { cite(area) } else { false }
 }
 
-// The parts of a key: IE 1, NC 1, Type 6, MT 1.
-fn ie(key: u16) -> u16
-    ensures { λ r. ⌜ r ≡ O.ie key ⌝ }
-{
-    key >> 8 & 1
-}
-
-fn nc(key: u16) -> u16
-    ensures { λ r. ⌜ r ≡ O.nc key ⌝ }
-{
-    key >> 7 & 1
-}
-
-fn type_of(key: u16) -> u16
-    ensures { λ r. ⌜ r ≡ O.typeOf key ⌝ }
-{
-    key >> 1 & 63
-}
-
-fn mt(key: u16) -> u16
-    ensures { λ r. ⌜ r ≡ O.mt key ⌝ }
-{
-    key & 1
-}
-
-// Flow ID, of Length 2, or pad, of any Length.
-fn implemented(key: u16, size: u8) -> bool
-    ensures { λ r. ⌜ r ≡ O.implemented key size ⌝ }
-{
-    if nc(key) != 1 {
-        return false;
-    }
-    if type_of(key) == 0x20 {
-        return true;
-    }
-    if type_of(key) != 0x01 {
-        return false;
-    }
-    if ie(key) != 0 {
-        return false;
-    }
-    if mt(key) != 1 {
-        return false;
-    }
-    size == 2
-}
-
-fn strippable(key: u16, size: u8) -> bool
-    ensures { λ r. ⌜ r ≡ O.strippable key size ⌝ }
-{
-    if ie(key) != 0 {
-        return false;
-    }
-    if nc(key) != 1 {
-        return false;
-    }
-    if mt(key) != 1 {
-        return false;
-    }
-    !implemented(key, size)
-}
-
 // Writes an option from `to` on unless it is stripped, and says where the next one goes.
-fn keep(out: &mut [u8], to: usize, key: u16, size: u8, option: &[u8]) -> usize
+fn keep(out: &mut [u8], to: usize, stripped: bool, option: &[u8]) -> usize
     requires { ⌜ to + length (now option) ≤ length (now out) ⌝ }
-    ensures { λ r. ⌜ (r ≡ to + length (keptOctets key size (now (option .entry))))
-        × (now (out .exit) ≡ put (now (out .entry)) to (keptOctets key size (now (option .entry)))) ⌝ }
+    ensures { λ r. ⌜ (r ≡ to + length (keptIf stripped (now (option .entry))))
+        × (now (out .exit) ≡ put (now (out .entry)) to (keptIf stripped (now (option .entry)))) ⌝ }
 {
-    if strippable(key, size) {
+    if stripped {
         return to;
     }
     octets::copy(out, to, option);
     to + option.len()
 }
 
-// Writes a well formed area of more than one word into `out` from `base` on, without what is stripped, and says how long that is.
+// Writes a well formed area of one word or more into `out` from `base` on, without what is stripped, and says how long that is.
 pub fn strip_area(area: &[u8], out: &mut [u8], base: usize) -> usize
     requires { ⌜ (O.areaRead (now area) ≡ WellFormed) × (4 ≤ length (now area)) × (base + length (now area) ≤ length (now out)) ⌝ }
     ensures { λ r. ⌜ (r ≡ length (O.stripped (now (area .entry))))
         × (now (out .exit) ≡ put (now (out .entry)) base (O.stripped (now (area .entry)))) ⌝ }
 {
     octets::copy(out, base, &area[..4]);
-    strip_options(area, out, base + 4) - base
+    let table = treatment::treatments();
+    strip_options(area, &table, out, base + 4) - base
 }
 
 // The options alone, from `from` on; says where they end.
-fn strip_options(area: &[u8], out: &mut [u8], from: usize) -> usize
-    requires { ⌜ (O.areaRead (now area) ≡ WellFormed) × (4 ≤ length (now area)) × (from + length (now area) ≤ length (now out) + 4) ⌝ }
+fn strip_options(area: &[u8], table: &[u8; 512], out: &mut [u8], from: usize) -> usize
+    requires { ⌜ (O.areaRead (now area) ≡ WellFormed) × (4 ≤ length (now area)) × (from + length (now area) ≤ length (now out) + 4) × Treats (now table) ⌝ }
     ensures { λ r. ⌜ (r ≡ from + length (keptFrom (O.optionsOf (now (area .entry)))))
         × (now (out .exit) ≡ put (now (out .entry)) from (keptFrom (O.optionsOf (now (area .entry))))) ⌝ }
 {
     let mut at = 4;
-    let mut floor: u16 = 0;
     let mut to = from;
     while at < area.len() {
-        let OptionRead::Taken { key, length, next } = option_at(area, floor, at) else {
-            return to;
-        };
-        to = keep(out, to, key, length, &area[at..next]);
-        floor = key + 1;
+        let w = octets::be16(area, at);
+        let key = key_of(w);
+        let size = length_of(w);
+        let next = at + option_size(size);
+        let stripped = treatment::is_stripped(table[key as usize], key, size);
+        to = keep(out, to, stripped, &area[at..next]);
         at = next;
     }
     to

@@ -1,0 +1,10 @@
+-- `handler::treatment::treatments` meets its contract: the table agrees with the flag definitions, by one test computed over its 512 keys.
+use borrow.Author.Needs.{needs}
+use Rattle.rules.specs.Options.{implemented, strippable}
+use Rattle.handler.proofs.TreatmentLaws.{table-treats}
+use Rattle.handler.proofs.treatment.treatments.Statement.{statement}
+use Rattle.handler.proofs.treatment.treatments.Tie as tie
+
+pub treatments-spec : {M : Type 1} → statement M
+unfolding implemented strippable
+treatments-spec = tie.close (tie.spec (λ c. search (needs, table-treats)))
