@@ -31,7 +31,7 @@ extern "C" {
 #define TRILL_CLOCK 6           /* octets of a clock: 3 for seconds, 3 for microseconds */
 
 /*
- * The numbers of an answer, in the order in which document 01 numbers them: constant, number, meaning.
+ * The numbers of an answer, in the order of their numbers: constant, number, meaning. 30 to 35 are tested before 20.
  * Only TRILL_FORWARDED, TRILL_ERROR_REPLY and TRILL_ECHO_REPLY write; only TRILL_DELIVERED and
  * TRILL_HANDED_UP have a delivered part.
  */
@@ -50,7 +50,6 @@ extern "C" {
     ANSWER(TRILL_DROP_EGRESS, 16, "egress nickname 0 or above 0xFFC0")                                     \
     ANSWER(TRILL_DROP_HOP_COUNT, 17, "hop count 0")                                                        \
     ANSWER(TRILL_DROP_OPTIONS_PAST, 18, "options area runs past the frame")                                \
-    ANSWER(TRILL_DROP_OPTIONS_ILL_FORMED, 19, "options area not well formed")                              \
     ANSWER(TRILL_DROP_CRITICAL, 20, "CHbH is 1, or CItE is 1 at the egress")                               \
     ANSWER(TRILL_DROP_NO_NEXT_HOP, 21, "not the egress and no next hop")                                   \
     ANSWER(TRILL_DROP_INNER_SHORT, 22, "inner frame under 18 octets")                                      \
@@ -60,6 +59,13 @@ extern "C" {
     ANSWER(TRILL_DROP_CHANNEL_ERR, 26, "channel protocol not 0x001 and ERR not 0")                         \
     ANSWER(TRILL_DROP_ECHO_BODY, 27, "echo body under 18 or over 530 octets, or SPID neither 3 nor 4")     \
     ANSWER(TRILL_DROP_ECHO_UNANSWERED, 28, "echo request, no reply is made")                               \
+    /* 30 to 33: start is the place of the option in the options area, counted from its first octet. */    \
+    ANSWER(TRILL_DROP_OPTION_RESERVED, 30, "option with a reserved Length")                                \
+    ANSWER(TRILL_DROP_OPTION_PAST, 31, "option past the options area")                                     \
+    ANSWER(TRILL_DROP_OPTION_BELOW, 32, "option key below the one before")                                 \
+    ANSWER(TRILL_DROP_OPTION_EQUAL, 33, "option key equal to the one before")                              \
+    ANSWER(TRILL_DROP_CHBH_MISSING, 34, "critical hop-by-hop option, CHbH is 0")                           \
+    ANSWER(TRILL_DROP_CITE_MISSING, 35, "critical ingress-to-egress option, CItE is 0")                    \
     /* Not the egress: the frame for the next hop is written. */                                           \
     ANSWER(TRILL_FORWARDED, 50, "forwarded")                                                               \
     /* The inner frame is delivered: start and length say where it is in the frame. Nothing is written. */ \
@@ -97,8 +103,9 @@ enum campus_code { CAMPUS_CODES(STAFFRIPPLE_CONSTANT) };
 struct trill_answer {
     uint32_t number;  /* a constant of TRILL_ANSWERS */
     uint32_t written; /* octets written at the start of the output: 20 to 2,048, or 0 where nothing is written */
-    uint32_t start;   /* the delivered part: where it begins in the frame, 0 where there is none */
-    uint32_t length;  /* its octets, 0 where there is none; trill_part_of gives it */
+    uint32_t start;   /* the delivered part: where it begins in the frame; of 30 to 33 the option's place in the
+                         options area; 0 where there is none */
+    uint32_t length;  /* the delivered part's octets, 0 where there is none; trill_part_of gives it */
 };
 
 /*

@@ -120,8 +120,9 @@ summary='    frames
          9  read
          9  handled, by answer:
          1    17 hop count 0
-         2    19 options area not well formed
          1    23 inner tag type not 0x8100, or VLAN 0 or 4,095
+         1    30 option with a reserved Length
+         1    33 option key equal to the one before
          2    50 forwarded
          3    51 delivered
          2  written, 88 octets'
@@ -146,19 +147,20 @@ run 0 -v withdrawn in-micro-le.pcap none.pcap
 judge 'C12, and -v' none.pcap "$(header 2048)" said "1 1700000001.111111 40 octets: 17 hop count 0; hop count 0, egress 0001, ingress 0004
 2 1700000002.222222 40 octets: 51 delivered; hop count 1, egress 0001, ingress 0004; part at octet 20, 20 octets
 3 1700000003.333333 164 octets: 51 delivered; hop count 5, egress 0001, ingress 0004; part at octet 144, 20 octets
-4 1700000004.444444 164 octets: 19 options area not well formed; hop count 5, egress 0001, ingress 0004
+4 1700000004.444444 164 octets: 30 option with a reserved Length; hop count 5, egress 0001, ingress 0004
 5 1700000005.555555 56 octets: 51 delivered; hop count 5, egress 0001, ingress 0004; part at octet 36, 20 octets
 6 1700000006.666666 56 octets: 21 not the egress and no next hop; hop count 5, egress 0009, ingress 0004
-7 1700000007.777777 52 octets: 19 options area not well formed; hop count 5, egress 0001, ingress 0004
+7 1700000007.777777 52 octets: 33 option key equal to the one before; hop count 5, egress 0001, ingress 0004
 8 1700000008.888888 40 octets: 23 inner tag type not 0x8100, or VLAN 0 or 4,095; hop count 5, egress 0001, ingress 0004
 9 1700000009.999999 40 octets: 21 not the egress and no next hop; hop count 1, egress 0009, ingress 0004
     frames
          9  read
          9  handled, by answer:
          1    17 hop count 0
-         2    19 options area not well formed
          2    21 not the egress and no next hop
          1    23 inner tag type not 0x8100, or VLAN 0 or 4,095
+         1    30 option with a reserved Length
+         1    33 option key equal to the one before
          3    51 delivered
          0  written, 0 octets"
 

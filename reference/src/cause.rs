@@ -83,6 +83,43 @@ pub enum Silence {
     NoNextHop,
 }
 
+/// Where we stand on a frame's way.
+#[derive(Clone, Copy, Debug, PartialEq, Eq, PartialOrd, Ord)]
+pub enum Role {
+    Transit,
+    /// The egress nickname is our own or Any-RBridge.
+    Egress,
+}
+
+/// What makes an options area ill formed, in the order of the tests.
+#[derive(Clone, Copy, Debug, PartialEq, Eq, PartialOrd, Ord)]
+pub enum OptionFault {
+    /// Length 119 to 127.
+    ReservedLength,
+    PastArea,
+    /// Key below the one before.
+    FallingKey,
+    /// Key equal to the one before.
+    EqualKey,
+    /// A critical hop-by-hop option, but CHbH is 0.
+    UnsummedHopByHop,
+    /// A critical ingress-to-egress option, but CItE is 0.
+    UnsummedToEgress,
+}
+
+impl OptionFault {
+    fn number(self) -> u32 {
+        match self {
+            OptionFault::ReservedLength => 30,
+            OptionFault::PastArea => 31,
+            OptionFault::FallingKey => 32,
+            OptionFault::EqualKey => 33,
+            OptionFault::UnsummedHopByHop => 34,
+            OptionFault::UnsummedToEgress => 35,
+        }
+    }
+}
+
 /// The condition that settled one handling, in the order of the answer table.
 #[derive(Clone, Copy, Debug, PartialEq, Eq, PartialOrd, Ord)]
 pub enum Cause {
@@ -103,15 +140,8 @@ pub enum Cause {
     Egress,
     HopCount,
     AreaPastFrame,
-    /// Length 119 to 127.
-    ReservedLength,
-    OptionPastArea,
-    EqualKeys,
-    FallingKeys,
-    /// A critical hop-by-hop option, but CHbH is 0.
-    UnsummedHopByHop,
-    /// A critical ingress-to-egress option, but CItE is 0.
-    UnsummedToEgress,
+    /// The area is ill formed; the role plays no part in the answer.
+    IllFormed(OptionFault, Role),
     CriticalHopByHop,
     CriticalToEgress,
     NoNextHop,
@@ -140,7 +170,7 @@ pub enum Cause {
 }
 
 impl Cause {
-    /// The answer number of document 01.
+    /// The answer number of documents 01 and 02.
     pub fn number(self) -> u32 {
         match self {
             Cause::Settings(_) | Cause::ClockLength => 1,
@@ -155,12 +185,7 @@ impl Cause {
             Cause::Egress => 16,
             Cause::HopCount => 17,
             Cause::AreaPastFrame => 18,
-            Cause::ReservedLength
-            | Cause::OptionPastArea
-            | Cause::EqualKeys
-            | Cause::FallingKeys
-            | Cause::UnsummedHopByHop
-            | Cause::UnsummedToEgress => 19,
+            Cause::IllFormed(fault, _) => fault.number(),
             Cause::CriticalHopByHop | Cause::CriticalToEgress => 20,
             Cause::NoNextHop => 21,
             Cause::Forwarded | Cause::ForwardedStripped => 50,

@@ -1,13 +1,13 @@
 //! One handling: the answers in the order document 01 lists them.
 
-use crate::cause::{Cause, Silence};
+use crate::cause::{Cause, Role, Silence};
 use crate::channel::{
     return_path, write_echo, write_error, Message, ReplyHead, ALL_EGRESS_RBRIDGES, ECHO_MAX,
     ECHO_MIN, INNER_HEADER,
 };
 use crate::header::{Header, ANY_RBRIDGE, TRILL, VLAN_TAG};
 use crate::octets::{put_u16, u16_at};
-use crate::options;
+use crate::options::{self, IllFormed};
 use crate::settings::{NextHop, Switch, MAX_FRAME};
 
 /// Inner Ethertype of frames that are handed up.
@@ -20,7 +20,8 @@ pub struct Answer {
     pub number: u32,
     /// Octets written at the start of the output.
     pub written: u32,
-    /// Place and length of the delivered part of the received frame.
+    /// Place and length of the delivered part of the received frame; for 30 to
+    /// 33 the place of the option at fault in the options area, with length 0.
     pub start: u32,
     pub length: u32,
 }
@@ -46,6 +47,13 @@ impl Step {
             start: 0,
             length: 0,
             neighbour: 0,
+        }
+    }
+
+    fn ill_formed(ill_formed: IllFormed, role: Role) -> Self {
+        Step {
+            start: ill_formed.at as u16,
+            ..Self::bare(Cause::IllFormed(ill_formed.fault, role))
         }
     }
 
@@ -124,20 +132,31 @@ fn receive(switch: &Switch, frame: &[u8], clock: &[u8; 6], out: &mut [u8]) -> Re
     check_header(&header, switch, frame)?;
     let area = frame.get(header.area_at()..header.inner_at());
     let area = area.ok_or(Cause::AreaPastFrame)?;
-    let summary = options::check(area)?;
-    let egress = header.egress == switch.nickname || header.egress == ANY_RBRIDGE;
+    let role = role(&header, switch);
+    let summary = match options::check(area) {
+        Ok(summary) => summary,
+        Err(ill_formed) => return Ok(Step::ill_formed(ill_formed, role)),
+    };
     if summary.critical_hop_by_hop {
         return Err(Cause::CriticalHopByHop);
     }
-    if egress && summary.critical_to_egress {
-        return Err(Cause::CriticalToEgress);
-    }
-    if egress {
+    if role == Role::Egress {
+        if summary.critical_to_egress {
+            return Err(Cause::CriticalToEgress);
+        }
         return deliver(switch, &header, frame, clock, out);
     }
     let hop = switch.next_hop(header.egress).ok_or(Cause::NoNextHop)?;
     let strip = switch.strip && summary.removable;
-    forward(switch, &header, hop, strip, frame, out)
+    Ok(forward(switch, &header, hop, strip, frame, out))
+}
+
+fn role(header: &Header, switch: &Switch) -> Role {
+    if header.egress == switch.nickname || header.egress == ANY_RBRIDGE {
+        Role::Egress
+    } else {
+        Role::Transit
+    }
 }
 
 /// Answers 12 to 17.
@@ -173,11 +192,11 @@ fn forward(
     strip: bool,
     frame: &[u8],
     out: &mut [u8],
-) -> Result<Step, Cause> {
+) -> Step {
     let (area_at, inner_at) = (header.area_at(), header.inner_at());
     let (head, rest) = out.split_at_mut(20);
     let (cause, area_octets, from) = if strip {
-        let kept = options::strip(&frame[area_at..inner_at], rest)?;
+        let kept = options::strip(&frame[area_at..inner_at], rest);
         (Cause::ForwardedStripped, kept, inner_at)
     } else {
         (Cause::Forwarded, inner_at - area_at, area_at)
@@ -191,7 +210,7 @@ fn forward(
     put_u16(head, 14, header.forwarded_word(area_octets));
     put_u16(head, 16, header.egress);
     put_u16(head, 18, header.ingress);
-    Ok(Step::sent(cause, 20 + to + copied.len(), hop))
+    Step::sent(cause, 20 + to + copied.len(), hop)
 }
 
 /// Answers from 22 on: we are the egress.

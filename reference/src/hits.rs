@@ -6,10 +6,10 @@ mod expected;
 use std::collections::BTreeMap;
 use std::fmt;
 
-use crate::generate::{campus_input, handle_input, part_input, HandleInput};
+use crate::generate::{campus_input, handle_input, part_input};
 use crate::header::Header;
 use crate::octets::u16_at;
-use crate::{explain, explain_run, part, Cause, Fault};
+use crate::{explain, explain_run, part, Answer, Cause, Fault};
 
 /// Nine-bit key of the Flow ID, and its Length.
 const FLOW_ID: u16 = 0x083;
@@ -29,6 +29,12 @@ pub enum Feature {
     LongestFlowIdGoes,
     /// Without the strip flag such an option is copied.
     OtherFlowIdCopied,
+    /// An area whose first option has the least key, and is good.
+    FirstKeyZero,
+    /// An option at fault by its Length and by its key.
+    LengthAndKey,
+    /// An option at fault after critical ones whose summary bit is missing.
+    UnsummedBefore,
     /// A part with octets, an empty one within the frame, one not within it.
     PartFull,
     PartEmpty,
@@ -49,6 +55,8 @@ pub enum Feature {
 #[derive(Default)]
 pub struct Hits {
     pub handle: BTreeMap<Cause, u64>,
+    /// Places of options at fault in their areas.
+    pub places: BTreeMap<u32, u64>,
     /// Answers within runs, by number and by original (false) or reply.
     pub entries: BTreeMap<(u32, bool), u64>,
     pub refusals: BTreeMap<Fault, u64>,
@@ -75,15 +83,44 @@ impl Hits {
     fn count_handle(&mut self, seed: u64, index: u64) {
         let input = handle_input(seed, index);
         let mut out = vec![0; input.room];
-        let (_, cause) = explain(&input.frame, &input.settings, &input.clock, &mut out);
+        let (answer, cause) = explain(&input.frame, &input.settings, &input.clock, &mut out);
         *self.handle.entry(cause).or_default() += 1;
-        if matches!(cause, Cause::Forwarded | Cause::ForwardedStripped) {
-            self.count_flow_id(&input, &out, cause == Cause::ForwardedStripped);
+        match answer.number {
+            20 | 34 | 35 => self.count_first_key(&input.frame),
+            30..34 => self.count_faulty_option(&input.frame, answer),
+            50 => self.count_flow_id(&input.frame, &out, cause == Cause::ForwardedStripped),
+            _ => {}
         }
     }
 
-    fn count_flow_id(&mut self, input: &HandleInput, out: &[u8], stripped: bool) {
-        let Some(length) = flow_id_length(&input.frame) else {
+    /// All options of the area are good.
+    fn count_first_key(&mut self, frame: &[u8]) {
+        let first = heads(options_of(frame)).next();
+        self.feature(
+            Feature::FirstKeyZero,
+            first.is_some_and(|head| key(head) == 0),
+        );
+    }
+
+    fn count_faulty_option(&mut self, frame: &[u8], answer: Answer) {
+        *self.places.entry(answer.start).or_default() += 1;
+        let first = frame[Header::read(frame).map_or(0, |header| header.area_at())];
+        let (before, rest) = options_of(frame).split_at(answer.start as usize - 4);
+        let at_fault = u16_at(rest, 0);
+        let not_above = heads(before)
+            .last()
+            .is_some_and(|head| key(head) >= key(at_fault));
+        let unsummed = |head| match key(head) >> 7 {
+            0 => first & 0x80 == 0,
+            2 => first & 0x40 == 0,
+            _ => false,
+        };
+        self.feature(Feature::LengthAndKey, answer.number < 32 && not_above);
+        self.feature(Feature::UnsummedBefore, heads(before).any(unsummed));
+    }
+
+    fn count_flow_id(&mut self, frame: &[u8], out: &[u8], stripped: bool) {
+        let Some(length) = flow_id_length(frame) else {
             return;
         };
         let gone = stripped && flow_id_length(out).is_none();
@@ -158,6 +195,7 @@ impl Hits {
     pub fn shortfalls(&self, least: u64) -> Vec<String> {
         let mut lines = rare(least, &self.handle, expected::causes());
         lines.extend(rare(least, &self.numbers(), expected::numbers()));
+        lines.extend(rare(least, &self.places, expected::places()));
         lines.extend(rare(least, &self.refusals, expected::REFUSALS));
         lines.extend(rare(least, &self.codes(), expected::codes()));
         lines.extend(rare(least, &self.entries, expected::entries()));
@@ -183,19 +221,30 @@ fn rare<K: Ord + Copy + fmt::Debug>(
     lines
 }
 
-/// Length of the option with the Flow ID's key in a frame that is forwarded.
+/// The options area of a readable frame without its first word.
+fn options_of(frame: &[u8]) -> &[u8] {
+    let area = Header::read(frame).map_or(0..0, |header| header.area_at()..header.inner_at());
+    frame[area].get(4..).unwrap_or_default()
+}
+
+/// Heads of the options from the first on.
+fn heads(mut options: &[u8]) -> impl Iterator<Item = u16> + '_ {
+    std::iter::from_fn(move || {
+        let head = u16_at(options.get(..2)?, 0);
+        let size = (usize::from(head & 0x7F) + 2).next_multiple_of(4);
+        options = options.get(size..).unwrap_or_default();
+        Some(head)
+    })
+}
+
+fn key(head: u16) -> u16 {
+    head >> 7
+}
+
+/// Length of the option with the Flow ID's key.
 fn flow_id_length(frame: &[u8]) -> Option<u16> {
-    let header = Header::read(frame).ok()?;
-    let mut rest = frame[header.area_at()..header.inner_at()].get(4..)?;
-    while !rest.is_empty() {
-        let head = u16_at(rest, 0);
-        let length = head & 0x7F;
-        if head >> 7 == FLOW_ID {
-            return Some(length);
-        }
-        rest = &rest[(usize::from(length) + 2).next_multiple_of(4)..];
-    }
-    None
+    let head = heads(options_of(frame)).find(|&head| key(head) == FLOW_ID)?;
+    Some(head & 0x7F)
 }
 
 impl fmt::Display for Hits {
@@ -207,6 +256,10 @@ impl fmt::Display for Hits {
             for (cause, hits) in causes.filter(|(cause, _)| cause.number() == number) {
                 writeln!(f, "     {hits:>9}  {cause:?}")?;
             }
+        }
+        writeln!(f, "places of an option at fault")?;
+        for (place, hits) in &self.places {
+            writeln!(f, "  {place:>3} {hits:>8}")?;
         }
         writeln!(f, "codes of a campus")?;
         for (code, total) in self.codes() {

@@ -22,6 +22,6 @@ mod settings;
 mod text;
 
 pub use campus::{explain_run, run, Outcome};
-pub use cause::{Cause, Fault, Silence};
+pub use cause::{Cause, Fault, OptionFault, Role, Silence};
 pub use handle::{explain, handle, part, Answer};
 pub use text::text;

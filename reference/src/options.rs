@@ -1,6 +1,6 @@
 //! The options area: summary word, then TLV options in order of their keys.
 
-use crate::cause::Cause;
+use crate::cause::OptionFault;
 use crate::octets::u16_at;
 
 /// Places in an option's key: IE 1, NC 1, Type 6, MT 1.
@@ -27,7 +27,14 @@ pub(crate) struct Summary {
     pub removable: bool,
 }
 
-/// Head and octets of the first TLV option in `rest`.
+/// Why an area is ill formed, and the place in it of the option at fault: 0 if
+/// a summary bit is missing.
+pub(crate) struct IllFormed {
+    pub fault: OptionFault,
+    pub at: usize,
+}
+
+/// Head and octets of a TLV option.
 struct TlvOption {
     /// The nine high bits.
     key: u16,
@@ -38,19 +45,35 @@ struct TlvOption {
 }
 
 impl TlvOption {
-    /// `rest` is a multiple of four octets and not empty.
+    /// The first option in `rest`, a multiple of four octets and not empty.
     #[inline]
-    fn read(rest: &[u8]) -> Result<Self, Cause> {
+    fn first(rest: &[u8]) -> Self {
         let head = u16_at(rest, 0);
-        let (key, length) = (head >> 7, head & 0x7F);
-        if length >= RESERVED_LENGTH {
-            return Err(Cause::ReservedLength);
+        let length = head & 0x7F;
+        TlvOption {
+            key: head >> 7,
+            length,
+            size: (usize::from(length) + 2).next_multiple_of(4),
         }
-        let size = (usize::from(length) + 2).next_multiple_of(4);
-        if size > rest.len() {
-            return Err(Cause::OptionPastArea);
+    }
+
+    /// The tests of one option: `left` octets of area begin with it, and
+    /// `previous` is the key before.
+    #[inline]
+    fn test(&self, left: usize, previous: Option<u16>) -> Result<(), OptionFault> {
+        if self.length >= RESERVED_LENGTH {
+            return Err(OptionFault::ReservedLength);
         }
-        Ok(TlvOption { key, length, size })
+        if self.size > left {
+            return Err(OptionFault::PastArea);
+        }
+        if Some(self.key) < previous {
+            return Err(OptionFault::FallingKey);
+        }
+        if Some(self.key) == previous {
+            return Err(OptionFault::EqualKey);
+        }
+        Ok(())
     }
 
     /// Hop-by-hop, non-critical, mutable and not implemented.
@@ -62,10 +85,11 @@ impl TlvOption {
     }
 }
 
-/// Tests that the area is well formed. Padding is not tested, and a summary
-/// bit may be set with no such TLV.
+/// Tests that the area is well formed: each option from the first on, then the
+/// summary bits. Padding is not tested, and a summary bit may be set with no
+/// such TLV.
 #[inline]
-pub(crate) fn check(area: &[u8]) -> Result<Summary, Cause> {
+pub(crate) fn check(area: &[u8]) -> Result<Summary, IllFormed> {
     let Some((&[first, ..], mut rest)) = area.split_first_chunk::<4>() else {
         return Ok(Summary::default());
     };
@@ -75,33 +99,39 @@ pub(crate) fn check(area: &[u8]) -> Result<Summary, Cause> {
         removable: false,
     };
     let mut previous = None;
+    // Kinds of critical option met.
+    let (mut hop_by_hop, mut to_egress) = (false, false);
     while !rest.is_empty() {
-        let option = TlvOption::read(rest)?;
-        if previous == Some(option.key) {
-            return Err(Cause::EqualKeys);
-        }
-        if previous > Some(option.key) {
-            return Err(Cause::FallingKeys);
-        }
+        let option = TlvOption::first(rest);
+        let at = area.len() - rest.len();
+        let tested = option.test(rest.len(), previous);
+        tested.map_err(|fault| IllFormed { fault, at })?;
         match option.key & (IE | NC) {
-            0 if !summary.critical_hop_by_hop => return Err(Cause::UnsummedHopByHop),
-            IE if !summary.critical_to_egress => return Err(Cause::UnsummedToEgress),
+            0 => hop_by_hop = true,
+            IE => to_egress = true,
             _ => summary.removable |= option.removable(),
         }
         previous = Some(option.key);
         rest = &rest[option.size..];
+    }
+    let missing = |fault| Err(IllFormed { fault, at: 0 });
+    if hop_by_hop && !summary.critical_hop_by_hop {
+        return missing(OptionFault::UnsummedHopByHop);
+    }
+    if to_egress && !summary.critical_to_egress {
+        return missing(OptionFault::UnsummedToEgress);
     }
     Ok(summary)
 }
 
 /// Writes a well-formed area without its removable options at the start of
 /// `out` and gives the octets left. The first word always stays.
-pub(crate) fn strip(area: &[u8], out: &mut [u8]) -> Result<usize, Cause> {
+pub(crate) fn strip(area: &[u8], out: &mut [u8]) -> usize {
     out[..4].copy_from_slice(&area[..4]);
     let mut written = 4;
     let mut rest = &area[4..];
     while !rest.is_empty() {
-        let option = TlvOption::read(rest)?;
+        let option = TlvOption::first(rest);
         let (octets, after) = rest.split_at(option.size);
         if !option.removable() {
             out[written..written + option.size].copy_from_slice(octets);
@@ -109,5 +139,5 @@ pub(crate) fn strip(area: &[u8], out: &mut [u8]) -> Result<usize, Cause> {
         }
         rest = after;
     }
-    Ok(written)
+    written
 }

@@ -7,9 +7,8 @@ use native.Mathlib.Omega.{arith}
 use lib.ListN.{length, take, drop, length-append, length-drop}
 use Rattle.rules.specs.Octets.{put}
 use Rattle.rules.specs.Header.{opLength, innerStart, areaOf, innerOf}
-use Rattle.rules.specs.Options.{areaRead, stripped}
+use Rattle.rules.specs.Options.{WellFormed, areaRead, stripped}
 use Rattle.rules.specs.declared.Header.{Header}
-use Rattle.rules.specs.declared.AreaRead.the-variants.{WellFormed}
 use Rattle.rules.proofs.OctetLaws.{length-part, drop-part}
 use Rattle.rules.proofs.OptionLaws.{stripped-shorter}
 use Rattle.octets.specs.Copy.{putFitting}

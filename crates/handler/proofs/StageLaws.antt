@@ -14,8 +14,9 @@ use lib.Seq.{drop-drop}
 use Rattle.rules.specs.Octets.{put, be16, octet}
 use Rattle.rules.specs.Settings.{Settings, settingsOf, settingsRead, nextHop}
 use Rattle.rules.specs.Link.{link}
-use Rattle.rules.specs.Header.{opLength, hopCount, innerStart, areaOf, innerOf, readFrame, headerRefusal, weAreEgress}
-use Rattle.rules.specs.Options.{areaRead, areaSent, areaRefusal, areaStops, stripped}
+use Rattle.rules.specs.Header.{opLength, hopCount, areaStart, innerStart, areaOf, innerOf, readFrame, headerRefusal, weAreEgress}
+use Rattle.rules.specs.Options as O
+use Rattle.rules.specs.Options.{WellFormed, areaRead, areaSent, areaStops, stripped}
 use Rattle.rules.specs.Channel.{bodyOf, channelRead, returnPath, silenced, errorBody, echoBody, errorReply, echoReply, replyRest, replyInner}
 use Rattle.rules.specs.Handling.{forwarded, forwardedRest, transit, faulted, echoed, channelled, toAllEgressRBridges, decapsulated, routed, handling, handledWith, handled, outputAfter}
 use Rattle.rules.specs.Campus.{known}
@@ -28,24 +29,25 @@ use Rattle.rules.specs.declared.Ruling.{Ruling}
 use Rattle.rules.specs.declared.Ruling.the-variants.{Found, Absent}
 use Rattle.rules.specs.declared.ChannelRead.{ChannelRead}
 use Rattle.rules.specs.declared.ChannelRead.the-variants.{Fault, BadErr, ErrorHeard, BadEcho, EchoHeard, EchoRequest}
-use Rattle.rules.specs.declared.AreaRead.{AreaRead}
-use Rattle.rules.specs.declared.AreaRead.the-variants.{WellFormed}
 use Rattle.rules.proofs.TestLaws.{by-test}
 use Rattle.rules.proofs.OctetLaws.{put-none}
-use Rattle.rules.proofs.OptionLaws.{stripped-word}
+use Rattle.rules.proofs.OptionLaws.{stripped-word, area-number}
 use Rattle.rules.proofs.FrameLaws.{Passed, frame-read, header-passed, link-length, length-link, area-length}
 use Rattle.rules.proofs.ReplyLaws.{echo-body-length}
 use Rattle.rules.proofs.HandlingLaws.{transit-none, transit-over, faulted-silent, faulted-none, faulted-over, echoed-mode, echoed-none, echoed-over, echo-ranged, channel-echo}
 use Rattle.rules.proofs.HandlingLaws.{inner-short, inner-untagged, inner-any, inner-delivered, inner-up, inner-channel, routed-faulty, routed-stopped, routed-egress, routed-transit}
-use Rattle.rules.proofs.HandlingLaws.{area-none, handling-unread, handling-refused, handling-routed, settings-bad, settings-good}
+use Rattle.rules.proofs.HandlingLaws.{handling-unread, handling-refused, handling-routed, settings-bad, settings-good}
 use Rattle.rules.proofs.SettingsLaws.{settings-read}
 use Rattle.rules.proofs.HandledLaws.{forwarded-fits}
 use Rattle.handler.specs.declared.answers.Handled.{Handled}
 use Rattle.handler.specs.declared.Routed.{Routed}
 use Rattle.handler.specs.declared.settings.Own.{Own}
+use Rattle.handler.specs.declared.options.Cursor.{Cursor}
+use Rattle.handler.specs.declared.options.AreaRead.{AreaRead}
+use Rattle.handler.specs.declared.options.AreaRead.the-variants.{Read, Faulty}
 use Rattle.handler.specs.declared.way.Way.{Way}
 use Rattle.handler.specs.declared.way.Way.the-variants.{Via, NoWay}
-use Rattle.handler.specs.Shapes.{numbersOf, ownOf, wayBy, linkBy, replyOctets, restWith, areaBy, untaggedBy, unreadBy, Fits, Ready, Done, toldBy, routedOf, answerOf}
+use Rattle.handler.specs.Shapes.{numbersOf, ownOf, wayBy, linkBy, replyOctets, restWith, areaBy, untaggedBy, judgedBy, Fits, Ready, Done, toldBy, routedOf, answerOf}
 use Rattle.handler.proofs.Stages.{after, lent-rest}
 use Rattle.handler.proofs.Rests.{area-lent}
 
@@ -354,60 +356,72 @@ module _ (S : Settings) (clock f : List ℕ) (h : Header) (inner : List ℕ) (he
 
 pub ruleset decapsulated-laws = (needs, ready, inner-held, egress-short, egress-untagged, egress-any, egress-delivered, egress-up, egress-channel)
 
--- 19 and 20
-module _ (f : List ℕ) (h : Header) (area : List ℕ) (held : area ≡ areaOf f h) (read : AreaRead) (a : read ≡ areaRead area) (refusal : ℕ) (n : refusal ≡ areaRefusal read) where
-  refused : refusal ≡ areaRefusal (areaRead (areaOf f h))
-  refused = rw (n, a, held)
+-- 30 to 35 and 20
+pub route-place : (p n : ℕ) (read : AreaRead) → read ≡ Faulty n p → (area : List ℕ) → judgedBy read ≡ areaRead area → length area ≤ 2048 → p ≤ 2048
+route-place p n read e area a short = omega (arith, area-number area n p (sym a ∙ ap judgedBy e) .near)
 
-  pub route-well : refusal ≡ 0 → areaRead (areaOf f h) ≡ WellFormed
-  route-well z = area-none (areaRead (areaOf f h)) (sym refused ∙ z)
+pub part-short : (f : List ℕ) (n k : ℕ) → length f ≤ 2048 → length (take n (drop k f)) ≤ 2048
+part-short f n k short = omega (arith, length-take n (drop k f), length-drop k f)
+
+module _ (f : List ℕ) (h : Header) (area : List ℕ) (held : area ≡ areaOf f h) (read : AreaRead) (a : judgedBy read ≡ areaRead area) where
+  judged : {j : O.AreaRead} → judgedBy read ≡ j → areaRead (areaOf f h) ≡ j
+  judged e = rw held at (sym a ∙ e)
+
+  pub route-well : (c : Cursor) → read ≡ Read c → areaRead (areaOf f h) ≡ WellFormed
+  route-well c e = judged (ap judgedBy e)
 
   module _ (S : Settings) (clock : List ℕ) (r : Handled) (out : List ℕ) where
-    pub route-faulty : r ≡ numbersOf (A.dropped refusal) → (refusal ≡ 0 → ⊥) → Done (routed S clock f h) r out out
-    route-faulty is z = done-dropped _ (routed-faulty S clock f h (λ e. z (refused ∙ e))) (rw refused at is)
+    pub route-faulty : (n p : ℕ) → read ≡ Faulty n p → r ≡ numbersOf (A.droppedAt n p) → Done (routed S clock f h) r out out
+    route-faulty n p e is = rw (routed-faulty S clock f h n p (judged (ap judgedBy e))) (record { answer = is; after = sym (put-none out 0) })
 
-    module _ (z : refusal ≡ 0) (own : Own) (owned : own ≡ ownOf S) (egress : Bool) (e : egress ≡ weAreEgress (own .nickname) h) (stops : Bool) (b : stops ≡ areaStops egress area) where
+    module _ (c : Cursor) (e : read ≡ Read c) (own : Own) (owned : own ≡ ownOf S) (egress : Bool) (o : egress ≡ weAreEgress (own .nickname) h) (stops : Bool) (b : stops ≡ areaStops egress area) where
       role : egress ≡ weAreEgress (S .nickname) h
-      role = e ∙ (rw owned)
+      role = o ∙ (rw owned)
 
-      stopped : {x : Bool} → stops ≡ x → areaStops (weAreEgress (S .nickname) h) (areaOf f h) ≡ x
-      stopped x = rw (← role, ← held) (sym b ∙ x)
+      halted : {x : Bool} → stops ≡ x → areaStops (weAreEgress (S .nickname) h) (areaOf f h) ≡ x
+      halted x = rw (← role, ← held) (sym b ∙ x)
 
       pub route-stopped : r ≡ numbersOf (A.dropped 20) → stops ≡ true → Done (routed S clock f h) r out out
-      route-stopped is x = done-dropped 20 (routed-stopped S clock f h (sym refused ∙ z) (stopped x)) is
+      route-stopped is x = done-dropped 20 (routed-stopped S clock f h (route-well c e) (halted x)) is
 
       pub route-egress : (out2 : List ℕ) → stops ≡ false → egress ≡ true → Done (decapsulated S clock f h) r out out2 → Done (routed S clock f h) r out out2
-      route-egress out2 x y = done-as (routed-egress S clock f h (sym refused ∙ z) (stopped x) (sym role ∙ y))
+      route-egress out2 x y = done-as (routed-egress S clock f h (route-well c e) (halted x) (sym role ∙ y))
 
       pub route-transit : (out2 : List ℕ) → stops ≡ false → egress ≡ false → Done (transit S f h) r out out2 → Done (routed S clock f h) r out out2
-      route-transit out2 x y = done-as (routed-transit S clock f h (sym refused ∙ z) (stopped x) (sym role ∙ y))
+      route-transit out2 x y = done-as (routed-transit S clock f h (route-well c e) (halted x) (sym role ∙ y))
 
-pub ruleset routed-laws = (needs, ready, area-held, route-faulty, route-stopped, route-egress, route-transit, route-well)
+pub ruleset routed-laws = (needs, ready, area-held, route-place, part-short, route-faulty, route-stopped, route-egress, route-transit, route-well)
 
--- 10 to 18
+-- 12 to 18
+module _ (f : List ℕ) (h : Header) (is : readFrame f ≡ Trill h) where
+  pub frame-near : h .place ≤ 18
+  frame-near = omega (arith, frame-read f h is .its-place, link-length f)
+
+  module _ (s : List ℕ) (own : Own) (o : own ≡ ownOf (settingsRead s)) (refusal : ℕ) (n : refusal ≡ headerRefusal (own .mac) f h) where
+    refuses : refusal ≡ headerRefusal (settingsRead s .mac) f h
+    refuses = n ∙ (rw o)
+
+    pub frame-ready : (out : List ℕ) → refusal ≡ 0 → length f ≤ 2048 → 2048 ≤ length out → Ready s f h own out
+    frame-ready out z short roomy = record { owned = o; read = is; passed = sym refuses ∙ z; short = short; roomy = roomy }
+
+    module _ (clock : List ℕ) (r : Handled) (out : List ℕ) where
+      pub frame-refused : r ≡ numbersOf (A.dropped refusal) → (refusal ≡ 0 → ⊥) → Done (handling (settingsRead s) clock f) r out out
+      frame-refused d z = done-dropped _ (handling-refused (settingsRead s) clock f h is (λ x. z (refuses ∙ x))) (rw refuses at d)
+
+      pub frame-routed : (out2 : List ℕ) → refusal ≡ 0 → Done (routed (settingsRead s) clock f h) r out out2 → Done (handling (settingsRead s) clock f) r out out2
+      frame-routed out2 z = done-as (handling-routed (settingsRead s) clock f h is (sym refuses ∙ z))
+
+pub ruleset received-laws = (needs, frame-near, frame-refused, frame-ready, frame-routed)
+
+-- 10 and 11
 module _ (f : List ℕ) (read : FrameRead) (is : read ≡ readFrame f) where
-  pub frame-unread : (S : Settings) (clock : List ℕ) (n : ℕ) (r : Handled) (out : List ℕ) → read ≡ Unreadable n → r ≡ unreadBy read → Done (handling S clock f) r out out
-  frame-unread S clock n r out e u = done-dropped n (handling-unread S clock f n (sym is ∙ e)) (rw e at u)
+  pub frame-unread : (S : Settings) (clock : List ℕ) (n : ℕ) (r : Handled) (out : List ℕ) → read ≡ Unreadable n → r ≡ numbersOf (A.dropped n) → Done (handling S clock f) r out out
+  frame-unread S clock n r out e u = done-dropped n (handling-unread S clock f n (sym is ∙ e)) u
 
-  module _ (h : Header) (e : read ≡ Trill h) where
-    pub frame-near : h .place ≤ 18
-    frame-near = omega (arith, frame-read f h (sym is ∙ e) .its-place, link-length f)
+  pub frame-trill : (h : Header) → read ≡ Trill h → readFrame f ≡ Trill h
+  frame-trill h e = sym is ∙ e
 
-    module _ (s : List ℕ) (own : Own) (o : own ≡ ownOf (settingsRead s)) (refusal : ℕ) (n : refusal ≡ headerRefusal (own .mac) f h) where
-      refuses : refusal ≡ headerRefusal (settingsRead s .mac) f h
-      refuses = n ∙ (rw o)
-
-      pub frame-ready : (out : List ℕ) → refusal ≡ 0 → length f ≤ 2048 → 2048 ≤ length out → Ready s f h own out
-      frame-ready out z short roomy = record { owned = o; read = sym is ∙ e; passed = sym refuses ∙ z; short = short; roomy = roomy }
-
-      module _ (clock : List ℕ) (r : Handled) (out : List ℕ) where
-        pub frame-refused : r ≡ numbersOf (A.dropped refusal) → (refusal ≡ 0 → ⊥) → Done (handling (settingsRead s) clock f) r out out
-        frame-refused d z = done-dropped _ (handling-refused (settingsRead s) clock f h (sym is ∙ e) (λ x. z (refuses ∙ x))) (rw refuses at d)
-
-        pub frame-routed : (out2 : List ℕ) → refusal ≡ 0 → Done (routed (settingsRead s) clock f h) r out out2 → Done (handling (settingsRead s) clock f) r out out2
-        frame-routed out2 z = done-as (handling-routed (settingsRead s) clock f h (sym is ∙ e) (sym refuses ∙ z))
-
-pub ruleset handle-laws = (needs, frame-unread, frame-near, frame-refused, frame-ready, frame-routed)
+pub ruleset handle-laws = (needs, frame-unread, frame-trill)
 
 -- the answer as the callers are told it
 pub told-done : (a b : A.Handled) (r : Handled) (t : Routed) (out out′ : List ℕ) → a ≡ b → Done b r out out′ → t ≡ toldBy r → (t ≡ routedOf a) × (out′ ≡ put out 0 (a .octets))

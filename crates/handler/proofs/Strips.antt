@@ -9,8 +9,7 @@ use borrow.Author.Needs.{needs}
 use lib.ListN.{length, take, getD, length-append}
 use lib.Seq.{length-take-le}
 use Rattle.rules.specs.Octets.{be16, part, put}
-use Rattle.rules.specs.Options.{TlvOption, Options, options, keyOf, lengthOf, optionSize, optionsFrom, optionsOf, strippable, keptOptions, octetsOf, areaRead, stripped}
-use Rattle.rules.specs.declared.AreaRead.the-variants.{WellFormed}
+use Rattle.rules.specs.Options.{TlvOption, Options, options, keyOf, lengthOf, optionSize, optionsFrom, optionsOf, strippable, keptOptions, octetsOf, WellFormed, areaRead, stripped}
 use Rattle.rules.proofs.TestLaws.{by-test}
 use Rattle.rules.proofs.OctetLaws.{put-none, put-put, length-put, length-part}
 use Rattle.rules.proofs.OptionLaws.{Read, Walked, ended, took, walked, options-end, options-same, kept-nothing, kept-not, kept-too, area-well, stripped-is, stripped-shorter}

@@ -1,5 +1,5 @@
--- The walk over an options area as the loop makes it: what is found from a place on, with what was met before, is what is found in all.
--- Assumes nothing.
+-- The options of an area as the code reads them: one option by its ways out, the walk (what is found from a place on, with what was met
+-- before, is what is found in all), and the whole area by its summary tests. Assumes nothing.
 use mathlib.Core.Path.{_≡_, refl, sym, ap, _∙_}
 use mathlib.Core.List.{List, []}
 use mathlib.Core.Bool.{Bool, true, false, not, _&&_, _||_}
@@ -9,87 +9,17 @@ use borrow.Author.Needs.{needs}
 use borrow.Author.Tests.{eqb-true, ne-eqb}
 use lib.Dec.{eqb}
 use lib.ListN.{length, getD}
-use Rattle.rules.specs.Octets.{if_then_else_, part}
-use Rattle.rules.specs.Options.{TlvOption, Options, options, fault, optionFirst, optionAt, optionsFrom, optionsOf, some-key, ie, nc, hopByHopCritical, ingressToEgressCritical, chbh, cite, summarized, areaRead}
-use Rattle.rules.specs.declared.OptionFault.{OptionFault}
-use Rattle.rules.specs.declared.AreaRead.{AreaRead}
-use Rattle.rules.specs.declared.AreaRead.the-variants.{WellFormed, HopByHopUnsummarized, IngressToEgressUnsummarized}
-use Rattle.rules.specs.declared.OptionRead.{OptionRead}
-use Rattle.rules.specs.declared.OptionRead.the-variants.{Taken, Fault}
+use Rattle.rules.specs.Octets.{if_then_else_, be16, part}
+use Rattle.rules.specs.Options as O
+use Rattle.rules.specs.Options.{Taken, Fault, TlvOption, Options, options, fault, keyOf, lengthOf, optionSize, optionFirst, optionAt, optionsFrom, optionsOf}
+use Rattle.rules.specs.Options.{some-key, ie, nc, hopByHopCritical, ingressToEgressCritical, chbh, cite, summarized, areaRead}
 use Rattle.rules.proofs.TestLaws.{and-true, and-no, and-yes, or-no, or-assoc}
-use Rattle.rules.proofs.OptionLaws.{Read, option-read, options-end, options-fault, options-on}
-use Rattle.handler.specs.declared.options.Walk.{Walk}
-use Rattle.handler.specs.declared.options.Walk.the-variants.{Ended, Stopped}
-use Rattle.handler.specs.Shapes.{walkOf, stoppedBy, faultyBy}
+use Rattle.rules.proofs.OptionLaws.{option-reserved, option-past, option-below, option-equal, option-taken, option-read, options-end, options-fault, options-on}
+use Rattle.handler.specs.declared.options.Cursor.{Cursor}
+use Rattle.handler.specs.declared.options.AreaRead.{AreaRead}
+use Rattle.handler.specs.declared.options.AreaRead.the-variants.{Read, Faulty}
+use Rattle.handler.specs.Shapes.{readBy, Walk, ended, stopped, foundBy, walkOf, judgedBy}
 use Rattle.handler.specs.Treatment.{Treats, transitDiscards, egressDiscards}
-
--- a place in an area, with fuel enough for what is left
-pub record Walking (area : List ℕ) (at floor : ℕ) (hop egress : Bool) : Type 0 where
-  pub from : 4 ≤ at
-  pub fuel : ℕ
-  pub enough : length area < at + suc fuel
-  pub rest : walkOf hop egress (optionsFrom (suc fuel) area floor at) ≡ walkOf false false (optionsOf area)
-
--- an option in front
-walk-first : (hop egress : Bool) (o : TlvOption) (w : Options)
-    → walkOf hop egress (optionFirst o w) ≡ walkOf (hop || hopByHopCritical (o .key)) (egress || ingressToEgressCritical (o .key)) w
-unfolding some-key
-walk-first hop egress o (options os) =
-    rw (or-assoc hop (hopByHopCritical (o .key)) (some-key hopByHopCritical os), or-assoc egress (ingressToEgressCritical (o .key)) (some-key ingressToEgressCritical os))
-walk-first hop egress o (fault kind place) = refl
-
-walk-none : (hop egress : Bool) → walkOf hop egress (options []) ≡ Ended hop egress
-unfolding some-key
-walk-none hop egress = rw (or-no hop, or-no egress)
-
--- what an area is found to be, by the walk's end and the two summary tests
-module _ (area : List ℕ) {w : Walk} (is : w ≡ walkOf false false (optionsOf area)) where
-  pub area-faulty : (r : AreaRead) → r ≡ faultyBy w → (kind : OptionFault) (place : ℕ) → w ≡ Stopped kind place → r ≡ areaRead area
-  unfolding areaRead summarized
-  area-faulty r by kind place e = by ∙ go (optionsOf area) refl
-    where
-      go : (o : Options) → optionsOf area ≡ o → faultyBy w ≡ areaRead area
-      go (fault kind′ place′) f = rw (areaRead, f, summarized, is, f)
-      go (options os) f = let z : _≡_ {A = ℕ} 0 1 = cc (sym e ∙ is ∙ ap (walkOf false false) f) in absurd (omega arith)
-
-  module _ (hop egress : Bool) (e : w ≡ Ended hop egress) where
-    abbrev summed : AreaRead
-    summed = if hop && not (chbh area) then HopByHopUnsummarized else if egress && not (cite area) then IngressToEgressUnsummarized else WellFormed
-
-    area-ended : areaRead area ≡ summed
-    unfolding areaRead summarized
-    area-ended = go (optionsOf area) refl
-      where
-        go : (o : Options) → optionsOf area ≡ o → areaRead area ≡ summed
-        go (options os) f =
-            let q : Ended (some-key hopByHopCritical os) (some-key ingressToEgressCritical os) ≡ Ended hop egress = sym (is ∙ ap (walkOf false false) f) ∙ e in
-            let h : some-key hopByHopCritical os ≡ hop = cc q in
-            let g : some-key ingressToEgressCritical os ≡ egress = cc q in
-            rw (areaRead, f, summarized, h, g)
-        go (fault kind place) f = let z : _≡_ {A = ℕ} 0 1 = cc (sym e ∙ is ∙ ap (walkOf false false) f) in absurd (omega arith)
-
-    module _ {summary lacks : Bool} (c : summary ≡ chbh area) (m : lacks ≡ (hop && not summary)) where
-      lacking : {b : Bool} → lacks ≡ b → (hop && not (chbh area)) ≡ b
-      lacking t = sym (rw c at m) ∙ t
-
-      pub area-hop : lacks ≡ true → HopByHopUnsummarized ≡ areaRead area
-      area-hop t = sym (area-ended ∙ rw (lacking t))
-
-      module _ (t : lacks ≡ false) {summary2 lacks2 : Bool} (c2 : summary2 ≡ cite area) (m2 : lacks2 ≡ (egress && not summary2)) where
-        pub area-egress : lacks2 ≡ true → IngressToEgressUnsummarized ≡ areaRead area
-        area-egress t2 = sym (area-ended ∙ rw (lacking t, sym (rw c2 at m2) ∙ t2))
-
-        pub area-whole : lacks2 ≡ false → WellFormed ≡ areaRead area
-        area-whole t2 = sym (area-ended ∙ rw (lacking t, sym (rw c2 at m2) ∙ t2))
-
--- an area of one word, or none, has no option
-pub area-short : (area : List ℕ) → length area ≤ 4 → WellFormed ≡ areaRead area
-unfolding areaRead summarized optionsOf some-key
-area-short area h = rw (options-end (length area) area 0 4 h)
-
-pub walk-begin : (area : List ℕ) → Walking area 4 0 false false
-unfolding optionsOf
-walk-begin area = record { from = omega arith; fuel = length area; enough = omega arith; rest = refl }
 
 -- what the table says of an option met
 module _ (seen : Bool) (entry : ℕ) {discards : Bool} (none-yet : seen ≡ false) (is : discards ≡ transitDiscards entry) where
@@ -109,50 +39,179 @@ egress-alone true e x = sym (x refl)
 critical-kinds : (key : ℕ) → hopByHopCritical key ≡ true → ingressToEgressCritical key ≡ false
 critical-kinds key e = let i = eqb-true (ie key) 0 (and-true (eqb (ie key) 0) (eqb (nc key) 0) e .0) in rw (ne-eqb (ie key) 1 (omega (arith, i)))
 
-module _ (area : List ℕ) (at floor : ℕ) (hop egress : Bool) (w : Walking area at floor hop egress) where
-  pub walk-end : length area ≤ at → Ended hop egress ≡ walkOf false false (optionsOf area)
-  walk-end h = sym (walk-none hop egress) ∙ ap (walkOf hop egress) (sym (options-end (w .fuel) area floor at h)) ∙ w .rest
+-- one option, by its ways out
+module _ (area : List ℕ) (c : Cursor) (w : ℕ) (word : w ≡ be16 area (c .at)) (n : ℕ) (its-length : n ≡ lengthOf w) where
+  abbrev found : O.OptionRead
+  found = optionAt area (c .floor) (c .at)
 
-  module _ (h : at < length area) (read : OptionRead) (r : read ≡ optionAt area floor at) where
-    pub walk-stop : (out : Walk) → out ≡ stoppedBy read → (kind : OptionFault) (place : ℕ) → read ≡ Fault kind place → out ≡ walkOf false false (optionsOf area)
-    walk-stop out o kind place e = o ∙ rw e (ap (walkOf hop egress) (sym (options-fault (w .fuel) area floor at kind place h (sym r ∙ e))) ∙ w .rest)
+  long : lengthOf (be16 area (c .at)) ≡ n
+  long = rw (its-length, word)
 
-    module _ (key size next : ℕ) (e : read ≡ Taken key size next) where
-      its : Read area floor at key size next
-      its = option-read area floor at key size next (sym r ∙ e)
+  pub at-reserved : 119 ≤ n → Faulty 30 (c .at) ≡ readBy c found
+  at-reserved h = ap (readBy c) (option-reserved area (c .floor) (c .at) (rw long h))
+
+  module _ (h : n < 119) (size : ℕ) (sized : size ≡ optionSize n) (within : c .at ≤ length area) where
+    small : lengthOf (be16 area (c .at)) < 119
+    small = rw long h
+
+    taken : c .at + optionSize (lengthOf (be16 area (c .at))) ≡ c .at + size
+    taken = rw (long, ← sized)
+
+    pub at-past : length area - c .at < size → Faulty 31 (c .at) ≡ readBy c found
+    at-past p = ap (readBy c) (option-past area (c .floor) (c .at) small (rw taken (omega arith)))
+
+    module _ (p : size ≤ length area - c .at) (key : ℕ) (its-key : key ≡ keyOf w) where
+      fits : c .at + optionSize (lengthOf (be16 area (c .at))) ≤ length area
+      fits = rw taken (omega arith)
+
+      keyed : keyOf (be16 area (c .at)) ≡ key
+      keyed = rw (its-key, word)
 
       pub key-small : key < 512
-      key-small = omega (arith, its .its-key)
+      key-small = omega (arith, its-key)
 
-      pub floor-fits : key + 1 < 65536
-      floor-fits = omega (arith, key-small)
+      pub at-below : key + 1 < c .floor → Faulty 32 (c .at) ≡ readBy c found
+      at-below k = ap (readBy c) (option-below area (c .floor) (c .at) small fits (rw keyed k))
 
-      pub walk-less : length area - next < length area - at
-      walk-less = omega (arith, its .ends, its .within)
+      module _ (k : c .floor ≤ key + 1) where
+        pub at-equal : key + 1 ≡ c .floor → Faulty 33 (c .at) ≡ readBy c found
+        at-equal e = ap (readBy c) (option-equal area (c .floor) (c .at) small fits (rw keyed e))
 
-      pub walk-on : (table : List ℕ) → Treats table → (entry : ℕ) → entry ≡ getD table key 0 → (hop′ egress′ : Bool) → hop′ ≡ (hop || transitDiscards entry)
-          → egress′ ≡ (egress || (egressDiscards entry && not (transitDiscards entry))) → Walking area next (key + 1) hop′ egress′
-      walk-on table t entry is hop′ egress′ eh ee =
-          let f : suc (w .fuel - 1) ≡ w .fuel = omega (arith, w .enough, its .ends) in
-          let o : TlvOption = record { key = key; size = size; octets = part area at (next - at) } in
-          let th : transitDiscards entry ≡ hopByHopCritical key = rw is (t .transit key key-small) in
-          let te : egressDiscards entry ≡ (hopByHopCritical key || ingressToEgressCritical key) = rw is (t .egress key key-small) in
-          let alone = egress-alone (hopByHopCritical key) (ingressToEgressCritical key) (critical-kinds key) in
-          record {
-            from = omega (arith, w .from, its .ends);
-            fuel = w .fuel - 1;
-            enough = omega (arith, w .enough, its .ends);
-            rest =
-                rw (eh, ee, th, te, alone, f)
-                (sym (walk-first hop egress o (optionsFrom (w .fuel) area (key + 1) next))
-                ∙ ap (walkOf hop egress) (sym (options-on (w .fuel) area floor at key size next h (sym r ∙ e)))
-                ∙ w .rest);
-          }
+        pub at-read : (key + 1 ≡ c .floor → ⊥) → (table : List ℕ) → Treats table → (hop egress : Bool) → hop ≡ (c .hop || transitDiscards (getD table key 0))
+            → egress ≡ (c .egress || (egressDiscards (getD table key 0) && not (transitDiscards (getD table key 0))))
+            → Read (record { at = c .at + size; floor = key + 1; hop = hop; egress = egress }) ≡ readBy c found
+        at-read other table t hop egress eh ee =
+            let above : c .floor ≤ keyOf (be16 area (c .at)) = rw keyed (omega arith) in
+            let th : transitDiscards (getD table key 0) ≡ hopByHopCritical key = t .transit key key-small in
+            let te : egressDiscards (getD table key 0) ≡ (hopByHopCritical key || ingressToEgressCritical key) = t .egress key key-small in
+            let alone = egress-alone (hopByHopCritical key) (ingressToEgressCritical key) (critical-kinds key) in
+            let as-found : found ≡ Taken key n (c .at + size) = sym (option-taken area (c .floor) (c .at) small fits above) ∙ cc (keyed, long, taken) in
+            rw (eh, ee, th, te, alone) (ap (readBy c) (sym as-found))
 
 pub ruleset hop-met-laws = (needs, hop-now)
 
 pub ruleset egress-met-laws = (needs, egress-not, egress-now)
 
-pub ruleset walk-area-laws = (needs, walk-begin, walk-end, walk-stop, key-small, floor-fits, walk-less, walk-on)
+pub ruleset option-at-laws = (needs, at-reserved, at-past, key-small, at-below, at-equal, at-read)
 
-pub ruleset read-area-laws = (needs, area-short, area-faulty, area-hop, area-egress, area-whole)
+-- a place in an area, with fuel enough for what is left
+pub record Walking (area : List ℕ) (c : Cursor) : Type 0 where
+  pub from : 4 ≤ c .at
+  pub fuel : ℕ
+  pub enough : length area < c .at + suc fuel
+  pub rest : walkOf (c .hop) (c .egress) (optionsFrom (suc fuel) area (c .floor) (c .at)) ≡ walkOf false false (optionsOf area)
+
+-- an option in front
+walk-first : (hop egress : Bool) (o : TlvOption) (w : Options)
+    → walkOf hop egress (optionFirst o w) ≡ walkOf (hop || hopByHopCritical (o .key)) (egress || ingressToEgressCritical (o .key)) w
+unfolding some-key
+walk-first hop egress o (options os) =
+    rw (or-assoc hop (hopByHopCritical (o .key)) (some-key hopByHopCritical os), or-assoc egress (ingressToEgressCritical (o .key)) (some-key ingressToEgressCritical os))
+walk-first hop egress o (fault number place) = refl
+
+walk-none : (hop egress : Bool) → walkOf hop egress (options []) ≡ ended hop egress
+unfolding some-key
+walk-none hop egress = rw (or-no hop, or-no egress)
+
+pub walk-begin : (area : List ℕ) → Walking area (record { at = 4; floor = 0; hop = false; egress = false })
+unfolding optionsOf
+walk-begin area = record { from = omega arith; fuel = length area; enough = omega arith; rest = refl }
+
+module _ (area : List ℕ) (c : Cursor) (w : Walking area c) where
+  pub walk-end : length area ≤ c .at → ended (c .hop) (c .egress) ≡ walkOf false false (optionsOf area)
+  walk-end h = sym (walk-none (c .hop) (c .egress)) ∙ ap (walkOf (c .hop) (c .egress)) (sym (options-end (w .fuel) area (c .floor) (c .at) h)) ∙ w .rest
+
+  module _ (h : c .at < length area) (read : AreaRead) (r : read ≡ readBy c (optionAt area (c .floor) (c .at))) where
+    pub walk-stop : (number place : ℕ) → read ≡ Faulty number place → foundBy read ≡ walkOf false false (optionsOf area)
+    walk-stop number place e = go (optionAt area (c .floor) (c .at)) refl
+      where
+        go : (o : O.OptionRead) → optionAt area (c .floor) (c .at) ≡ o → foundBy read ≡ walkOf false false (optionsOf area)
+        go (Fault m q) f = ap foundBy (r ∙ ap (readBy c) f) ∙ ap (walkOf (c .hop) (c .egress)) (sym (options-fault (w .fuel) area (c .floor) (c .at) m q h f)) ∙ w .rest
+        go (Taken key size next) f = let z : _≡_ {A = ℕ} 0 1 = cc (sym e ∙ r ∙ ap (readBy c) f) in absurd (omega arith)
+
+    module _ (d : Cursor) (e : read ≡ Read d) where
+      walk-next : (length area - d .at < length area - c .at) × Walking area d
+      walk-next = go (optionAt area (c .floor) (c .at)) refl
+        where
+          go : (o : O.OptionRead) → optionAt area (c .floor) (c .at) ≡ o → (length area - d .at < length area - c .at) × Walking area d
+          go (Fault m q) f = let z : _≡_ {A = ℕ} 0 1 = cc (sym e ∙ r ∙ ap (readBy c) f) in absurd (omega arith)
+          go (Taken key size next) f =
+              let its = option-read area (c .floor) (c .at) key size next f in
+              let fuel : suc (w .fuel - 1) ≡ w .fuel = omega (arith, w .enough, its .ends) in
+              let o : TlvOption = record { key = key; size = size; octets = part area (c .at) (next - c .at) } in
+              let is : readBy c (Taken key size next) ≡ Read d = ap (readBy c) (sym f) ∙ sym r ∙ e in
+              let e1 : next ≡ d .at = cc is in
+              let e2 : key + 1 ≡ d .floor = cc is in
+              let e3 : (c .hop || hopByHopCritical key) ≡ d .hop = cc is in
+              let e4 : (c .egress || ingressToEgressCritical key) ≡ d .egress = cc is in (
+                omega (arith, its .ends, its .within, e1),
+                record {
+                  from = omega (arith, w .from, its .ends, e1);
+                  fuel = w .fuel - 1;
+                  enough = omega (arith, w .enough, its .ends, e1);
+                  rest =
+                      rw (← e1, ← e2, ← e3, ← e4, fuel)
+                      (sym (walk-first (c .hop) (c .egress) o (optionsFrom (w .fuel) area (key + 1) next))
+                      ∙ ap (walkOf (c .hop) (c .egress)) (sym (options-on (w .fuel) area (c .floor) (c .at) key size next h f))
+                      ∙ w .rest);
+                },
+              )
+
+      pub walk-less : length area - d .at < length area - c .at
+      walk-less = walk-next .0
+
+      pub walk-on : Walking area d
+      walk-on = walk-next .1
+
+pub ruleset walk-area-laws = (needs, walk-begin, walk-end, walk-stop, walk-less, walk-on)
+
+-- an area of one word, or none, has no option
+pub area-short : (area : List ℕ) → length area ≤ 4 → O.WellFormed ≡ areaRead area
+unfolding areaRead summarized optionsOf some-key
+area-short area h = rw (options-end (length area) area 0 4 h)
+
+-- the whole area, by the walk's end and the two summary tests
+module _ (area : List ℕ) (read : AreaRead) (is : foundBy read ≡ walkOf false false (optionsOf area)) where
+  pub area-faulty : (number place : ℕ) → read ≡ Faulty number place → judgedBy read ≡ areaRead area
+  unfolding areaRead summarized
+  area-faulty number place e = go (optionsOf area) refl
+    where
+      go : (o : Options) → optionsOf area ≡ o → judgedBy read ≡ areaRead area
+      go (fault m q) f =
+          let same : stopped number place ≡ stopped m q = ap foundBy (sym e) ∙ is ∙ ap (walkOf false false) f in
+          rw (areaRead, f, summarized, e) (cc same)
+      go (options os) f = let z : _≡_ {A = ℕ} 0 1 = cc (ap foundBy (sym e) ∙ is ∙ ap (walkOf false false) f) in absurd (omega arith)
+
+  module _ (c : Cursor) (e : read ≡ Read c) where
+    abbrev summed : O.AreaRead
+    summed = if c .hop && not (chbh area) then O.Faulty 34 0 else if c .egress && not (cite area) then O.Faulty 35 0 else O.WellFormed
+
+    area-ended : areaRead area ≡ summed
+    unfolding areaRead summarized
+    area-ended = go (optionsOf area) refl
+      where
+        go : (o : Options) → optionsOf area ≡ o → areaRead area ≡ summed
+        go (options os) f =
+            let q : ended (some-key hopByHopCritical os) (some-key ingressToEgressCritical os) ≡ ended (c .hop) (c .egress) = sym (is ∙ ap (walkOf false false) f) ∙ ap foundBy e in
+            let h : some-key hopByHopCritical os ≡ c .hop = cc q in
+            let g : some-key ingressToEgressCritical os ≡ c .egress = cc q in
+            rw (areaRead, f, summarized, h, g)
+        go (fault m q) f = let z : _≡_ {A = ℕ} 0 1 = cc (ap foundBy (sym e) ∙ is ∙ ap (walkOf false false) f) in absurd (omega arith)
+
+    module _ {summary lacks : Bool} (s : summary ≡ chbh area) (m : lacks ≡ (c .hop && not summary)) where
+      lacking : {b : Bool} → lacks ≡ b → (c .hop && not (chbh area)) ≡ b
+      lacking t = sym (rw s at m) ∙ t
+
+      pub area-hop : lacks ≡ true → O.Faulty 34 0 ≡ areaRead area
+      area-hop t = sym (area-ended ∙ rw (lacking t))
+
+      module _ (t : lacks ≡ false) {summary2 lacks2 : Bool} (s2 : summary2 ≡ cite area) (m2 : lacks2 ≡ (c .egress && not summary2)) where
+        pub area-egress : lacks2 ≡ true → O.Faulty 35 0 ≡ areaRead area
+        area-egress t2 = sym (area-ended ∙ rw (lacking t, sym (rw s2 at m2) ∙ t2))
+
+        pub area-whole : lacks2 ≡ false → O.WellFormed ≡ areaRead area
+        area-whole t2 = sym (area-ended ∙ rw (lacking t, sym (rw s2 at m2) ∙ t2))
+
+pub ruleset summarized-laws = (needs, area-faulty, area-hop, area-egress, area-whole)
+
+pub ruleset read-area-laws = (needs, area-short)

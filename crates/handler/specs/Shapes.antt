@@ -11,26 +11,23 @@ use Rattle.rules.specs.Settings.{Settings, newer, hopOf, settingsRead}
 use Rattle.rules.specs.Link.{link, ethertypeTag, ethertypeTrill}
 use Rattle.rules.specs.Header.{version, reserved, multi, hopCount, headerWord, readFrame, innerStart, innerOf, headerRefusal}
 use Rattle.rules.specs.Handling.{vlan}
-use Rattle.rules.specs.Options.{Options, options, fault, some-key, hopByHopCritical, ingressToEgressCritical, keptOptions, octetsOf, stripped}
+use Rattle.rules.specs.Options as O
+use Rattle.rules.specs.Options.{OptionRead, Taken, Fault, Options, options, fault, some-key, hopByHopCritical, ingressToEgressCritical, keptOptions, octetsOf, stripped}
 use Rattle.rules.specs.Channel.{allEgressRBridges, ethertypeChannel, ethertypeIsIs}
 use Rattle.rules.specs.Answer as A
 use Rattle.rules.specs.declared.Ruling.{Ruling}
 use Rattle.rules.specs.declared.Ruling.the-variants.{Found, Absent}
 use Rattle.rules.specs.declared.Header.{Header}
-use Rattle.rules.specs.declared.FrameRead.{FrameRead}
-use Rattle.rules.specs.declared.FrameRead.the-variants.{Trill, Unreadable}
-use Rattle.rules.specs.declared.OptionRead.{OptionRead}
-use Rattle.rules.specs.declared.OptionRead.the-variants.{Taken, Fault}
-use Rattle.rules.specs.declared.AreaRead.{AreaRead}
-use Rattle.rules.specs.declared.AreaRead.the-variants.{WellFormed, Faulty}
+use Rattle.rules.specs.declared.FrameRead.the-variants.{Trill}
 use Rattle.handler.specs.declared.answers.Handled.{Handled}
 use Rattle.handler.specs.declared.Answer.{Answer}
 use Rattle.handler.specs.declared.Routed.{Routed}
 use Rattle.handler.specs.declared.settings.Own.{Own}
 use Rattle.handler.specs.declared.way.Way.{Way}
 use Rattle.handler.specs.declared.way.Way.the-variants.{Via, NoWay}
-use Rattle.handler.specs.declared.options.Walk.{Walk}
-use Rattle.handler.specs.declared.options.Walk.the-variants.{Ended, Stopped}
+use Rattle.handler.specs.declared.options.Cursor.{Cursor}
+use Rattle.handler.specs.declared.options.AreaRead.{AreaRead}
+use Rattle.handler.specs.declared.options.AreaRead.the-variants.{Read, Faulty}
 
 -- an answer as numbers: the octets written by their length
 abbrev pub numbersOf : A.Handled → Handled
@@ -70,14 +67,29 @@ abbrev pub linkBy : Settings → Ruling → List ℕ
 linkBy S Absent = []
 linkBy S (Found r) = link S r
 
--- what a walk over the options says, once `hop` and `egress` critical ones were met
-abbrev pub walkOf : Bool → Bool → Options → Walk
-walkOf hop egress (fault kind place) = Stopped kind place
-walkOf hop egress (options os) = Ended (hop || some-key hopByHopCritical os) (egress || some-key ingressToEgressCritical os)
+-- the cursor behind an option that was read, or the fault
+abbrev pub readBy : Cursor → OptionRead → AreaRead
+readBy c (Taken key size next) =
+    Read (record { at = next; floor = key + 1; hop = c .hop || hopByHopCritical key; egress = c .egress || ingressToEgressCritical key })
+readBy c (Fault number place) = Faulty number place
 
-abbrev pub stoppedBy : OptionRead → Walk
-stoppedBy (Fault kind place) = Stopped kind place
-stoppedBy (Taken key size next) = Ended false false
+-- what a walk over the options finds: critical options of the two kinds, or the first fault
+pub data Walk : Type 0 where
+  ended : Bool → Bool → Walk
+  stopped : ℕ → ℕ → Walk
+
+abbrev pub foundBy : AreaRead → Walk
+foundBy (Read c) = ended (c .hop) (c .egress)
+foundBy (Faulty number place) = stopped number place
+
+-- once `hop` and `egress` critical ones were met
+abbrev pub walkOf : Bool → Bool → Options → Walk
+walkOf hop egress (fault number place) = stopped number place
+walkOf hop egress (options os) = ended (hop || some-key hopByHopCritical os) (egress || some-key ingressToEgressCritical os)
+
+abbrev pub judgedBy : AreaRead → O.AreaRead
+judgedBy (Read c) = O.WellFormed
+judgedBy (Faulty number place) = O.Faulty number place
 
 -- what stays of one option, and of all
 abbrev pub keptIf : Bool → List ℕ → List ℕ
@@ -85,11 +97,7 @@ keptIf stripped octets = if stripped then [] else octets
 
 abbrev pub keptFrom : Options → List ℕ
 keptFrom (options os) = octetsOf (keptOptions os)
-keptFrom (fault kind place) = []
-
-abbrev pub faultyBy : Walk → AreaRead
-faultyBy (Stopped kind place) = Faulty kind place
-faultyBy (Ended hop egress) = WellFormed
+keptFrom (fault number place) = []
 
 -- the octets of a link header, and of a TRILL header
 abbrev pub linkOctets : ℕ → ℕ → List ℕ
@@ -143,10 +151,6 @@ foreignBy ethertype = not (eqb ethertype ethertypeChannel) && not (eqb ethertype
 -- the codes that a message may keep from being sent
 abbrev pub quenchedBy : ℕ → Bool
 quenchedBy code = eqb code 4 || eqb code 5
-
-abbrev pub unreadBy : FrameRead → Handled
-unreadBy (Unreadable number) = numbersOf (A.dropped number)
-unreadBy (Trill h) = numbersOf (A.dropped 10)
 
 -- a frame that was read and of which none of 12 to 18 is given, at a switch with these settings, and room for any answer
 pub record Ready (s f : List ℕ) (h : Header) (own : Own) (out : List ℕ) : Type 0 where

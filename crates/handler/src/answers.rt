@@ -1,4 +1,4 @@
-// The answer of one handling, made in one of three ways.
+// The answer of one handling, made in one of four ways.
 ghost use mathlib.Core.Path.{_≡_};
 ghost use Prim.Native.Nat.{_≤_};
 
@@ -18,6 +18,20 @@ pub fn dropped(number: u8) -> Handled
         number: number as u32,
         written: 0,
         start: 0,
+        length: 0,
+        via: 0,
+    }
+}
+
+// Dropped for what stands at a place of the options area.
+pub fn dropped_at(number: u8, place: usize) -> Handled
+    requires { ⌜ place ≤ 2048 ⌝ }
+    ensures { λ r. ⌜ r ≡ record { number = number; written = 0; start = place; length = 0; via = 0 } ⌝ }
+{
+    Handled {
+        number: number as u32,
+        written: 0,
+        start: place as u32,
         length: 0,
         via: 0,
     }

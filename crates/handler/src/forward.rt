@@ -8,8 +8,7 @@ ghost use lib.ListN.{length};
 ghost use mathlib.Core.Bool.{true};
 ghost use Rattle.rules.specs.Octets.{put};
 ghost use Rattle.rules.specs.Header.{hopCount, areaOf};
-ghost use Rattle.rules.specs.Options.{areaRead, stripped};
-ghost use Rattle.rules.specs.declared.AreaRead.the-variants.{WellFormed};
+ghost use Rattle.rules.specs.Options.{WellFormed, areaRead, stripped};
 ghost use Rattle.handler.specs.Shapes.{headerOctets, sentBy, Fits, restWith, areaBy};
 
 pub fn header_octets(word: u16, egress: u16, ingress: u16) -> [u8; 6]

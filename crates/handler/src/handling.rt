@@ -5,6 +5,7 @@ use crate::channel;
 use crate::forward;
 use crate::header;
 use crate::options;
+use crate::options::AreaRead;
 use crate::reply;
 use crate::settings;
 use crate::settings::Own;
@@ -19,12 +20,12 @@ ghost use Prim.Native.Nat.{_≤_};
 ghost use lib.ListN.{length};
 ghost use lib.Dec.{leb};
 ghost use Rattle.rules.specs.Settings.{settingsRead};
-ghost use Rattle.rules.specs.Header.{opLength, areaOf, innerOf};
-ghost use Rattle.rules.specs.Options.{areaRead};
+ghost use Rattle.rules.specs.Header.{opLength, readFrame, areaOf, innerOf};
+ghost use Rattle.rules.specs.Options.{WellFormed, areaRead};
 ghost use Rattle.rules.specs.Channel.{bodyOf, channelRead};
 ghost use Rattle.rules.specs.Handling as Rules;
-ghost use Rattle.rules.specs.declared.AreaRead.the-variants.{WellFormed};
-ghost use Rattle.handler.specs.Shapes.{Ready, Done, untaggedBy, unreadBy};
+ghost use Rattle.rules.specs.declared.FrameRead.the-variants.{Trill};
+ghost use Rattle.handler.specs.Shapes.{Ready, Done, untaggedBy};
 
 // The strip flag, asked for only where the area has an option.
 fn strips(s: &[u8], h: Header) -> bool
@@ -142,7 +143,7 @@ fn decapsulated(s: &[u8], own: Own, clock: &[u8], f: &[u8], h: Header, out: &mut
     channelled(s, own, clock, f, h, out)
 }
 
-// 19 and 20, then by our role.
+// 30 to 35 and 20, then by our role.
 fn routed(s: &[u8], own: Own, clock: &[u8], f: &[u8], h: Header, out: &mut [u8]) -> Handled
     requires { ⌜ (length (now clock) ≡ 6) × Ready (now s) (now f) h own (now out) ⌝ }
     ensures { λ r. ⌜ Done (Rules.routed (settingsRead (now (s .entry))) (now (clock .entry)) (now (f .entry)) h) r (now (out .entry)) (now (out .exit)) ⌝ }
@@ -150,9 +151,9 @@ fn routed(s: &[u8], own: Own, clock: &[u8], f: &[u8], h: Header, out: &mut [u8])
     let start = h.place + 6;
     let inner = header::inner_start(h);
     let area = &f[start..inner];
-    let refusal = options::area_refusal(options::read_area(area));
-    if refusal != 0 {
-        return answers::dropped(refusal);
+    let read = options::read_area(area);
+    if let AreaRead::Faulty { number, place } = read {
+        return answers::dropped_at(number, place);
     }
     let egress = header::we_are_egress(own.nickname, h);
     if options::area_stops(egress, area) {
@@ -164,14 +165,11 @@ fn routed(s: &[u8], own: Own, clock: &[u8], f: &[u8], h: Header, out: &mut [u8])
     transit(s, own, f, h, out)
 }
 
-pub fn handle(s: &[u8], clock: &[u8], f: &[u8], out: &mut [u8]) -> Handled
-    requires { ⌜ (length (now clock) ≡ 6) × (length (now f) ≤ 2048) × (2048 ≤ length (now out)) ⌝ }
+// 12 to 18, then the area.
+fn received(s: &[u8], clock: &[u8], f: &[u8], h: Header, out: &mut [u8]) -> Handled
+    requires { ⌜ (readFrame (now f) ≡ Trill h) × (length (now clock) ≡ 6) × (length (now f) ≤ 2048) × (2048 ≤ length (now out)) ⌝ }
     ensures { λ r. ⌜ Done (Rules.handling (settingsRead (now (s .entry))) (now (clock .entry)) (now (f .entry))) r (now (out .entry)) (now (out .exit)) ⌝ }
 {
-    let read = octets::read_frame(f);
-    let FrameRead::Trill(h) = read else {
-        return unread(read);
-    };
     let own = settings::own_of(s);
     let refusal = header::header_refusal(own.mac, f, h);
     if refusal != 0 {
@@ -180,11 +178,13 @@ pub fn handle(s: &[u8], clock: &[u8], f: &[u8], out: &mut [u8]) -> Handled
     routed(s, own, clock, f, h, out)
 }
 
-fn unread(read: FrameRead) -> Handled
-    ensures { λ r. ⌜ r ≡ unreadBy read ⌝ }
+pub fn handle(s: &[u8], clock: &[u8], f: &[u8], out: &mut [u8]) -> Handled
+    requires { ⌜ (length (now clock) ≡ 6) × (length (now f) ≤ 2048) × (2048 ≤ length (now out)) ⌝ }
+    ensures { λ r. ⌜ Done (Rules.handling (settingsRead (now (s .entry))) (now (clock .entry)) (now (f .entry))) r (now (out .entry)) (now (out .exit)) ⌝ }
 {
+    let read = octets::read_frame(f);
     match read {
         FrameRead::Unreadable(n) => answers::dropped(n),
-        FrameRead::Trill(_) => answers::dropped(10),
+        FrameRead::Trill(h) => received(s, clock, f, h, out),
     }
 }

@@ -1,22 +1,38 @@
 // The options area (source document 001): one option, the walk over all, and the area without what is stripped.
 use crate::treatment;
-use rules::AreaRead;
-use rules::OptionFault;
-use rules::OptionRead;
 ghost use mathlib.Core.Path.{_≡_};
 ghost use mathlib.Core.Bool.{false, _||_, _&&_, not};
 ghost use Prim.Native.Nat.{_+_, _<_, _≤_};
 ghost use lib.ListN.{length};
 ghost use Rattle.rules.specs.Octets.{put};
 ghost use Rattle.rules.specs.Options as O;
-ghost use Rattle.rules.specs.declared.AreaRead.the-variants.{WellFormed};
-ghost use Rattle.handler.specs.Shapes.{walkOf, stoppedBy, faultyBy, keptIf, keptFrom};
+ghost use Rattle.rules.specs.Options.{WellFormed};
+ghost use Rattle.handler.specs.Shapes.{readBy, foundBy, judgedBy, walkOf, keptIf, keptFrom};
 ghost use Rattle.handler.specs.Treatment.{Treats, transitDiscards, egressDiscards};
 
-// Whether critical options of the two kinds were met, or the first fault.
-pub enum Walk {
-    Ended { hop: bool, egress: bool },
-    Stopped { kind: OptionFault, place: usize },
+const LENGTH_RESERVED: u8 = 119;
+
+// How far an area is read: the next place, one more than the last key (0 before the first), and whether a critical option of each
+// kind was met.
+pub struct Cursor {
+    pub at: usize,
+    pub floor: u16,
+    pub hop: bool,
+    pub egress: bool,
+}
+
+// The options begin behind the first word.
+const START: Cursor = Cursor {
+    at: 4,
+    floor: 0,
+    hop: false,
+    egress: false,
+};
+
+// An area read to a place, or the answer number of the first fault and its place.
+pub enum AreaRead {
+    Read(Cursor),
+    Faulty { number: u8, place: usize },
 }
 
 fn key_of(w: u16) -> u16
@@ -37,46 +53,6 @@ fn option_size(size: u8) -> usize
     ensures { λ r. ⌜ r ≡ O.optionSize size ⌝ }
 {
     (size as usize + 2 + 3) & 0xFC
-}
-
-// One option, or what is wrong with it. `floor` is one more than the key before, and 0 at the first.
-pub fn option_at(area: &[u8], floor: u16, at: usize) -> OptionRead
-    requires { ⌜ at ≤ length (now area) ⌝ }
-    ensures { λ r. ⌜ r ≡ O.optionAt (now (area .entry)) floor at ⌝ }
-{
-    let w = octets::be16(area, at);
-    let n = length_of(w);
-    if 119 <= n {
-        return OptionRead::Fault {
-            kind: OptionFault::Reserved,
-            place: at,
-        };
-    }
-    let size = option_size(n);
-    if area.len() - at < size {
-        return OptionRead::Fault {
-            kind: OptionFault::Past,
-            place: at,
-        };
-    }
-    let key = key_of(w);
-    if key + 1 < floor {
-        return OptionRead::Fault {
-            kind: OptionFault::Below,
-            place: at,
-        };
-    }
-    if key + 1 == floor {
-        return OptionRead::Fault {
-            kind: OptionFault::Equal,
-            place: at,
-        };
-    }
-    OptionRead::Taken {
-        key: key,
-        length: n,
-        next: at + size,
-    }
 }
 
 // A critical hop-by-hop option was met, or is now.
@@ -102,61 +78,65 @@ fn egress_met(seen: bool, entry: u8) -> bool
     treatment::egress_discards(entry)
 }
 
-fn stopped(read: OptionRead) -> Walk
-    ensures { λ r. ⌜ r ≡ stoppedBy read ⌝ }
+// One option: the cursor behind it, or a fault.
+fn option_at(area: &[u8], table: &[u8; 512], c: Cursor) -> AreaRead
+    requires { ⌜ (c .at ≤ length (now area)) × Treats (now table) ⌝ }
+    ensures { λ r. ⌜ r ≡ readBy c (O.optionAt (now (area .entry)) (c .floor) (c .at)) ⌝ }
 {
-    match read {
-        OptionRead::Fault { kind, place } => Walk::Stopped {
-            kind: kind,
-            place: place,
-        },
-        OptionRead::Taken { .. } => Walk::Ended {
-            hop: false,
-            egress: false,
-        },
-    }
-}
-
-fn walk_area(area: &[u8], table: &[u8; 512]) -> Walk
-    requires { ⌜ Treats (now table) ⌝ }
-    ensures { λ r. ⌜ r ≡ walkOf false false (O.optionsOf (now (area .entry))) ⌝ }
-{
-    let mut at = 4;
-    let mut floor: u16 = 0;
-    let mut hop = false;
-    let mut egress = false;
-    while at < area.len() {
-        let read = option_at(area, floor, at);
-        let OptionRead::Taken {
-            key,
-            length: _,
-            next,
-        } = read
-        else {
-            return stopped(read);
+    let at = c.at;
+    let w = octets::be16(area, at);
+    let n = length_of(w);
+    if LENGTH_RESERVED <= n {
+        return AreaRead::Faulty {
+            number: 30,
+            place: at,
         };
-        let entry = table[key as usize];
-        hop = hop_met(hop, entry);
-        egress = egress_met(egress, entry);
-        floor = key + 1;
-        at = next;
     }
-    Walk::Ended {
+    let size = option_size(n);
+    if area.len() - at < size {
+        return AreaRead::Faulty {
+            number: 31,
+            place: at,
+        };
+    }
+    let key = key_of(w);
+    if key + 1 < c.floor {
+        return AreaRead::Faulty {
+            number: 32,
+            place: at,
+        };
+    }
+    if key + 1 == c.floor {
+        return AreaRead::Faulty {
+            number: 33,
+            place: at,
+        };
+    }
+    let entry = table[key as usize];
+    let hop = hop_met(c.hop, entry);
+    let egress = egress_met(c.egress, entry);
+    AreaRead::Read(Cursor {
+        at: at + size,
+        floor: key + 1,
         hop: hop,
         egress: egress,
-    }
+    })
 }
 
-fn faulty(w: Walk) -> AreaRead
-    ensures { λ r. ⌜ r ≡ faultyBy w ⌝ }
+// All options, or the first fault.
+fn walk_area(area: &[u8], table: &[u8; 512]) -> AreaRead
+    requires { ⌜ Treats (now table) ⌝ }
+    ensures { λ r. ⌜ foundBy r ≡ walkOf false false (O.optionsOf (now (area .entry))) ⌝ }
 {
-    match w {
-        Walk::Stopped { kind, place } => AreaRead::Faulty {
-            kind: kind,
-            place: place,
-        },
-        Walk::Ended { .. } => AreaRead::WellFormed,
+    let mut c = START;
+    while c.at < area.len() {
+        let read = option_at(area, table, c);
+        let AreaRead::Read(next) = read else {
+            return read;
+        };
+        c = next;
     }
+    AreaRead::Read(c)
 }
 
 pub fn chbh(area: &[u8]) -> bool
@@ -177,36 +157,38 @@ fn missing(needed: bool, there: bool) -> bool
     if needed { !there } else { false }
 }
 
-pub fn read_area(area: &[u8]) -> AreaRead
-    ensures { λ r. ⌜ r ≡ O.areaRead (now (area .entry)) ⌝ }
+// 34 and 35, after all options.
+fn summarized(area: &[u8], read: AreaRead) -> AreaRead
+    requires { ⌜ foundBy read ≡ walkOf false false (O.optionsOf (now area)) ⌝ }
+    ensures { λ r. ⌜ judgedBy r ≡ O.areaRead (now (area .entry)) ⌝ }
 {
-    if area.len() <= 4 {
-        return AreaRead::WellFormed;
-    }
-    let table = treatment::treatments();
-    let w = walk_area(area, &table);
-    let Walk::Ended { hop, egress } = w else {
-        return faulty(w);
+    let AreaRead::Read(end) = read else {
+        return read;
     };
-    if missing(hop, chbh(area)) {
-        return AreaRead::HopByHopUnsummarized;
+    if missing(end.hop, chbh(area)) {
+        return AreaRead::Faulty {
+            number: 34,
+            place: 0,
+        };
     }
-    if missing(egress, cite(area)) {
-        return AreaRead::IngressToEgressUnsummarized;
+    if missing(end.egress, cite(area)) {
+        return AreaRead::Faulty {
+            number: 35,
+            place: 0,
+        };
     }
-    AreaRead::WellFormed
+    read
 }
 
-// 19, or 0.
-pub fn area_refusal(read: AreaRead) -> u8
-    ensures { λ r. ⌜ r ≡ O.areaRefusal read ⌝ }
+// The whole area, or the first fault.
+pub fn read_area(area: &[u8]) -> AreaRead
+    ensures { λ r. ⌜ judgedBy r ≡ O.areaRead (now (area .entry)) ⌝ }
 {
-    match read {
-        AreaRead::WellFormed => 0,
-        AreaRead::Faulty { .. } => 19,
-        AreaRead::HopByHopUnsummarized => 19,
-        AreaRead::IngressToEgressUnsummarized => 19,
+    if area.len() <= 4 {
+        return AreaRead::Read(START);
     }
+    let table = treatment::treatments();
+    summarized(area, walk_area(area, &table))
 }
 
 // 20: "CHbH is 1, or CItE is 1 and we are the egress"

@@ -15,13 +15,12 @@ use Rattle.rules.specs.Octets.{be16, be48, octets16}
 use Rattle.rules.specs.Settings.{Settings}
 use Rattle.rules.specs.Link.{linkLength, linkEthertype, link, ethertypeTag, ethertypeTrill}
 use Rattle.rules.specs.Header.{version, reserved, multi, opLength, hopCount, headerWord, readFrame, innerStart, areaOf, innerOf, headerRefusal}
-use Rattle.rules.specs.Options.{areaRead, areaSent}
+use Rattle.rules.specs.Options.{WellFormed, areaRead, areaSent}
 use Rattle.rules.specs.Handling.{forwardedRest}
 use Rattle.rules.specs.declared.NextHop.{NextHop}
 use Rattle.rules.specs.declared.Header.{Header}
 use Rattle.rules.specs.declared.FrameRead.{FrameRead}
 use Rattle.rules.specs.declared.FrameRead.the-variants.{Trill, Unreadable}
-use Rattle.rules.specs.declared.AreaRead.the-variants.{WellFormed}
 use Rattle.rules.proofs.TestLaws.{by-test, or-false}
 use Rattle.rules.proofs.OctetLaws.{be16-before, be16-after, length-part}
 use Rattle.rules.proofs.OptionLaws.{stripped-shorter, stripped-words}

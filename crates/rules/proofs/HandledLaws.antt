@@ -13,7 +13,7 @@ use Rattle.rules.specs.Octets.{be16}
 use Rattle.rules.specs.Settings.{Settings, nextHop, settingsOf}
 use Rattle.rules.specs.Link.{ethertypeTag}
 use Rattle.rules.specs.Header.{anyRBridge, readFrame, innerStart, areaOf, innerOf, headerRefusal, weAreEgress}
-use Rattle.rules.specs.Options.{areaRead, areaRefusal, areaStops}
+use Rattle.rules.specs.Options.{AreaRead, WellFormed, Faulty, areaRead, areaStops}
 use Rattle.rules.specs.Answer.{Handled, dropped, wrote}
 use Rattle.rules.specs.Channel.{ethertypeChannel, ethertypeIsIs, protocolError, protocolEcho, innerEthertype, chv, protocol, na, err, bodyOf, replyMode, spid, spidRequest, spidReply, echoRead, channelRead, silenced, returnPath, errorReply, echoReply}
 use Rattle.rules.specs.Handling.{forwarded, transit, faulted, echoed, channelled, vlan, toAllEgressRBridges, decapsulated, routed, handling, frameMost, handledWith, handled}
@@ -23,12 +23,12 @@ use Rattle.rules.specs.declared.Ruling.{Ruling}
 use Rattle.rules.specs.declared.Ruling.the-variants.{Found, Absent}
 use Rattle.rules.specs.declared.FrameRead.{FrameRead}
 use Rattle.rules.specs.declared.FrameRead.the-variants.{Trill, Unreadable}
-use Rattle.rules.specs.declared.AreaRead.the-variants.{WellFormed}
 use Rattle.rules.specs.declared.ChannelRead.{ChannelRead}
 use Rattle.rules.specs.declared.ChannelRead.the-variants.{Fault, BadErr, ErrorHeard, BadEcho, EchoHeard, EchoRequest}
 use Rattle.rules.proofs.TestLaws.{by-test}
 use Rattle.rules.proofs.FrameLaws.{Passed, frame-read, header-passed, sent-shorter, area-length}
-use Rattle.rules.proofs.HandlingLaws.{transit-none, transit-over, faulted-silent, faulted-none, faulted-over, echoed-mode, echoed-none, echoed-over, inner-short, inner-up, inner-channel, inner-any, inner-delivered, inner-untagged, routed-faulty, area-refused-small, area-none, routed-stopped, routed-egress, routed-transit, handling-unread, unread-small, handling-routed, handling-refused, header-refused-small, length-forwarded, length-error, length-echo, echo-ranged, channel-echo, clock-bad, room-short, frame-long, frame-handled, settings-bad, settings-good}
+use Rattle.rules.proofs.OptionLaws.{area-number}
+use Rattle.rules.proofs.HandlingLaws.{transit-none, transit-over, faulted-silent, faulted-none, faulted-over, echoed-mode, echoed-none, echoed-over, inner-short, inner-up, inner-channel, inner-any, inner-delivered, inner-untagged, routed-faulty, routed-stopped, routed-egress, routed-transit, handling-unread, unread-small, handling-routed, handling-refused, header-refused-small, length-forwarded, length-error, length-echo, echo-ranged, channel-echo, clock-bad, room-short, frame-long, frame-handled, settings-bad, settings-good}
 
 -- an answer that writes nothing, and after which no run goes on
 pub record Final (a : Handled) : Type 0 where
@@ -144,16 +144,14 @@ module _ (S : Settings) (clock f : List ℕ) (h : Header) where
             (λ b. by-test (toAllEgressRBridges (innerOf f h)) (up a b) (home a b))
 
   how-routed : readFrame f ≡ Trill h → headerRefusal (S .mac) f h ≡ 0 → How S clock f (routed S clock f h)
-  how-routed read unrefused =
-      by-test (eqb (areaRefusal (areaRead (areaOf f h))) 0)
-      (λ a. well (eqb-true _ 0 a))
-      (λ a. rw (routed-faulty S clock f h (eqb-false _ 0 a)) (ends (omega (arith, area-refused-small (areaRead (areaOf f h))))))
+  how-routed read unrefused = go (areaRead (areaOf f h)) refl
     where
-      cleared : areaRefusal (areaRead (areaOf f h)) ≡ 0 → (b : Bool) → weAreEgress (S .nickname) h ≡ b → Cleared S f h b
-      cleared a b e = record { read = read; unrefused = unrefused; well = area-none (areaRead (areaOf f h)) a; role = e }
+      cleared : areaRead (areaOf f h) ≡ WellFormed → (b : Bool) → weAreEgress (S .nickname) h ≡ b → Cleared S f h b
+      cleared a b e = record { read = read; unrefused = unrefused; well = a; role = e }
 
-      well : areaRefusal (areaRead (areaOf f h)) ≡ 0 → How S clock f (routed S clock f h)
-      well a =
+      go : (w : AreaRead) → areaRead (areaOf f h) ≡ w → How S clock f (routed S clock f h)
+      go (Faulty n p) a = rw (routed-faulty S clock f h n p a) (ends (omega (arith, area-number (areaOf f h) n p a .to)))
+      go WellFormed a =
           by-test (areaStops (weAreEgress (S .nickname) h) (areaOf f h))
           (λ b. rw (routed-stopped S clock f h a b) (ends (omega arith)))
           (λ b.

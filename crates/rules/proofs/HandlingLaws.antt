@@ -13,16 +13,14 @@ use Rattle.rules.specs.Octets.{be16, be48}
 use Rattle.rules.specs.Settings.{Settings, nextHop, settingsOf}
 use Rattle.rules.specs.Link.{link, linkLength, linkEthertype, ethertypeTag, ethertypeTrill}
 use Rattle.rules.specs.Header.{version, multi, hopCount, anyRBridge, readFrame, innerStart, areaOf, innerOf, headerRefusal, weAreEgress}
-use Rattle.rules.specs.Options.{areaRead, areaRefusal, areaStops, areaSent}
-use Rattle.rules.specs.Answer.{dropped, wrote, delivered}
+use Rattle.rules.specs.Options.{WellFormed, Faulty, areaRead, areaStops, areaSent}
+use Rattle.rules.specs.Answer.{dropped, droppedAt, wrote, delivered}
 use Rattle.rules.specs.Channel.{ethertypeChannel, ethertypeIsIs, protocolError, protocolEcho, innerEthertype, chv, protocol, na, err, bodyOf, replyMode, echoRead, channelRead, silenced, returnPath, errorReply, echoReply}
 use Rattle.rules.specs.Handling.{forwardedRest, forwarded, transit, faulted, echoed, channelled, vlan, toAllEgressRBridges, decapsulated, routed, handling, frameMost, handledWith, handled}
 use Rattle.rules.specs.declared.NextHop.{NextHop}
 use Rattle.rules.specs.declared.Header.{Header}
 use Rattle.rules.specs.declared.Ruling.the-variants.{Found, Absent}
 use Rattle.rules.specs.declared.FrameRead.the-variants.{Trill, Unreadable}
-use Rattle.rules.specs.declared.AreaRead.{AreaRead}
-use Rattle.rules.specs.declared.AreaRead.the-variants.{WellFormed, Faulty, HopByHopUnsummarized, IngressToEgressUnsummarized}
 use Rattle.rules.specs.declared.ChannelRead.{ChannelRead}
 use Rattle.rules.specs.declared.ChannelRead.the-variants.{Fault, BadErr, ErrorHeard, BadEcho, EchoRequest}
 use Rattle.rules.proofs.TestLaws.{or-false, and-no}
@@ -133,23 +131,23 @@ module _ (S : Settings) (clock f : List ℕ) (h : Header) where
         unfolding decapsulated
         inner-channel g = simp (le-ltb (length (innerOf f h)) 18 a, b, d, and-no, ne-eqb (innerEthertype (innerOf f h)) ethertypeIsIs g)
 
-  pub routed-faulty : (areaRefusal (areaRead (areaOf f h)) ≡ 0 → ⊥) → routed S clock f h ≡ dropped (areaRefusal (areaRead (areaOf f h)))
+  pub routed-faulty : (number place : ℕ) → areaRead (areaOf f h) ≡ Faulty number place → routed S clock f h ≡ droppedAt number place
   unfolding routed
-  routed-faulty a = simp (ne-eqb (areaRefusal (areaRead (areaOf f h))) 0 a)
+  routed-faulty number place a = rw (routed, a)
 
-  module _ (a : areaRefusal (areaRead (areaOf f h)) ≡ 0) where
+  module _ (a : areaRead (areaOf f h) ≡ WellFormed) where
     pub routed-stopped : areaStops (weAreEgress (S .nickname) h) (areaOf f h) ≡ true → routed S clock f h ≡ dropped 20
     unfolding routed
-    routed-stopped b = simp (eq-eqb (areaRefusal (areaRead (areaOf f h))) 0 a, b)
+    routed-stopped b = rw (routed, a, b)
 
     module _ (b : areaStops (weAreEgress (S .nickname) h) (areaOf f h) ≡ false) where
       pub routed-egress : weAreEgress (S .nickname) h ≡ true → routed S clock f h ≡ decapsulated S clock f h
       unfolding routed
-      routed-egress c = rw (eq-eqb (areaRefusal (areaRead (areaOf f h))) 0 a, b, c)
+      routed-egress c = rw (routed, a, b, c)
 
       pub routed-transit : weAreEgress (S .nickname) h ≡ false → routed S clock f h ≡ transit S f h
       unfolding routed
-      routed-transit c = rw (eq-eqb (areaRefusal (areaRead (areaOf f h))) 0 a, b, c)
+      routed-transit c = rw (routed, a, b, c)
 
   pub handling-refused : readFrame f ≡ Trill h → (headerRefusal (S .mac) f h ≡ 0 → ⊥) → handling S clock f ≡ dropped (headerRefusal (S .mac) f h)
   unfolding handling
@@ -193,20 +191,6 @@ module _ (settings clock : List ℕ) (room : ℕ) (f : List ℕ) where
   settings-good S e = rw (handled, e)
 
 -- the numbers of what is refused before 50
-pub area-refused-small : (a : AreaRead) → areaRefusal a < 50
-unfolding areaRefusal
-area-refused-small WellFormed = omega arith
-area-refused-small (Faulty kind place) = omega arith
-area-refused-small HopByHopUnsummarized = omega arith
-area-refused-small IngressToEgressUnsummarized = omega arith
-
-pub area-none : (a : AreaRead) → areaRefusal a ≡ 0 → a ≡ WellFormed
-unfolding areaRefusal
-area-none WellFormed e = refl
-area-none (Faulty kind place) e = absurd (omega arith)
-area-none HopByHopUnsummarized e = absurd (omega arith)
-area-none IngressToEgressUnsummarized e = absurd (omega arith)
-
 one-small : (b : Bool) (n x : ℕ) → n < 50 → x < 50 → cond b n x < 50
 one-small true n x hn hx = hn
 one-small false n x hn hx = hx

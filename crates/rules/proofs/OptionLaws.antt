@@ -3,41 +3,37 @@
 -- Assumes nothing.
 use mathlib.Core.Path.{_≡_, refl, sym, ap, _∙_}
 use mathlib.Core.List.{List, [], _∷_, _++_, append-assoc, append-nil}
-use mathlib.Core.Bool.{Bool, true, false, not, _&&_, cond}
+use mathlib.Core.Bool.{Bool, true, false, not, _&&_, cond, true≢false, false≢true}
 use Prim.Native.Nat.{ℕ, zero, suc, _+_, _-_, _*_, _/_, _%_, _<_, _≤_}
 use native.Mathlib.Omega.{arith}
 use native.Mathlib.Nat.{add-zero}
 use borrow.Author.Tests.{lt-ltb, le-ltb, le-leb, lt-leb, eq-eqb, ne-eqb, ltb-true, ltb-false, leb-true, leb-false, eqb-true, eqb-false}
 use lib.Dec.{ltb, leb, eqb}
-use lib.ListN.{length, take, drop, length-append, length-drop, drop-of-length-le}
+use lib.ListN.{length, take, drop, take-append-drop, length-append, length-drop, drop-of-length-le}
 use lib.Seq.{drop-append-seam, take-at, take-all, length-take-le}
 use Rattle.rules.specs.Octets.{octet, be16, part}
 use Rattle.rules.specs.Options.{chbh, cite, keyOf, lengthOf, ie, nc, mt, optionSize, optionAt, TlvOption, Options, options, fault, optionFirst, optionsFrom, optionsOf, hopByHopCritical, ingressToEgressCritical, some-key, summarized, areaRead, implemented, strippable, keptOptions, octetsOf, stripped}
-use Rattle.rules.specs.declared.OptionFault.{OptionFault}
-use Rattle.rules.specs.declared.OptionFault.the-variants.{Reserved, Past, Below, Equal}
-use Rattle.rules.specs.declared.OptionRead.{OptionRead}
-use Rattle.rules.specs.declared.OptionRead.the-variants.{Taken, Fault}
-use Rattle.rules.specs.declared.AreaRead.the-variants.{WellFormed, Faulty, HopByHopUnsummarized, IngressToEgressUnsummarized}
+use Rattle.rules.specs.Options.{OptionRead, Taken, Fault, AreaRead, WellFormed, Faulty, Laid, none, one, WellFormedArea}
 use Rattle.rules.proofs.TestLaws.{by-test, and-true, and-no}
 use Rattle.rules.proofs.OctetLaws.{octet-before, octet-part, be16-before, be16-after, be16-part, drop-part, length-part}
 
 -- one option, by outcome
 module _ (area : List ℕ) (floor at : ℕ) where
-  pub option-reserved : 119 ≤ lengthOf (be16 area at) → Fault Reserved at ≡ optionAt area floor at
+  pub option-reserved : 119 ≤ lengthOf (be16 area at) → Fault 30 at ≡ optionAt area floor at
   unfolding optionAt
   option-reserved h = simp (le-leb 119 (lengthOf (be16 area at)) h)
 
   module _ (s : lengthOf (be16 area at) < 119) where
-    pub option-past : length area < at + optionSize (lengthOf (be16 area at)) → Fault Past at ≡ optionAt area floor at
+    pub option-past : length area < at + optionSize (lengthOf (be16 area at)) → Fault 31 at ≡ optionAt area floor at
     unfolding optionAt
     option-past h = simp (lt-leb 119 (lengthOf (be16 area at)) s, lt-ltb (length area) (at + optionSize (lengthOf (be16 area at))) h)
 
     module _ (p : at + optionSize (lengthOf (be16 area at)) ≤ length area) where
-      pub option-below : keyOf (be16 area at) + 1 < floor → Fault Below at ≡ optionAt area floor at
+      pub option-below : keyOf (be16 area at) + 1 < floor → Fault 32 at ≡ optionAt area floor at
       unfolding optionAt
       option-below h = simp (lt-leb 119 (lengthOf (be16 area at)) s, le-ltb (length area) (at + optionSize (lengthOf (be16 area at))) p, lt-ltb (keyOf (be16 area at) + 1) floor h)
 
-      pub option-equal : keyOf (be16 area at) + 1 ≡ floor → Fault Equal at ≡ optionAt area floor at
+      pub option-equal : keyOf (be16 area at) + 1 ≡ floor → Fault 33 at ≡ optionAt area floor at
       unfolding optionAt
       option-equal h = simp (lt-leb 119 (lengthOf (be16 area at)) s, le-ltb (length area) (at + optionSize (lengthOf (be16 area at))) p, le-ltb (keyOf (be16 area at) + 1) floor (omega arith), eq-eqb (keyOf (be16 area at) + 1) floor h)
 
@@ -54,7 +50,7 @@ pub record Read (area : List ℕ) (floor at key size next : ℕ) : Type 0 where
   pub within : next ≤ length area
   pub above : floor ≤ key
 
-all-passed : (a b c d : Bool) (w x y z : OptionFault) (at k n m : ℕ) (o : OptionRead)
+all-passed : (a b c d : Bool) (w x y z at k n m : ℕ) (o : OptionRead)
     → cond a (Fault w at) (cond b (Fault x at) (cond c (Fault y at) (cond d (Fault z at) o))) ≡ Taken k n m
     → (a ≡ false) × (b ≡ false) × (c ≡ false) × (d ≡ false) × (o ≡ Taken k n m)
 all-passed false false false false w x y z at k n m o e = (refl, refl, refl, refl, e)
@@ -68,7 +64,7 @@ unfolding optionAt
 option-read area floor at k n m e =
     let w = be16 area at in
     let next = at + optionSize (lengthOf w) in
-    let p = all-passed (leb 119 (lengthOf w)) (ltb (length area) next) (ltb (keyOf w + 1) floor) (eqb (keyOf w + 1) floor) Reserved Past Below Equal at k n m (Taken (keyOf w) (lengthOf w) next) e in
+    let p = all-passed (leb 119 (lengthOf w)) (ltb (length area) next) (ltb (keyOf w + 1) floor) (eqb (keyOf w + 1) floor) 30 31 32 33 at k n m (Taken (keyOf w) (lengthOf w) next) e in
     let ek : keyOf w ≡ k = cc (p .4) in
     let en : lengthOf w ≡ n = cc (p .4) in
     let em : next ≡ m = cc (p .4) in
@@ -91,14 +87,22 @@ module _ (fuel : ℕ) (area : List ℕ) (floor at : ℕ) where
   unfolding optionsFrom
   options-end h = rw (optionsFrom, le-ltb at (length area) h)
 
-  pub options-fault : (kind : OptionFault) (place : ℕ) → at < length area → optionAt area floor at ≡ Fault kind place → optionsFrom (suc fuel) area floor at ≡ fault kind place
+  pub options-fault : (number place : ℕ) → at < length area → optionAt area floor at ≡ Fault number place → optionsFrom (suc fuel) area floor at ≡ fault number place
   unfolding optionsFrom
-  options-fault kind place h e = rw (optionsFrom, lt-ltb at (length area) h, e)
+  options-fault number place h e = rw (optionsFrom, lt-ltb at (length area) h, e)
 
   pub options-on : (key size next : ℕ) → at < length area → optionAt area floor at ≡ Taken key size next
       → optionsFrom (suc fuel) area floor at ≡ optionFirst (record { key = key; size = size; octets = part area at (next - at) }) (optionsFrom fuel area (key + 1) next)
   unfolding optionsFrom
   options-on key size next h e = rw (optionsFrom, lt-ltb at (length area) h, e)
+
+options-nil : (area : List ℕ) (floor at : ℕ) → optionsFrom zero area floor at ≡ options []
+unfolding optionsFrom
+options-nil area floor at = refl
+
+no-options : (os : List TlvOption) → length os ≤ 0 → os ≡ []
+no-options [] h = refl
+no-options (o ∷ os) h = absurd (omega arith)
 
 -- a walk that met no fault had come to the end, or took an option and met no fault from there on
 pub data Walked (fuel : ℕ) (area : List ℕ) (floor at : ℕ) (os : List TlvOption) : Type 0 where
@@ -115,16 +119,16 @@ walked fuel area floor at os e = go (ltb at (length area)) refl
         let o : TlvOption = record { key = key; size = size; octets = part area at (next - at) } in
         let on : options os ≡ optionFirst o (options os′) = sym e ∙ options-on fuel area floor at key size next lt q ∙ ap (optionFirst o) f in
         took key size next os′ lt (option-read area floor at key size next q) (cc on) f
-    rest key size next lt q (fault kind place) f =
+    rest key size next lt q (fault number place) f =
         let o : TlvOption = record { key = key; size = size; octets = part area at (next - at) } in
-        let on : options os ≡ fault kind place = sym e ∙ options-on fuel area floor at key size next lt q ∙ ap (optionFirst o) f in
+        let on : options os ≡ fault number place = sym e ∙ options-on fuel area floor at key size next lt q ∙ ap (optionFirst o) f in
         let z : _≡_ {A = ℕ} 0 1 = cc on in
         absurd (omega arith)
 
     which : at < length area → (w : OptionRead) → optionAt area floor at ≡ w → Walked fuel area floor at os
     which lt (Taken key size next) q = rest key size next lt q (optionsFrom fuel area (key + 1) next) refl
-    which lt (Fault kind place) q =
-        let on : options os ≡ fault kind place = sym e ∙ options-fault fuel area floor at kind place lt q in
+    which lt (Fault number place) q =
+        let on : options os ≡ fault number place = sym e ∙ options-fault fuel area floor at number place lt q in
         let z : _≡_ {A = ℕ} 0 1 = cc on in
         absurd (omega arith)
 
@@ -140,12 +144,6 @@ options-same os os′ e = cc
 nothing-octets : octetsOf [] ≡ []
 unfolding octetsOf
 nothing-octets = refl
-
--- options with keys above `floor`, rising, each with octets that say its key and Length and are as many as it takes
-pub data Laid : ℕ → List TlvOption → Type 0 where
-  none : {floor : ℕ} → Laid floor []
-  one : {floor : ℕ} {o : TlvOption} {os : List TlvOption} → keyOf (be16 (o .octets) 0) ≡ o .key → lengthOf (be16 (o .octets) 0) ≡ o .size
-      → o .size < 119 → length (o .octets) ≡ optionSize (o .size) → floor ≤ o .key → Laid (o .key + 1) os → Laid floor (o ∷ os)
 
 -- what a walk that meets no fault finds lays out the area from there on
 pub walk-laid : (fuel : ℕ) (area : List ℕ) (floor at : ℕ) (os : List TlvOption) → at ≤ length area → length area < at + fuel
@@ -318,7 +316,7 @@ pub record Well (area : List ℕ) : Type 0 where
   pub hop-by-hop : (some-key hopByHopCritical its-options && not (chbh area)) ≡ false
   pub ingress-to-egress : (some-key ingressToEgressCritical its-options && not (cite area)) ≡ false
 
-both-summarized : (a b : Bool) → cond a HopByHopUnsummarized (cond b IngressToEgressUnsummarized WellFormed) ≡ WellFormed → (a ≡ false) × (b ≡ false)
+both-summarized : (a b : Bool) → cond a (Faulty 34 0) (cond b (Faulty 35 0) WellFormed) ≡ WellFormed → (a ≡ false) × (b ≡ false)
 both-summarized false false e = (refl, refl)
 both-summarized true b e = let z : _≡_ {A = ℕ} 0 1 = cc in absurd (omega arith)
 both-summarized false true e = let z : _≡_ {A = ℕ} 0 1 = cc in absurd (omega arith)
@@ -331,8 +329,8 @@ area-well area e = go (optionsOf area) refl
     go (options os) f =
         let p = both-summarized (some-key hopByHopCritical os && not (chbh area)) (some-key ingressToEgressCritical os && not (cite area)) (rw (f, summarized) at e) in
         record { its-options = os; are = f; hop-by-hop = p .0; ingress-to-egress = p .1 }
-    go (fault kind place) f =
-        let g : Faulty kind place ≡ WellFormed = (rw (f, summarized) at e) in
+    go (fault number place) f =
+        let g : Faulty number place ≡ WellFormed = (rw (f, summarized) at e) in
         let z : _≡_ {A = ℕ} 0 1 = cc g in
         absurd (omega arith)
 
@@ -380,3 +378,128 @@ module _ (area : List ℕ) (e : areaRead area ≡ WellFormed) where
 pub stripped-word : (area : List ℕ) → length area ≤ 4 → stripped area ≡ area
 unfolding optionsOf
 stripped-word area h = stripped-is area [] (options-end (length area) area 0 4 h) ∙ (rw (kept-nothing, nothing-octets, append-nil)) ∙ take-all 4 area h
+
+-- T-02: "Frames refused stay the same": what is read as well formed is what document 01's sentence says, and nothing else
+lacks-none : (a b : Bool) → (a && not b) ≡ false → a ≡ true → b ≡ true
+lacks-none true true e t = refl
+lacks-none true false e t = absurd (true≢false e)
+lacks-none false b e t = absurd (false≢true t)
+
+none-lacks : (a b : Bool) → (a ≡ true → b ≡ true) → (a && not b) ≡ false
+none-lacks true b h = rw (h refl)
+none-lacks false b h = refl
+
+pub well-formed-before : (area : List ℕ) → areaRead area ≡ WellFormed → WellFormedArea area
+unfolding optionsOf octetsOf
+well-formed-before area e =
+    let w = area-well area e in
+    let os = w .its-options in
+    let filled : Laid 0 os × (drop 4 area ≡ octetsOf os) =
+    by-test (leb 4 (length area))
+    (λ t. walk-laid (suc (length area)) area 0 4 os (leb-true 4 (length area) t) (omega arith) (w .are))
+    (λ t.
+    let short = leb-false 4 (length area) t in
+    let empty : os ≡ [] = options-same os [] (sym (w .are) ∙ options-end (length area) area 0 4 (omega arith)) in
+    let le : length area ≤ 4 = omega (arith, short) in
+    rw empty (none, drop-of-length-le area le)) in
+    record {
+      its = os;
+      fill = filled .1;
+      laid = filled .0;
+      hop-by-hop = lacks-none (some-key hopByHopCritical os) (chbh area) (w .hop-by-hop);
+      ingress-to-egress = lacks-none (some-key ingressToEgressCritical os) (cite area) (w .ingress-to-egress);
+    }
+
+pub well-formed-after : (area : List ℕ) → WellFormedArea area → areaRead area ≡ WellFormed
+unfolding optionsOf
+well-formed-after area w =
+    let os = w .its in
+    let count = laid-words 0 os (w .laid) .0 in
+    let found : optionsOf area ≡ options os =
+    by-test (leb 4 (length area))
+    (λ t.
+    let four : length (take 4 area) ≡ 4 = length-take-le 4 area (leb-true 4 (length area) t) in
+    let whole : take 4 area ++ octetsOf os ≡ area = rw (← w .fill) (take-append-drop 4 area) in
+    let long : length (octetsOf os) ≡ length area - 4 = ap length (sym (w .fill)) ∙ length-drop 4 area in
+    let back = laid-walk 0 os (w .laid) (take 4 area) (suc (length area)) (omega (arith, count, long)) in
+    rw (whole, four) at back)
+    (λ t.
+    let short = leb-false 4 (length area) t in
+    let long : length (octetsOf os) ≡ 0 = ap length (sym (w .fill)) ∙ length-drop 4 area ∙ omega (arith, short) in
+    let empty : os ≡ [] = no-options os (omega (arith, count, long)) in
+    rw empty (options-end (length area) area 0 4 (omega (arith, short)))) in
+    well-area area
+    record {
+      its-options = os;
+      are = found;
+      hop-by-hop = none-lacks (some-key hopByHopCritical os) (chbh area) (w .hop-by-hop);
+      ingress-to-egress = none-lacks (some-key ingressToEgressCritical os) (cite area) (w .ingress-to-egress);
+    }
+
+-- the answer numbers of an area, 30 to 33 of an option and 34 and 35 after all, and their places
+pub record Numbered (least most long n p : ℕ) : Type 0 where
+  pub from : least ≤ n
+  pub to : n ≤ most
+  pub near : p ≤ long
+
+option-number : (area : List ℕ) (floor at n p : ℕ) → at ≤ length area → optionAt area floor at ≡ Fault n p → Numbered 30 33 (length area) n p
+unfolding optionAt
+option-number area floor at n p h e =
+    let w = be16 area at in
+    go (leb 119 (lengthOf w)) (ltb (length area) (at + optionSize (lengthOf w))) (ltb (keyOf w + 1) floor) (eqb (keyOf w + 1) floor) (Taken (keyOf w) (lengthOf w) (at + optionSize (lengthOf w))) refl e
+  where
+    is : (m : ℕ) → 30 ≤ m → m ≤ 33 → Fault m at ≡ Fault n p → Numbered 30 33 (length area) n p
+    is m lo hi f =
+        let g : m ≡ n = cc f in
+        let q : at ≡ p = cc f in
+        record { from = omega (arith, g); to = omega (arith, g); near = omega (arith, q) }
+
+    go : (a b c d : Bool) (o : OptionRead) {k l m : ℕ} → o ≡ Taken k l m
+        → cond a (Fault 30 at) (cond b (Fault 31 at) (cond c (Fault 32 at) (cond d (Fault 33 at) o))) ≡ Fault n p → Numbered 30 33 (length area) n p
+    go true b c d o t f = is 30 (omega arith) (omega arith) f
+    go false true c d o t f = is 31 (omega arith) (omega arith) f
+    go false false true d o t f = is 32 (omega arith) (omega arith) f
+    go false false false true o t f = is 33 (omega arith) (omega arith) f
+    go false false false false o t f = let z : _≡_ {A = ℕ} 0 1 = cc (sym t ∙ f) in absurd (omega arith)
+
+options-number : (fuel : ℕ) (area : List ℕ) (floor at n p : ℕ) → optionsFrom fuel area floor at ≡ fault n p → Numbered 30 33 (length area) n p
+options-number zero area floor at n p e = let z : _≡_ {A = ℕ} 0 1 = cc (sym (options-nil area floor at) ∙ e) in absurd (omega arith)
+options-number (suc fuel) area floor at n p e =
+    by-test (ltb at (length area))
+    (λ t. which (ltb-true at (length area) t) (optionAt area floor at) refl (λ key next. options-number fuel area (key + 1) next))
+    (λ t. let z : _≡_ {A = ℕ} 0 1 = cc (sym (options-end fuel area floor at (ltb-false at (length area) t)) ∙ e) in absurd (omega arith))
+  where
+    rest : (o : TlvOption) (w : Options) → ((m q : ℕ) → w ≡ fault m q → Numbered 30 33 (length area) m q) → optionFirst o w ≡ fault n p → Numbered 30 33 (length area) n p
+    rest o (options os) ih f = let z : _≡_ {A = ℕ} 0 1 = cc f in absurd (omega arith)
+    rest o (fault m q) ih f = ih n p f
+
+    which : at < length area → (w : OptionRead) → optionAt area floor at ≡ w
+        → ((key next m q : ℕ) → optionsFrom fuel area (key + 1) next ≡ fault m q → Numbered 30 33 (length area) m q) → Numbered 30 33 (length area) n p
+    which lt (Fault m q) f ih =
+        let same : fault m q ≡ fault n p = sym (options-fault fuel area floor at m q lt f) ∙ e in
+        option-number area floor at n p (omega arith) (f ∙ cc same)
+    which lt (Taken key size next) f ih =
+        rest (record { key = key; size = size; octets = part area at (next - at) }) (optionsFrom fuel area (key + 1) next) (ih key next)
+        (sym (options-on fuel area floor at key size next lt f) ∙ e)
+
+pub area-number : (area : List ℕ) (n p : ℕ) → areaRead area ≡ Faulty n p → Numbered 30 35 (length area) n p
+unfolding areaRead summarized optionsOf
+area-number area n p e = go (optionsOf area) refl
+  where
+    is : (m : ℕ) → 30 ≤ m → m ≤ 35 → Faulty m 0 ≡ Faulty n p → Numbered 30 35 (length area) n p
+    is m lo hi f =
+        let g : m ≡ n = cc f in
+        let q : 0 ≡ p = cc f in
+        record { from = omega (arith, g); to = omega (arith, g); near = omega (arith, q) }
+
+    summed : (a b : Bool) → cond a (Faulty 34 0) (cond b (Faulty 35 0) WellFormed) ≡ Faulty n p → Numbered 30 35 (length area) n p
+    summed true b f = is 34 (omega arith) (omega arith) f
+    summed false true f = is 35 (omega arith) (omega arith) f
+    summed false false f = let z : _≡_ {A = ℕ} 0 1 = cc f in absurd (omega arith)
+
+    go : (w : Options) → optionsOf area ≡ w → Numbered 30 35 (length area) n p
+    go (options os) f = summed (some-key hopByHopCritical os && not (chbh area)) (some-key ingressToEgressCritical os && not (cite area)) (rw (f, summarized) at e)
+    go (fault m q) f =
+        let same : Faulty m q ≡ Faulty n p = (rw (f, summarized) at e) in
+        let h = options-number (suc (length area)) area 0 4 n p (f ∙ cc same) in
+        record { from = h .from; to = omega (arith, h .to); near = h .near }

@@ -10,8 +10,12 @@ pub record Handled : Type 0 where
   pub size : ℕ
   pub via : ℕ
 
+-- "The answer's start field gives the option's offset from the options area" (T-02); 0 for every other drop
+abbrev pub droppedAt : ℕ → ℕ → Handled
+droppedAt number place = record { number = number; octets = []; start = place; size = 0; via = 0 }
+
 abbrev pub dropped : ℕ → Handled
-dropped number = record { number = number; octets = []; start = 0; size = 0; via = 0 }
+dropped number = droppedAt number 0
 
 abbrev pub wrote : ℕ → List ℕ → ℕ → Handled
 wrote number octets via = record { number = number; octets = octets; start = 0; size = 0; via = via }

@@ -11,7 +11,7 @@ use Rattle.rules.specs.Fields.{fieldAt, fieldsFrom, fields, lengthGood}
 use Rattle.rules.specs.Settings.{hopGood, newer, ruling, nextHop, serialMet, switchGood, withField, opens, continues, opened, settingsFrom, settingsOf}
 use Rattle.rules.specs.Link.{linkLength, link}
 use Rattle.rules.specs.Header.{readFrame, headerRefusal, weAreEgress}
-use Rattle.rules.specs.Options.{optionSize, optionAt, optionsFrom, optionsOf, some-key, summarized, areaRead, implemented, strippable, keptOptions, octetsOf, stripped, areaRefusal, areaStops, areaSent}
+use Rattle.rules.specs.Options.{optionSize, optionAt, optionsFrom, optionsOf, some-key, summarized, areaRead, implemented, strippable, keptOptions, octetsOf, stripped, areaStops, areaSent}
 use Rattle.rules.specs.Answer.{Handled}
 use Rattle.rules.specs.Channel.{echoRead, channelRead, silenced, returnPath, replyInner, replyRest, echoBody, errorReply, echoReply}
 use Rattle.rules.specs.Handling.{handled, forwardedRest, forwarded, transit, faulted, echoed, channelled, decapsulated, routed, handling, handledWith, partOf}
@@ -98,8 +98,10 @@ inner = innerIn (hex "0005")
 abbrev pub areaTaken : String → List ℕ → List ℕ → Case
 areaTaken name word area = delivers name settings1 (frameTo word (hex "0001") area inner) 51 (20 + length area) 20
 
-abbrev pub areaRefused : String → List ℕ → List ℕ → Case
-areaRefused name word area = drops name settings1 (frameTo word (hex "0001") area inner) 19
+-- the same, dropped with a number and the place in the area
+abbrev pub areaRefused : String → List ℕ → List ℕ → ℕ → ℕ → Case
+areaRefused name word area number place =
+    record { name = name; computed = numbers (handled settings1 clock 2048 (frameTo word (hex "0001") area inner)); expected = number ∷ place ∷ 0 ∷ 0 ∷ [] }
 
 -- forwarded to 0x0005 with the strip flag set: first word and area before and after
 abbrev pub strips : String → List ℕ → List ℕ → List ℕ → List ℕ → Case
@@ -192,7 +194,7 @@ sentC12 mac = mac ++ hex "020000000001 22F3 0004 0009 0004" ++ inner
 
 -- the names of the cases that do not come out as expected; to open it is to open all that a case computes with
 unfoldable pub failing : List Case → List String
-unfolding same digits pairs hex numbers ending ascii hexDigit decimalFrom entryText entriesText printed fieldAt fieldsFrom fields lengthGood hopGood newer ruling nextHop serialMet switchGood withField opens continues opened settingsFrom settingsOf linkLength link readFrame headerRefusal weAreEgress optionAt optionsFrom optionsOf some-key summarized areaRead implemented strippable keptOptions octetsOf stripped areaRefusal areaStops areaSent echoRead channelRead silenced returnPath replyInner replyRest echoBody errorReply echoReply forwardedRest forwarded transit faulted echoed channelled decapsulated routed handling handledWith handled partOf switchNamed placeGood valueGood nicknameNew roomGood serialNew entryKnown fieldRefusal withNext describedFrom described clockOf kindAfter runFrom plainRun hopReceived egressReceived entryOctets traceOctets campus
+unfolding same digits pairs hex numbers ending ascii hexDigit decimalFrom entryText entriesText printed fieldAt fieldsFrom fields lengthGood hopGood newer ruling nextHop serialMet switchGood withField opens continues opened settingsFrom settingsOf linkLength link readFrame headerRefusal weAreEgress optionAt optionsFrom optionsOf some-key summarized areaRead implemented strippable keptOptions octetsOf stripped areaStops areaSent echoRead channelRead silenced returnPath replyInner replyRest echoBody errorReply echoReply forwardedRest forwarded transit faulted echoed channelled decapsulated routed handling handledWith handled partOf switchNamed placeGood valueGood nicknameNew roomGood serialNew entryKnown fieldRefusal withNext describedFrom described clockOf kindAfter runFrom plainRun hopReceived egressReceived entryOctets traceOctets campus
 failing [] = []
 failing (c ∷ cases) = elim (same (c .computed) (c .expected)) [ true ↦ failing cases | false ↦ c .name ∷ failing cases ]
 
@@ -205,16 +207,16 @@ cases =
     ∷ delivers "C3 hop 1 at the egress" settings1 (frameTo (hex "0001") (hex "0001") [] inner) 51 20 20
     ∷ writes "C3 hop 1 in transit" settings1 (frameTo (hex "0001") (hex "0009") [] inner) 50 5 (frameSent (hex "0000") [] inner)
     ∷ areaTaken "C4 Length 118 in 31 words" (hex "07C5") (hex "00000000 45F6" ++ zeros 118)
-    ∷ areaRefused "C5 Length 119 in 31 words" (hex "07C5") (hex "00000000 45F7" ++ zeros 118)
+    ∷ areaRefused "C5 Length 119 in 31 words" (hex "07C5") (hex "00000000 45F7" ++ zeros 118) 30 4
     ∷ record { name = "C6 octets taken"; computed = map optionSize (2 ∷ 3 ∷ 6 ∷ 7 ∷ []); expected = 4 ∷ 8 ∷ 8 ∷ 12 ∷ [] }
     ∷ areaTaken "C6 Length 2 in one word" (hex "0085") (hex "00000000 4582AAAA")
-    ∷ areaRefused "C6 Length 2 in two" (hex "00C5") (hex "00000000 4582AAAA 00000000")
-    ∷ areaRefused "C6 Length 3 in one word" (hex "0085") (hex "00000000 4583AAAA")
+    ∷ areaRefused "C6 Length 2 in two" (hex "00C5") (hex "00000000 4582AAAA 00000000") 32 8
+    ∷ areaRefused "C6 Length 3 in one word" (hex "0085") (hex "00000000 4583AAAA") 31 4
     ∷ areaTaken "C6 Length 3 in two" (hex "00C5") (hex "00000000 4583AAAA AA000000")
-    ∷ areaRefused "C6 Length 3 in three" (hex "0105") (hex "00000000 4583AAAA AA000000 00000000")
+    ∷ areaRefused "C6 Length 3 in three" (hex "0105") (hex "00000000 4583AAAA AA000000 00000000") 32 12
     ∷ areaTaken "C6 Length 6 in two words" (hex "00C5") (hex "00000000 4586AAAA AAAAAAAA")
-    ∷ areaRefused "C6 Length 6 in three" (hex "0105") (hex "00000000 4586AAAA AAAAAAAA 00000000")
-    ∷ areaRefused "C6 Length 7 in two words" (hex "00C5") (hex "00000000 4587AAAA AAAAAAAA")
+    ∷ areaRefused "C6 Length 6 in three" (hex "0105") (hex "00000000 4586AAAA AAAAAAAA 00000000") 32 12
+    ∷ areaRefused "C6 Length 7 in two words" (hex "00C5") (hex "00000000 4587AAAA AAAAAAAA") 31 4
     ∷ areaTaken "C6 Length 7 in three" (hex "0105") (hex "00000000 4587AAAA AAAAAAAA AA000000")
     ∷ strips "C7 stripped" (hex "0105") (hex "00000000 41820007 4583AABB CC000000") (hex "0084") (hex "00000000 41820007")
     ∷ strips "C7 an immutable option stays" (hex "0105") (hex "00000000 41820007 4503AABB CC0000EE") (hex "0104") (hex "00000000 41820007 4503AABB CC0000EE")
@@ -226,8 +228,8 @@ cases =
     5
     (frameSent (hex "0104") (hex "00000000 41820007 4583AABB CC000000") inner)
     ∷ areaTaken "C8 rising keys" (hex "00C5") (hex "00000000 41820007 45820008")
-    ∷ areaRefused "C8 equal keys" (hex "00C5") (hex "00000000 41820007 41820008")
-    ∷ areaRefused "C8 falling keys" (hex "00C5") (hex "00000000 45820007 41820008")
+    ∷ areaRefused "C8 equal keys" (hex "00C5") (hex "00000000 41820007 41820008") 33 8
+    ∷ areaRefused "C8 falling keys" (hex "00C5") (hex "00000000 45820007 41820008") 32 8
     ∷ drops "C9 VLAN 0" settings1 (frameTo (hex "0005") (hex "0001") [] (innerIn (hex "0000"))) 23
     ∷ delivers "C9 VLAN 1" settings1 (frameTo (hex "0005") (hex "0001") [] (innerIn (hex "0001"))) 51 20 20
     ∷ delivers "C9 VLAN 4,094" settings1 (frameTo (hex "0005") (hex "0001") [] (innerIn (hex "0FFE"))) 51 20 20
@@ -241,6 +243,17 @@ cases =
     ∷ writes "C12 serials 7 and 8" (settingsC12 (live7 ++ live8)) frameC12 50 8 (sentC12 (hex "020000000008"))
     ∷ writes "C12 serials 8 and 7" (settingsC12 (live8 ++ live7)) frameC12 50 8 (sentC12 (hex "020000000008"))
     ∷ drops "C12 serial 8 twice" (settingsC12 (live8 ++ withdrawn8)) frameC12 1
+    ∷ areaRefused "T-02 key 0 without CHbH" (hex "0085") (hex "00000000 00000000") 34 0
+    ∷ drops "T-02 key 0 with CHbH" settings1 (frameTo (hex "0085") (hex "0009") (hex "80000000 00000000") inner) 20
+    ∷ areaRefused "T-02 reserved Length, second option" (hex "00C5") (hex "00000000 41820007 45FF0000") 30 8
+    ∷ areaRefused "T-02 past the area" (hex "0085") (hex "00000000 45830000") 31 4
+    ∷ areaRefused "T-02 key below" (hex "00C5") (hex "00000000 45800000 41820007") 32 8
+    ∷ areaRefused "T-02 CHbH missing, then reserved" (hex "00C5") (hex "00000000 00000000 457F0000") 30 8
+    ∷ areaRefused "T-02 CItE missing" (hex "0085") (hex "00000000 80000000") 35 0
+    ∷ areaRefused "T-02 both missing" (hex "00C5") (hex "00000000 00000000 80000000") 34 0
+    ∷ areaRefused "T-02 reserved and equal" (hex "00C5") (hex "00000000 41820007 41FF0000") 30 8
+    ∷ areaRefused "T-02 Length 118 at 8 of 31 words" (hex "07C5") (hex "00000000 41820007 45F6" ++ zeros 114) 31 8
+    ∷ drops "T-02 summary bits alone" settings1 (frameTo (hex "0045") (hex "0009") (hex "C0000000") inner) 20
     ∷ strips "T-03 Flow ID of Length 0" (hex "0085") (hex "00000000 41800000") (hex "0044") (hex "00000000")
     ∷ strips "T-03 Flow ID of Length 1" (hex "0085") (hex "00000000 4181AA00") (hex "0044") (hex "00000000")
     ∷ strips "T-03 Flow ID of Length 2" (hex "0085") (hex "00000000 4182AAAA") (hex "0084") (hex "00000000 4182AAAA")

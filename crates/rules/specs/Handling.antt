@@ -9,8 +9,8 @@ use Rattle.rules.specs.Octets.{if_then_else_, be16, be48, octets16, part
 use Rattle.rules.specs.Settings.{Settings, nextHop, settingsOf}
 use Rattle.rules.specs.Link.{link, ethertypeTag}
 use Rattle.rules.specs.Header.{version, reserved, multi, hopCount, headerWord, anyRBridge, readFrame, innerStart, areaOf, innerOf, headerRefusal, weAreEgress}
-use Rattle.rules.specs.Options.{areaRead, areaRefusal, areaStops, areaSent}
-use Rattle.rules.specs.Answer.{Handled, dropped, wrote, delivered}
+use Rattle.rules.specs.Options.{WellFormed, Faulty, areaRead, areaStops, areaSent}
+use Rattle.rules.specs.Answer.{Handled, dropped, droppedAt, wrote, delivered}
 use Rattle.rules.specs.Channel.{ethertypeIsIs, allEgressRBridges, innerEthertype, bodyOf, replyMode, channelRead, silenced, returnPath, errorReply, echoReply}
 use Rattle.rules.specs.declared.NextHop.{NextHop}
 use Rattle.rules.specs.declared.Header.{Header}
@@ -82,13 +82,16 @@ decapsulated S clock f h =
     if eqb (innerEthertype (innerOf f h)) ethertypeIsIs then delivered 52 (innerStart h) (length (innerOf f h))
     else channelled S clock f h (channelRead (innerOf f h))
 
--- 19 and 20, then by our role
+-- 30 to 35 and 20, then by our role
 unfoldable pub routed : Settings → List ℕ → List ℕ → Header → Handled
 routed S clock f h =
-    if not (eqb (areaRefusal (areaRead (areaOf f h))) 0) then dropped (areaRefusal (areaRead (areaOf f h))) else
-    if areaStops (weAreEgress (S .nickname) h) (areaOf f h) then dropped 20 else
-    if weAreEgress (S .nickname) h then decapsulated S clock f h
-    else transit S f h
+    elim (areaRead (areaOf f h)) [
+      | Faulty number place ↦ droppedAt number place
+      | WellFormed ↦
+          if areaStops (weAreEgress (S .nickname) h) (areaOf f h) then dropped 20 else
+          if weAreEgress (S .nickname) h then decapsulated S clock f h
+          else transit S f h
+    ]
 
 unfoldable pub handling : Settings → List ℕ → List ℕ → Handled
 handling S clock f =

@@ -34,28 +34,6 @@ pub enum FrameRead {
     Unreadable(u8),
 }
 
-// What can be wrong with one option, in the order of the tests.
-pub enum OptionFault {
-    Reserved,
-    Past,
-    Below,
-    Equal,
-}
-
-// An option with the next place, or a fault with its place.
-pub enum OptionRead {
-    Taken { key: u16, length: u8, next: usize },
-    Fault { kind: OptionFault, place: usize },
-}
-
-// What an options area is found to be.
-pub enum AreaRead {
-    WellFormed,
-    Faulty { kind: OptionFault, place: usize },
-    HopByHopUnsummarized,
-    IngressToEgressUnsummarized,
-}
-
 // What a channel message is found to be (RFC 7178, 3.2; document 01, "Channel messages").
 pub enum ChannelRead {
     Fault { code: u8 },

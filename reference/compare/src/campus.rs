@@ -58,7 +58,8 @@ pub fn replay(words: &[String]) -> Result<bool, String> {
 /// description has.
 fn expected() -> impl Iterator<Item = Hit> {
     let codes = [0].into_iter().chain(40..=49).map(Hit::Code);
-    let answers = (10..=28).chain(50..=56).map(Hit::Answer);
+    let refusals = (10..=18).chain(20..=28).chain(30..=35);
+    let answers = refusals.chain(50..=56).map(Hit::Answer);
     let features = FEATURES.iter().map(|&(name, _)| Hit::Feature(name));
     codes.chain(answers).chain(features)
 }

@@ -4,7 +4,7 @@ use std::hash::{DefaultHasher, Hash, Hasher};
 use std::hint::black_box;
 
 use reference::generate::{handle_input, HandleInput};
-use reference::Answer;
+use reference::{Answer, Cause, Role};
 
 use crate::buffers::Buffers;
 use crate::hex;
@@ -15,16 +15,16 @@ const ENOUGH: u64 = 100;
 /// Inputs that are tried with their slices emptied too.
 const EMPTIED: u64 = 64;
 
-/// Both programs' answers to one input.
+/// Both programs' answers to one input, and why the second gives its own.
 struct Trial {
     product: Answer,
     reference: Answer,
+    cause: Cause,
     difference: Option<String>,
 }
 
 pub fn compare(seed: u64, count: u64) -> Result<Tally, String> {
-    let expected = (1..=3).chain(10..=28).chain(50..=56);
-    let mut tally = Tally::new(ENOUGH, expected.map(Hit::Answer));
+    let mut tally = Tally::new(ENOUGH, expected());
     let mut buffers = Buffers::default();
     for input in inputs(seed, count) {
         let trial = trial(&input, &mut buffers);
@@ -32,7 +32,7 @@ pub fn compare(seed: u64, count: u64) -> Result<Tally, String> {
             let report = report(&input, &trial, &mut buffers);
             return Err(format!("{difference}\n{report}"));
         }
-        tally.add([Hit::Answer(trial.reference.number)]);
+        tally.add(hits(trial.cause));
     }
     Ok(tally)
 }
@@ -53,6 +53,22 @@ pub fn replay(words: &[String]) -> Result<bool, String> {
     let verdict = trial.difference.as_deref().unwrap_or("no difference");
     println!("{}\n{verdict}", report(&input, &trial, &mut buffers));
     Ok(trial.difference.is_none())
+}
+
+/// Every answer, and each fault of an options area in both roles.
+fn expected() -> impl Iterator<Item = Hit> {
+    let refusals = (1..=3).chain(10..=18).chain(20..=28).chain(30..=35);
+    let answers = refusals.chain(50..=56).map(Hit::Answer);
+    let at = |role| (30..=35).map(move |number| Hit::AtRole(number, role));
+    answers.chain(at(Role::Transit)).chain(at(Role::Egress))
+}
+
+fn hits(cause: Cause) -> Vec<Hit> {
+    let number = cause.number();
+    match cause {
+        Cause::IllFormed(_, role) => vec![Hit::Answer(number), Hit::AtRole(number, role)],
+        _ => vec![Hit::Answer(number)],
+    }
 }
 
 /// Generated inputs, then some of them with each choice of slices emptied.
@@ -86,13 +102,14 @@ fn trial(input: &HandleInput, buffers: &mut Buffers) -> Trial {
         clock,
         ..
     } = input;
-    let reference = reference::handle(frame, settings, clock, buffers.reference());
+    let (reference, cause) = reference::explain(frame, settings, clock, buffers.reference());
     let read = input.clone();
     let product = product::handle(&read.frame, &read.settings, &read.clock, buffers.product());
     let written = || (black_box(&read) != input).then(|| "the input was written to".into());
     Trial {
         product,
         reference,
+        cause,
         difference: field(&product, &reference)
             .or_else(|| buffers.difference())
             .or_else(written),

@@ -3,11 +3,15 @@
 use std::collections::BTreeMap;
 use std::fmt;
 
+use reference::Role;
+
 /// What an input can show.
 #[derive(Clone, Copy, PartialEq, Eq, PartialOrd, Ord)]
 pub enum Hit {
     /// An answer of one handling.
     Answer(u32),
+    /// An answer of one handling in this role.
+    AtRole(u32, Role),
     /// A code of a campus call.
     Code(u32),
     /// Something else, in words.
@@ -53,6 +57,8 @@ impl fmt::Display for Hit {
     fn fmt(&self, f: &mut fmt::Formatter) -> fmt::Result {
         match self {
             Hit::Answer(number) => write!(f, "{number:>2}"),
+            Hit::AtRole(number, Role::Transit) => write!(f, "{number:>2} in transit"),
+            Hit::AtRole(number, Role::Egress) => write!(f, "{number:>2} at the egress"),
             Hit::Code(code) => write!(f, "code {code:>2}"),
             Hit::Feature(words) => f.write_str(words),
         }

@@ -106,6 +106,10 @@ fn bit_options(rng: &mut Rng) -> u32 {
 /// Rising keys, with Flow ID and pad among them more often than not.
 fn keys(rng: &mut Rng, count: usize, critical: bool) -> Vec<u16> {
     let mut keys: Vec<u16> = Vec::new();
+    // The least key of all, which must not seem to repeat one before it.
+    if critical && count > 0 && rng.one_in(4) {
+        keys.push(0);
+    }
     while keys.len() < count {
         let kind = if critical && rng.one_in(2) {
             rng.pick(&CRITICAL)
@@ -184,40 +188,73 @@ pub(super) fn critical(rng: &mut Rng) -> Vec<u8> {
     area.octets()
 }
 
-/// Ill formed in one way.
+/// Ill formed, mostly in a chosen way.
 pub(super) fn ill_formed(rng: &mut Rng) -> Vec<u8> {
+    match rng.below(10) {
+        0 => jumbled(rng),
+        1..4 => unsummed(rng),
+        _ => faulty_option(rng),
+    }
+}
+
+/// Summary bits missing where critical options stand, one of them or both.
+fn unsummed(rng: &mut Rng) -> Vec<u8> {
+    let words = words(rng).max(2);
+    let mut area = Area::new(rng, words, true);
+    area.first &= !rng.pick(&[0x8000_0000, 0x4000_0000, 0xC000_0000]);
+    area.octets()
+}
+
+/// Good options of any number of words, then one at fault, now and then in two
+/// ways at once, then nothing or options with any keys. Summary bits may be
+/// missing too.
+fn faulty_option(rng: &mut Rng) -> Vec<u8> {
+    let before = rng.below(30);
+    let critical = rng.one_in(2);
+    let mut area = Area::new(rng, 1 + before, critical);
+    if critical && rng.one_in(2) {
+        area.first &= 0x3FFF_FFFF;
+    }
+    let previous = area.options.last().map_or(0, |option| option.key);
+    let words = 1 + rng.below(30 - before);
+    let key = rng.below(512) as u16;
+    let mut option = TlvOption::new(rng, key, words);
+    for _ in 0..1 + rng.below(2) {
+        match rng.below(4) {
+            0 => option.length = 119 + rng.below(9) as u16,
+            1 => option.length = past(rng, words),
+            2 => option.key = rng.below(usize::from(previous).max(1)) as u16,
+            _ => option.key = previous,
+        }
+    }
+    area.options.push(option);
+    if rng.one_in(3) {
+        let left = 1 + rng.below(31 - before - words);
+        let after = Area::new(rng, left, critical);
+        area.options.extend(after.options);
+    }
+    area.octets()
+}
+
+/// A Length that takes more than these words; a reserved one if no other does.
+fn past(rng: &mut Rng, words: usize) -> u16 {
+    let least = 4 * words - 1;
+    let spare = (MAX_LENGTH + 1).saturating_sub(least).max(1);
+    (least + rng.below(spare)) as u16
+}
+
+/// One option with another Length or key, the options reversed, or the area's
+/// end a word away from theirs.
+fn jumbled(rng: &mut Rng) -> Vec<u8> {
     let words = words(rng).max(3);
     let critical = rng.one_in(3);
     let mut area = Area::new(rng, words, critical);
     let place = rng.below(area.options.len());
-    match rng.below(7) {
-        0 => area.options[place].length = 119 + rng.below(9) as u16,
-        1 => {
-            let last = area.options.len() - 1;
-            area.options[last].length += 4;
-        }
-        2 => {
-            let key = area.options[0].key;
-            for option in &mut area.options {
-                option.key = key;
-            }
-            let words = 1 + rng.below(2);
-            area.options.insert(0, TlvOption::new(rng, key, words));
-            area.first |= area.needed();
-        }
-        3 => {
-            area.options.reverse();
-            if area.options.len() == 1 {
-                area.options.push(TlvOption::new(rng, 0x080, 1));
-            }
-        }
-        4 => {
-            let critical = Area::new(rng, words, true);
-            area.first = critical.needed() ^ 0xC000_0000;
-            area.options = critical.options;
-        }
-        5 => return one_word_off(rng, &area),
-        _ => area.options[place].key = rng.below(512) as u16,
+    match rng.below(4) {
+        0 => area.options[place].length = rng.below(128) as u16,
+        1 => area.options[place].key = rng.below(512) as u16,
+        2 => area.options.reverse(),
+        _ => return one_word_off(rng, &area),
     }
     area.octets()
 }

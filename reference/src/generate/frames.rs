@@ -129,10 +129,10 @@ pub(super) fn frame(rng: &mut Rng, site: &Site) -> Vec<u8> {
     let mut octets = match rng.below(100) {
         0..3 => random(rng, site),
         3..18 => header_fault(rng, site),
-        18..30 => option_fault(rng, site),
-        30..48 => transit(rng, site),
-        48..59 => inner_fault(rng, site),
-        59..65 => delivered(rng, site),
+        18..32 => option_fault(rng, site),
+        32..50 => transit(rng, site),
+        50..60 => inner_fault(rng, site),
+        60..66 => delivered(rng, site),
         _ => {
             let message = message(rng);
             Draft::new(rng, site, message).octets()
@@ -249,7 +249,7 @@ fn area_past(rng: &mut Rng, draft: Draft) -> Vec<u8> {
     octets
 }
 
-/// Answers 19 and 20 at the egress and in transit.
+/// Answers 20 and 30 to 35 at the egress and in transit.
 fn option_fault(rng: &mut Rng, site: &Site) -> Vec<u8> {
     let inner = any_inner(rng);
     let mut draft = Draft::new(rng, site, inner);
@@ -257,8 +257,8 @@ fn option_fault(rng: &mut Rng, site: &Site) -> Vec<u8> {
         draft.egress = site.reachable(rng);
     }
     let area = match rng.below(8) {
-        0..4 => areas::ill_formed(rng),
-        4..6 => areas::critical(rng),
+        0..5 => areas::ill_formed(rng),
+        5 => areas::critical(rng),
         6 => areas::longest(rng),
         _ => {
             let words = rng.below(32);

@@ -2,7 +2,7 @@
 
 use super::Feature;
 use crate::Silence::{ErrorCode, ErrorProtocol, OwnIngress, ReplyMode, SilentFlag};
-use crate::{Cause, Fault, Silence};
+use crate::{Cause, Fault, OptionFault, Role, Silence};
 
 const SETTINGS_FAULTS: [Fault; 14] = [
     Fault::HeadCut,
@@ -21,7 +21,7 @@ const SETTINGS_FAULTS: [Fault; 14] = [
     Fault::SerialMet,
 ];
 
-const PLAIN_CAUSES: [Cause; 38] = [
+const PLAIN_CAUSES: [Cause; 32] = [
     Cause::ClockLength,
     Cause::OutputRoom,
     Cause::FrameSize,
@@ -36,12 +36,6 @@ const PLAIN_CAUSES: [Cause; 38] = [
     Cause::Egress,
     Cause::HopCount,
     Cause::AreaPastFrame,
-    Cause::ReservedLength,
-    Cause::OptionPastArea,
-    Cause::EqualKeys,
-    Cause::FallingKeys,
-    Cause::UnsummedHopByHop,
-    Cause::UnsummedToEgress,
     Cause::CriticalHopByHop,
     Cause::CriticalToEgress,
     Cause::NoNextHop,
@@ -62,10 +56,22 @@ const PLAIN_CAUSES: [Cause; 38] = [
     Cause::EchoReply,
 ];
 
+const OPTION_FAULTS: [OptionFault; 6] = [
+    OptionFault::ReservedLength,
+    OptionFault::PastArea,
+    OptionFault::FallingKey,
+    OptionFault::EqualKey,
+    OptionFault::UnsummedHopByHop,
+    OptionFault::UnsummedToEgress,
+];
+
 /// Every cause of an answer of one handling.
 pub(super) fn causes() -> Vec<Cause> {
     let mut causes: Vec<Cause> = SETTINGS_FAULTS.map(Cause::Settings).to_vec();
     causes.extend(PLAIN_CAUSES);
+    for role in [Role::Transit, Role::Egress] {
+        causes.extend(OPTION_FAULTS.map(|fault| Cause::IllFormed(fault, role)));
+    }
     causes.extend([ReplyMode, OwnIngress, Silence::NoNextHop].map(Cause::EchoUnsent));
     for code in 1..=5 {
         causes.push(Cause::ErrorReply(code));
@@ -103,9 +109,9 @@ pub(super) const REFUSALS: [Fault; 21] = [
 ];
 
 /// Answers within a run to an original, and to a reply.
-const ORIGINALS: [u32; 26] = [
-    10, 11, 12, 13, 14, 15, 16, 17, 18, 19, 20, 21, 22, 23, 24, 25, 26, 27, 28, 50, 51, 52, 53, 54,
-    55, 56,
+const ORIGINALS: [u32; 31] = [
+    10, 11, 12, 13, 14, 15, 16, 17, 18, 20, 21, 22, 23, 24, 25, 26, 27, 28, 30, 31, 32, 33, 34, 35,
+    50, 51, 52, 53, 54, 55, 56,
 ];
 const REPLIES: [u32; 6] = [12, 17, 21, 50, 55, 56];
 
@@ -117,7 +123,13 @@ pub(super) fn entries() -> impl Iterator<Item = (u32, bool)> {
 
 /// Answers of one handling.
 pub(super) fn numbers() -> impl Iterator<Item = u32> {
-    (1..=3).chain(10..=28).chain(50..=56)
+    let refusals = (1..=3).chain(10..=18).chain(20..=28);
+    refusals.chain(30..=35).chain(50..=56)
+}
+
+/// Places of an option at fault: each word of the greatest area but the first.
+pub(super) fn places() -> impl Iterator<Item = u32> {
+    (4..124).step_by(4)
 }
 
 /// Codes of a campus call, 0 for an accepted description.
@@ -125,12 +137,15 @@ pub(super) fn codes() -> impl Iterator<Item = u32> {
     std::iter::once(0).chain(40..=49)
 }
 
-pub(super) const FEATURES: [Feature; 14] = [
+pub(super) const FEATURES: [Feature; 17] = [
     Feature::FlowIdStays,
     Feature::ShorterFlowIdGoes,
     Feature::LongerFlowIdGoes,
     Feature::LongestFlowIdGoes,
     Feature::OtherFlowIdCopied,
+    Feature::FirstKeyZero,
+    Feature::LengthAndKey,
+    Feature::UnsummedBefore,
     Feature::PartFull,
     Feature::PartEmpty,
     Feature::PartOutside,

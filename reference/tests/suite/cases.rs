@@ -48,39 +48,37 @@ fn c2_c3_hop_count_in_transit() {
     assert_eq!(written[14..16], [0x00, 0x00]);
 }
 
-/// One option of this Length over 30 words.
-fn filling_option(length: u8) -> Vec<u8> {
-    let area = format!("00000000 41{:02X} {}", 0x80 | length, "5A".repeat(118));
-    optioned("0003", &area)
+/// An area of one option of this Length over 30 words.
+fn filling_option(length: u8) -> String {
+    format!("00000000 41{:02X} {}", 0x80 | length, "5A".repeat(118))
 }
 
 #[test]
 fn c4_c5_greatest_length() {
-    assert_eq!(number(&filling_option(118)), 50);
-    assert_eq!(number(&filling_option(119)), 19);
-    assert_eq!(number(&filling_option(127)), 19);
+    assert_eq!(number(&optioned("0003", &filling_option(118))), 50);
+    assert_eq!(fault(&filling_option(119)), (30, 4));
+    assert_eq!(fault(&filling_option(127)), (30, 4));
     // 115 to 118 fill 30 words; 114 leaves a word over, which holds no option.
-    assert_eq!(number(&filling_option(115)), 50);
-    assert_eq!(number(&filling_option(114)), 19);
+    assert_eq!(number(&optioned("0003", &filling_option(115))), 50);
+    assert_eq!(fault(&filling_option(114)), (31, 120));
 }
 
 /// An area of one option with this Length and this many octets.
-fn sized(length: u8, octets: usize) -> Vec<u8> {
-    let area = format!(
-        "00000000 41{:02X} {}",
-        0x80 | length,
-        "00".repeat(octets - 2)
-    );
-    optioned("0003", &area)
+fn sized(length: u8, octets: usize) -> String {
+    let data = "00".repeat(octets - 2);
+    format!("00000000 41{:02X} {data}", 0x80 | length)
 }
 
 #[test]
 fn c6_data_lengths_take_whole_words() {
     for (length, octets) in [(2, 4), (3, 8), (6, 8), (7, 12), (0, 4), (1, 4)] {
-        assert_eq!(number(&sized(length, octets)), 50, "Length {length}");
-        assert_eq!(number(&sized(length, octets + 4)), 19, "Length {length}");
+        let fits = optioned("0003", &sized(length, octets));
+        assert_eq!(number(&fits), 50, "Length {length}");
+        // A word more is an option with key 0.
+        let next = 4 + octets as u32;
+        assert_eq!(fault(&sized(length, octets + 4)), (32, next));
         if octets > 4 {
-            assert_eq!(number(&sized(length, octets - 4)), 19, "Length {length}");
+            assert_eq!(fault(&sized(length, octets - 4)), (31, 4));
         }
     }
 }
@@ -106,10 +104,10 @@ fn c7_without_the_strip_flag() {
 
 #[test]
 fn c8_keys_rise() {
-    assert_eq!(number(&optioned("0003", "00000000 41820007 41820008")), 19);
+    assert_eq!(fault("00000000 41820007 41820008"), (33, 8));
     // The Length is no part of the key.
-    assert_eq!(number(&optioned("0003", "00000000 41810007 41820008")), 19);
-    assert_eq!(number(&optioned("0003", "00000000 42020007 41820008")), 19);
+    assert_eq!(fault("00000000 41810007 41820008"), (33, 8));
+    assert_eq!(fault("00000000 42020007 41820008"), (32, 8));
     // MT is its lowest bit.
     assert_eq!(number(&optioned("0003", "00000000 41020007 41820008")), 50);
     assert_eq!(number(&optioned("0003", "00000000 41820007 42020008")), 50);

@@ -1,8 +1,9 @@
-//! Tests of the reference against document 01.
+//! Tests of the reference against documents 01 and 02.
 
 mod campus;
 mod cases;
 mod generated;
+mod options;
 mod program;
 mod readings;
 mod replies;

@@ -173,12 +173,12 @@ fn bit_options_are_carried() {
 #[test]
 fn summary_bits_of_critical_options() {
     // IE 0, NC 0.
-    assert_eq!(area("00000000 05020000"), (19, 19));
-    assert_eq!(area("40000000 05020000"), (19, 19));
+    assert_eq!(area("00000000 05020000"), (34, 34));
+    assert_eq!(area("40000000 05020000"), (34, 34));
     assert_eq!(area("80000000 05020000"), (20, 20));
     // IE 1, NC 0.
-    assert_eq!(area("00000000 85020000"), (19, 19));
-    assert_eq!(area("80000000 85020000"), (19, 19));
+    assert_eq!(area("00000000 85020000"), (35, 35));
+    assert_eq!(area("80000000 85020000"), (35, 35));
     assert_eq!(area("40000000 85020000"), (50, 20));
     // Not critical.
     assert_eq!(area("00000000 45020000 C5020000"), (50, 51));
@@ -259,9 +259,9 @@ fn pad() {
         assert!(stays(pad), "{pad}");
     }
     // With NC 0 it is an unknown critical option.
-    assert_eq!(area("00000000 20000000"), (19, 19));
+    assert_eq!(area("00000000 20000000"), (34, 34));
     assert_eq!(area("80000000 20000000"), (20, 20));
-    assert_eq!(area("00000000 A0000000"), (19, 19));
+    assert_eq!(area("00000000 A0000000"), (35, 35));
     assert_eq!(area("40000000 A0000000"), (50, 20));
 }
 
@@ -315,11 +315,12 @@ fn order_octets_and_padding_stay() {
 }
 
 #[test]
-fn order_of_19_20_21() {
-    assert_eq!(area("80000000 41820007 41820007"), (19, 19));
+fn order_of_30_to_35_20_and_21() {
+    assert_eq!(area("80000000 41820007 41820007"), (33, 33));
+    assert_eq!(area("80000000 85020000"), (35, 35));
     assert_eq!(number(&optioned("0009", "80000000")), 20);
     assert_eq!(number(&optioned("0009", "40000000")), 21);
-    assert_eq!(number(&optioned("0009", "00000000 45020000 45020000")), 19);
+    assert_eq!(number(&optioned("0009", "00000000 45020000 45020000")), 33);
 }
 
 #[test]

@@ -40,22 +40,35 @@ pub fn optioned(egress: &str, area: &str) -> Vec<u8> {
     hex(&format!("{LINK} {word:04X} {egress} 0001 {area} {PLAIN}"))
 }
 
+/// Number and start of the answer to a frame with this area, which are the same
+/// in transit, at the egress and without a next hop.
+pub fn fault(area: &str) -> (u32, u32) {
+    let [transit, egress, unreachable] = ["0003", "0002", "0009"].map(|egress| {
+        let frame = optioned(egress, area);
+        let answer = ask(&frame, &hex(SWITCH), &CLOCK, 2048).0;
+        (answer.number, answer.start)
+    });
+    assert_eq!(transit, egress, "{area}");
+    assert_eq!(transit, unreachable, "{area}");
+    transit
+}
+
 /// A frame of hop count 5 from 0x0001 to the switch asked.
 pub fn to_us(inner: &str) -> Vec<u8> {
     hex(&format!("{LINK} 0005 0002 0001 {inner}"))
 }
 
-/// The answer and what is written. Octets after that stay, start and length
-/// are given by 51 and 52 alone, and only 50, 53 and 54 write.
+/// The answer and what is written. Octets after that stay, only 50, 53 and 54
+/// write, a length is given by 51 and 52 alone, and a start by them and, for
+/// the option at fault, by 30 to 33.
 pub fn ask(frame: &[u8], settings: &[u8], clock: &[u8], room: usize) -> (Answer, Vec<u8>) {
     let mut out = vec![SENTINEL; room];
     let answer = handle(frame, settings, clock, &mut out);
     let written = answer.written as usize;
     assert!(out[written..].iter().all(|&octet| octet == SENTINEL));
     assert_eq!(written > 0, matches!(answer.number, 50 | 53 | 54));
-    if !matches!(answer.number, 51 | 52) {
-        assert_eq!((answer.start, answer.length), (0, 0));
-    }
+    assert_eq!(answer.length > 0, matches!(answer.number, 51 | 52));
+    assert_eq!(answer.start > 0, matches!(answer.number, 30..=33 | 51 | 52));
     out.truncate(written);
     (answer, out)
 }

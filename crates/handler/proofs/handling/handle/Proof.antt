@@ -1,4 +1,4 @@
--- `handling::handle` meets its contract, by one law of `handling` for each way out. Assumes nothing.
+-- `handler::handling::handle` meets its contract, by the two cases of the frame reading.
 use Rattle.handler.proofs.StageLaws.{handle-laws as laws}
 use Rattle.handler.proofs.handling.handle.Statement.{statement}
 use Rattle.handler.proofs.handling.handle.Tie as tie
@@ -9,13 +9,9 @@ handle-spec =
     (tie.spec
     (λ c κs. search laws)
     (λ c. search laws)
-    (λ c. search laws)
     (λ c κs. search laws)
     (λ c. search laws)
     (λ c κs. search laws)
-    (λ c κs. search laws)
-    (λ c κs. search laws)
     (λ c. search laws)
-    (λ c κs. search laws)
     (λ c. search laws)
     (λ c. search laws))

@@ -1,4 +1,4 @@
--- `handling::routed` meets its contract, by one law of `routed` for each way out. Assumes nothing.
+-- `handler::handling::routed` meets its contract, by one law of `routed` for each way out.
 use native.Mathlib.Omega.{arith}
 use Rattle.handler.proofs.StageLaws.{ready-near, routed-laws as laws}
 use Rattle.handler.proofs.handling.routed.Statement.{statement}
@@ -14,8 +14,9 @@ routed-spec =
     (λ c. search laws)
     (λ c. search laws)
     (λ c κs. search laws)
+    (λ c. search laws)
     (λ c κs. search laws)
-    (λ c κs. search laws)
+    (λ c. search laws)
     (λ c. search laws)
     (λ c κs. search laws)
     (λ c κs. search laws)

@@ -1,4 +1,4 @@
--- `handler::options::read_area` meets its contract, by the tests of `summarized` in their order.
+-- `handler::options::read_area` meets its contract: an area without options, or the walk and the summary tests.
 use Rattle.handler.proofs.Walks.{read-area-laws as laws}
 use Rattle.handler.proofs.options.read_area.Statement.{statement}
 use Rattle.handler.proofs.options.read_area.Tie as tie
@@ -10,14 +10,5 @@ read-area-spec =
     (λ c. search laws)
     (λ c κs. search laws)
     (λ c κs. search laws)
-    (λ c. search laws)
-    (λ c. search laws)
     (λ c κs. search laws)
-    (λ c. search laws)
-    (λ c κs. search laws)
-    (λ c κs. search laws)
-    (λ c. search laws)
-    (λ c κs. search laws)
-    (λ c κs. search laws)
-    (λ c. search laws)
     (λ c. search laws))

@@ -7,10 +7,10 @@ use Rattle.handler.proofs.options.walk_area.Statement.{statement}
 use Rattle.handler.proofs.options.walk_area.Tie as tie
 
 abbrev Inv-loop : tie.InvT-loop
-Inv-loop area table at₀ floor₀ hop₀ egress₀ at floor hop egress = Walking area at floor hop egress
+Inv-loop area table c₀ c = Walking area c
 
 abbrev μ-loop : tie.MeasureT-loop
-μ-loop area table at₀ floor₀ hop₀ egress₀ at floor hop egress = length area - at
+μ-loop area table c₀ c = length area - c .at
 
 pub walk-area-spec : {M : Type 1} → statement M
 walk-area-spec =
@@ -22,12 +22,6 @@ walk-area-spec =
     (λ c κs. search laws)
     (λ c. search laws)
     (λ c. search laws)
-    (λ c κs. search laws)
-    (λ c. search laws)
-    (λ c. search laws)
-    (λ c. search laws)
-    (λ c κs. search laws)
-    (λ c κs. search laws)
     (λ c. search laws)
     (λ c. search laws)
     (λ c. search laws)
