@@ -9,7 +9,7 @@ use native.Mathlib.Omega.{arith}
 use lib.ListN.{length, take, length-append}
 use lib.Seq.{length-take-le}
 use Rattle.rules.specs.Octets.{put}
-use Rattle.rules.specs.Settings.{Settings, settingsRead}
+use Rattle.rules.specs.Settings.{Settings, settingsRead, waysOf}
 use Rattle.rules.specs.Handling.{handling, handledWith, outputAfter}
 use Rattle.rules.specs.Campus.{switchNamed, Kind, original, State, kindAfter, runFrom, handlingsMost, entryOctets, traceOctets}
 use Rattle.octets.specs.Copy.{putFitting}
@@ -45,39 +45,39 @@ module _ (switches : List Settings) (kind : Kind) (via : ℕ) where
 
 module _ (switches : List Settings) (clock : List ℕ) (m : ℕ) (S : Settings) (kind : Kind) (f : List ℕ) where
   abbrev here : State
-  here = record { switch = S; kind = kind; frame = f; answer = handling S clock f }
+  here = record { switch = S; kind = kind; frame = f; answer = handling (waysOf S) clock f }
 
   -- the run by where its first frame goes on to
   data Turned (g : Goes) : Type 0 where
     over : g ≡ stops → runFrom (suc m) switches clock S kind f ≡ here ∷ [] → Turned g
-    on : (T : Settings) (kind′ : Kind) → g ≡ goes T kind′ → runFrom (suc m) switches clock S kind f ≡ here ∷ runFrom m switches clock T kind′ (handling S clock f .octets) → Turned g
+    on : (T : Settings) (kind′ : Kind) → g ≡ goes T kind′ → runFrom (suc m) switches clock S kind f ≡ here ∷ runFrom m switches clock T kind′ (handling (waysOf S) clock f .octets) → Turned g
 
-  turned : Turned (goesOn switches kind (handling S clock f .number) (handling S clock f .via))
-  turned = first (kindAfter kind (handling S clock f .number)) refl
+  turned : Turned (goesOn switches kind (handling (waysOf S) clock f .number) (handling (waysOf S) clock f .via))
+  turned = first (kindAfter kind (handling (waysOf S) clock f .number)) refl
     where
-      second : (kind′ : Kind) → kindAfter kind (handling S clock f .number) ≡ some kind′ → (w : Option Settings) → switchNamed switches (handling S clock f .via) ≡ w
-          → Turned (goesOn switches kind (handling S clock f .number) (handling S clock f .via))
+      second : (kind′ : Kind) → kindAfter kind (handling (waysOf S) clock f .number) ≡ some kind′ → (w : Option Settings) → switchNamed switches (handling (waysOf S) clock f .via) ≡ w
+          → Turned (goesOn switches kind (handling (waysOf S) clock f .number) (handling (waysOf S) clock f .via))
       second kind′ e none n =
-          over (goes-towards switches kind (handling S clock f .number) (handling S clock f .via) kind′ e ∙ towards-none switches kind′ (handling S clock f .via) n) (run-left switches clock m S kind f kind′ e n)
+          over (goes-towards switches kind (handling (waysOf S) clock f .number) (handling (waysOf S) clock f .via) kind′ e ∙ towards-none switches kind′ (handling (waysOf S) clock f .via) n) (run-left switches clock m S kind f kind′ e n)
       second kind′ e (some T) n =
-          on T kind′ (goes-towards switches kind (handling S clock f .number) (handling S clock f .via) kind′ e ∙ towards-some switches kind′ (handling S clock f .via) T n) (run-on switches clock m S kind f kind′ e T n)
+          on T kind′ (goes-towards switches kind (handling (waysOf S) clock f .number) (handling (waysOf S) clock f .via) kind′ e ∙ towards-some switches kind′ (handling (waysOf S) clock f .via) T n) (run-on switches clock m S kind f kind′ e T n)
 
-      first : (w : Option Kind) → kindAfter kind (handling S clock f .number) ≡ w → Turned (goesOn switches kind (handling S clock f .number) (handling S clock f .via))
-      first none e = over (goes-over switches kind (handling S clock f .number) (handling S clock f .via) e) (run-over switches clock m S kind f e)
-      first (some kind′) e = second kind′ e (switchNamed switches (handling S clock f .via)) refl
+      first : (w : Option Kind) → kindAfter kind (handling (waysOf S) clock f .number) ≡ w → Turned (goesOn switches kind (handling (waysOf S) clock f .number) (handling (waysOf S) clock f .via))
+      first none e = over (goes-over switches kind (handling (waysOf S) clock f .number) (handling (waysOf S) clock f .via) e) (run-over switches clock m S kind f e)
+      first (some kind′) e = second kind′ e (switchNamed switches (handling (waysOf S) clock f .via)) refl
 
-  run-stops : goesOn switches kind (handling S clock f .number) (handling S clock f .via) ≡ stops → runFrom (suc m) switches clock S kind f ≡ here ∷ []
+  run-stops : goesOn switches kind (handling (waysOf S) clock f .number) (handling (waysOf S) clock f .via) ≡ stops → runFrom (suc m) switches clock S kind f ≡ here ∷ []
   run-stops q = go turned
     where
-      go : Turned (goesOn switches kind (handling S clock f .number) (handling S clock f .via)) → runFrom (suc m) switches clock S kind f ≡ here ∷ []
+      go : Turned (goesOn switches kind (handling (waysOf S) clock f .number) (handling (waysOf S) clock f .via)) → runFrom (suc m) switches clock S kind f ≡ here ∷ []
       go (over e r) = r
       go (on T kind′ e r) = let z : _≡_ {A = ℕ} 0 1 = cc (sym q ∙ e) in absurd (omega arith)
 
-  run-goes : (T : Settings) (kind′ : Kind) → goesOn switches kind (handling S clock f .number) (handling S clock f .via) ≡ goes T kind′
-      → runFrom (suc m) switches clock S kind f ≡ here ∷ runFrom m switches clock T kind′ (handling S clock f .octets)
+  run-goes : (T : Settings) (kind′ : Kind) → goesOn switches kind (handling (waysOf S) clock f .number) (handling (waysOf S) clock f .via) ≡ goes T kind′
+      → runFrom (suc m) switches clock S kind f ≡ here ∷ runFrom m switches clock T kind′ (handling (waysOf S) clock f .octets)
   run-goes T kind′ q = go turned
     where
-      go : Turned (goesOn switches kind (handling S clock f .number) (handling S clock f .via)) → runFrom (suc m) switches clock S kind f ≡ here ∷ runFrom m switches clock T kind′ (handling S clock f .octets)
+      go : Turned (goesOn switches kind (handling (waysOf S) clock f .number) (handling (waysOf S) clock f .via)) → runFrom (suc m) switches clock S kind f ≡ here ∷ runFrom m switches clock T kind′ (handling (waysOf S) clock f .octets)
       go (over e r) = let z : _≡_ {A = ℕ} 0 1 = cc (sym e ∙ q) in absurd (omega arith)
       go (on U kind″ e r) =
           let same : goes U kind″ ≡ goes T kind′ = sym e ∙ q in
@@ -150,22 +150,22 @@ module _ (s : List ℕ) (switches : List Settings) (clock frame : List ℕ) (sta
     abbrev f : List ℕ
     f = take size cur
 
-    pub handled-is : handledWith T clock (length next) f ≡ handling T clock f
-    handled-is = frame-handled T clock (length next) f (launched .six) (omega (arith, l .next-long)) frame-short
+    pub handled-is : handledWith (waysOf T) clock (length next) f ≡ handling (waysOf T) clock f
+    handled-is = frame-handled (waysOf T) clock (length next) f (launched .six) (omega (arith, l .next-long)) frame-short
 
-    module _ (more : k < 80) (a : Routed) (is : a ≡ routedOf (handledWith T clock (length next) f)) where
-      answer-is : a ≡ routedOf (handling T clock f)
+    module _ (more : k < 80) (a : Routed) (is : a ≡ routedOf (handledWith (waysOf T) clock (length next) f)) where
+      answer-is : a ≡ routedOf (handling (waysOf T) clock f)
       answer-is = is ∙ ap routedOf handled-is
 
       pub number-small : a .answer .number < 64
-      number-small = rw answer-is (handling-bounded T clock f (launched .six) frame-short .number-small)
+      number-small = rw answer-is (handling-bounded (waysOf T) clock f (launched .six) frame-short .number-small)
 
       pub size-small : a .answer .written ≤ 2048
-      size-small = rw answer-is (handling-bounded T clock f (launched .six) frame-short .fits)
+      size-small = rw answer-is (handling-bounded (waysOf T) clock f (launched .six) frame-short .fits)
 
       module _ (nickname : ℕ) (named : nickname ≡ T .nickname) (trace′ : List ℕ) (w : trace′ ≡ put trace (k * 8) (entryBy nickname (kindBy replied) (a .answer .number) f)) where
         abbrev state : State
-        state = record { switch = T; kind = kindBy replied; frame = f; answer = handling T clock f }
+        state = record { switch = T; kind = kindBy replied; frame = f; answer = handling (waysOf T) clock f }
 
         written : trace′ ≡ put trace (k * 8) (entryOctets state)
         written = w ∙ rw (named, answer-is) (ap (put trace (k * 8)) (sym (entry-is state)))
@@ -185,23 +185,23 @@ module _ (s : List ℕ) (switches : List Settings) (clock frame : List ℕ) (sta
 
         pub flying-stop : goesOn switches (kindBy replied) (a .answer .number) (a .via) ≡ stops → (r : ℕ) → r ≡ k + 1 → Ran whole trace₀ trace′ r
         flying-stop g r e =
-            let q : goesOn switches (kindBy replied) (handling T clock f .number) (handling T clock f .via) ≡ stops = (rw answer-is at g) in
+            let q : goesOn switches (kindBy replied) (handling (waysOf T) clock f .number) (handling (waysOf T) clock f .via) ≡ stops = (rw answer-is at g) in
             let all : l .done ++ (state ∷ []) ≡ whole = ap (λ (t : List State). l .done ++ t) (sym (run-stops switches clock (128 - (k + 1)) T (kindBy replied) f q)) ∙ (rw fuel at (l .rest)) in
             let n : length (l .done ++ (state ∷ [])) ≡ k + 1 = rw (length-append (l .done)) (omega (arith, l .long)) in
             record { counted = e ∙ sym n ∙ ap length all; traced = entered ∙ ap (λ (t : List State). put trace₀ 0 (traceOctets t)) all }
 
         pub flying-on : (next′ : List ℕ) (from′ to′ : ℕ) (replied′ : Bool) → goesOn switches (kindBy replied) (a .answer .number) (a .via) ≡ goes (settingsRead (between s from′ to′)) (kindBy replied′)
-            → next′ ≡ outputAfter next (handledWith T clock (length next) f) → length next′ ≡ 2048
+            → next′ ≡ outputAfter next (handledWith (waysOf T) clock (length next) f) → length next′ ≡ 2048
             → (cur′ : List ℕ) → cur′ ≡ putFitting cur 0 (take (a .answer .written) next′) → length cur′ ≡ 2048
             → Flying s switches clock frame (settingsRead (between s start end)) trace₀ trace′ cur′ next′ (a .answer .written) from′ to′ replied′ (k + 1)
         flying-on next′ from′ to′ replied′ g o ln cur′ copied lc =
-            let q : goesOn switches (kindBy replied) (handling T clock f .number) (handling T clock f .via) ≡ goes (settingsRead (between s from′ to′)) (kindBy replied′) = (rw answer-is at g) in
-            let sent : take (a .answer .written) next′ ≡ handling T clock f .octets = rw (answer-is, o, handled-is) (take-put next (handling T clock f .octets)) in
+            let q : goesOn switches (kindBy replied) (handling (waysOf T) clock f .number) (handling (waysOf T) clock f .via) ≡ goes (settingsRead (between s from′ to′)) (kindBy replied′) = (rw answer-is at g) in
+            let sent : take (a .answer .written) next′ ≡ handling (waysOf T) clock f .octets = rw (answer-is, o, handled-is) (take-put next (handling (waysOf T) clock f .octets)) in
             let short : length (take (a .answer .written) next′) ≡ a .answer .written = length-take-le (a .answer .written) next′ (omega (arith, ln, size-small)) in
-            let c : take (a .answer .written) cur′ ≡ handling T clock f .octets =
+            let c : take (a .answer .written) cur′ ≡ handling (waysOf T) clock f .octets =
             rw (copied, put-fits cur 0 (take (a .answer .written) next′) (omega (arith, short, size-small, l .cur-long)))
             ((rw short at (take-put cur (take (a .answer .written) next′))) ∙ sent) in
-            let n : runFrom (128 - k) switches clock T (kindBy replied) f ≡ state ∷ runFrom (128 - (k + 1)) switches clock (settingsRead (between s from′ to′)) (kindBy replied′) (handling T clock f .octets) = rw fuel (run-goes switches clock (128 - (k + 1)) T (kindBy replied) f (settingsRead (between s from′ to′)) (kindBy replied′) q) in
+            let n : runFrom (128 - k) switches clock T (kindBy replied) f ≡ state ∷ runFrom (128 - (k + 1)) switches clock (settingsRead (between s from′ to′)) (kindBy replied′) (handling (waysOf T) clock f .octets) = rw fuel (run-goes switches clock (128 - (k + 1)) T (kindBy replied) f (settingsRead (between s from′ to′)) (kindBy replied′) q) in
             record {
               done = l .done ++ (state ∷ []);
               long = rw (length-append (l .done)) (omega (arith, l .long));

@@ -11,7 +11,7 @@ use lib.Dec.{ltb, eqb}
 use lib.ListN.{length}
 use Rattle.rules.specs.Octets.{octet, be16, part}
 use Rattle.rules.specs.Fields.{Field, field, cut, fieldAt, fieldsFrom, fields}
-use Rattle.rules.specs.Settings.{Settings, newer, ruling, nextHop, switchOf, hopOf, withField, opened, settingsRead}
+use Rattle.rules.specs.Settings.{Settings, newer, ruling, nextHop, switchOf, hopOf, withField, opened, settingsRead, waysOf}
 use Rattle.rules.specs.declared.NextHop.{NextHop}
 use Rattle.rules.specs.declared.Ruling.{Ruling}
 use Rattle.rules.specs.declared.Ruling.the-variants.{Found, Absent}
@@ -155,7 +155,7 @@ opened-cut : opened cut ≡ switchOf []
 unfolding opened
 opened-cut = refl
 
-opened-field : (tag : ℕ) (v : List ℕ) → opened (field tag v) ≡ switchOf v
+pub opened-field : (tag : ℕ) (v : List ℕ) → opened (field tag v) ≡ switchOf v
 unfolding opened
 opened-field tag v = refl
 
@@ -189,7 +189,7 @@ module _ (s : List ℕ) where
 
 -- what one more field does to the nickname and MAC, the strip flag and the record that rules
 module _ (S : Settings) where
-  own-with : (f : Field) → ownOf (withField S f) ≡ ownOf S
+  own-with : (f : Field) → ownOf (waysOf (withField S f)) ≡ ownOf (waysOf S)
   unfolding withField
   own-with cut = refl
   own-with (field tag v) =
@@ -225,7 +225,7 @@ ruling-with d S (field tag v) =
     rw (with-other S tag v other) (ruled-other d (ruling (S .hops) d) tag v other))
 
 -- and what all do
-own-fold : (S : Settings) (fs : List Field) → ownOf (foldl withField S fs) ≡ ownOf S
+pub own-fold : (S : Settings) (fs : List Field) → ownOf (waysOf (foldl withField S fs)) ≡ ownOf (waysOf S)
 own-fold S [] = refl
 own-fold S (f ∷ fs) = own-fold (withField S f) fs ∙ own-with S f
 
@@ -254,8 +254,8 @@ module _ (S : Settings) (d : ℕ) where
 
 -- of settings whose first field is cut
 module _ (s : List ℕ) (e : fieldAt s 0 ≡ Cut) where
-  pub own-cut : record { nickname = 0; mac = 0 } ≡ ownOf (settingsRead s)
-  own-cut = ap ownOf (sym (read-cut s e))
+  pub own-cut : record { nickname = 0; mac = 0 } ≡ ownOf (waysOf (settingsRead s))
+  own-cut = ap (λ (S : Settings). ownOf (waysOf S)) (sym (read-cut s e))
 
   pub strip-cut : false ≡ settingsRead s .strip
   strip-cut = ap (λ (S : Settings). S .strip) (sym (read-cut s e))
@@ -265,8 +265,8 @@ module _ (s : List ℕ) (e : fieldAt s 0 ≡ Cut) where
 
 -- and of settings whose first field is taken
 module _ (s : List ℕ) {tag size next : ℕ} (e : fieldAt s 0 ≡ Taken tag size next) where
-  pub own-read : ownOf (switchOf (part s 3 (next - 3))) ≡ ownOf (settingsRead s)
-  own-read = sym (ap ownOf (read-on s e) ∙ own-fold (switchOf (part s 3 (next - 3))) (fieldsFrom (length s) s next))
+  pub own-read : ownOf (waysOf (switchOf (part s 3 (next - 3)))) ≡ ownOf (waysOf (settingsRead s))
+  own-read = sym (ap (λ (S : Settings). ownOf (waysOf S)) (read-on s e) ∙ own-fold (switchOf (part s 3 (next - 3))) (fieldsFrom (length s) s next))
 
   pub strip-read : (r : Bool) → FoldedFrom flaggedBy false s next r → r ≡ settingsRead s .strip
   strip-read r f =

@@ -74,11 +74,11 @@ module _ (T : Settings) (v met : List ℕ) (n : ℕ) where
   unfolding continues lengthGood fieldTaken hopTaken
   continues-hop c e = rw (c, e)
 
-  continues-flag : continues T (field 3 v) ≡ fieldTaken met n 3 v
+  pub continues-flag : continues T (field 3 v) ≡ fieldTaken met n 3 v
   unfolding continues lengthGood fieldTaken flagTaken
   continues-flag = refl
 
-  continues-other : (tag : ℕ) → (tag ≡ 2 → ⊥) → (tag ≡ 3 → ⊥) → continues T (field tag v) ≡ fieldTaken met n tag v
+  pub continues-other : (tag : ℕ) → (tag ≡ 2 → ⊥) → (tag ≡ 3 → ⊥) → continues T (field tag v) ≡ fieldTaken met n tag v
   unfolding continues fieldTaken flagTaken
   continues-other tag h k = rw (ne-eqb tag 2 h, ne-eqb tag 3 k) (and-no (lengthGood tag (length v)))
 
@@ -90,7 +90,7 @@ module _ (T : Settings) (v met : List ℕ) (n : ℕ) where
       (λ f. rw (eqb-true tag 3 f) continues-flag)
       (λ f. continues-other tag (eqb-false tag 2 e) (eqb-false tag 3 f)))
 
-continues-cut : (T : Settings) → continues T cut ≡ false
+pub continues-cut : (T : Settings) → continues T cut ≡ false
 unfolding continues
 continues-cut T = refl
 
@@ -234,19 +234,19 @@ pub ruleset fields-good-laws = (needs, taken, begins, ends, cut-off, hop-stops, 
 
 -- the first field
 module _ (s : List ℕ) (f : Field) (fs : List Field) (is : fields s ≡ f ∷ fs) where
-  settings-shut : opens f ≡ false → settingsOf s ≡ none
+  pub settings-shut : opens f ≡ false → settingsOf s ≡ none
   unfolding settingsOf
   settings-shut o = rw (settingsOf, is, o)
 
-  settings-open : opens f ≡ true → settingsOf s ≡ settingsFrom (opened f) fs
+  pub settings-open : opens f ≡ true → settingsOf s ≡ settingsFrom (opened f) fs
   unfolding settingsOf
   settings-open o = rw (settingsOf, is, o)
 
-settings-none : (s : List ℕ) → fields s ≡ [] → settingsOf s ≡ none
+pub settings-none : (s : List ℕ) → fields s ≡ [] → settingsOf s ≡ none
 unfolding settingsOf
 settings-none s is = rw (settingsOf, is)
 
-opens-cut : opens cut ≡ false
+pub opens-cut : opens cut ≡ false
 unfolding opens
 opens-cut = refl
 

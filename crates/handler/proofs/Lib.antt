@@ -12,3 +12,8 @@ pub mod JudgeLaws
 pub mod FieldWalks
 pub mod ChannelLaws
 pub mod StageLaws
+pub mod StoreLaws
+pub mod RulingLaws
+pub mod LookupLaws
+pub mod InsertLaws
+pub mod PrepareLaws

@@ -1,18 +1,18 @@
--- The stages of a handling as the code makes them: what is ready gives what each call asks, and each way out is the answer and the buffer
--- that the rules define. One law for each need, over what the calls before it ensure, for `search` to cite. Assumes nothing.
+-- The stages of a handling as the code makes them: what is ready gives what each call asks, and each way out is the task, or the answer and the
+-- buffer, that the rules define. One law for each need, over what the calls before it ensure, for `search` to cite. Assumes nothing.
 use mathlib.Core.Path.{_≡_, refl, sym, ap, _∙_}
-use mathlib.Core.List.{List, _++_}
+use mathlib.Core.List.{List, [], _++_}
 use mathlib.Core.Bool.{Bool, true, false, not, _&&_, true≢false, false≢true}
 use mathlib.Core.Option.{Option, none, some}
 use Prim.Native.Nat.{ℕ, _+_, _-_, _*_, _≤_, _<_}
 use native.Mathlib.Omega.{arith}
 use borrow.Author.Needs.{needs}
-use borrow.Author.Tests.{leb-true, leb-false, not-true, not-false}
+use borrow.Author.Tests.{lt-leb, le-leb, leb-true, leb-false, not-true, not-false}
 use lib.Dec.{leb}
 use lib.ListN.{length, take, drop, length-append, length-drop, length-take}
 use lib.Seq.{drop-drop}
 use Rattle.rules.specs.Octets.{put, be16, octet}
-use Rattle.rules.specs.Settings.{Settings, settingsOf, settingsRead, nextHop}
+use Rattle.rules.specs.Settings.{Settings, Ways, waysOf, settingsOf, settingsRead}
 use Rattle.rules.specs.Link.{link}
 use Rattle.rules.specs.Header.{opLength, hopCount, areaStart, innerStart, areaOf, innerOf, readFrame, headerRefusal, weAreEgress}
 use Rattle.rules.specs.Options as O
@@ -30,32 +30,34 @@ use Rattle.rules.specs.declared.Ruling.the-variants.{Found, Absent}
 use Rattle.rules.specs.declared.ChannelRead.{ChannelRead}
 use Rattle.rules.specs.declared.ChannelRead.the-variants.{Fault, BadErr, ErrorHeard, BadEcho, EchoHeard, EchoRequest}
 use Rattle.rules.proofs.TestLaws.{by-test}
-use Rattle.rules.proofs.OctetLaws.{put-none}
+use Rattle.rules.proofs.OctetLaws.{put-none, length-part}
 use Rattle.rules.proofs.OptionLaws.{stripped-word, area-number}
-use Rattle.rules.proofs.FrameLaws.{Passed, frame-read, header-passed, link-length, length-link, area-length}
+use Rattle.rules.proofs.FrameLaws.{frame-read, header-passed, link-length, length-link}
 use Rattle.rules.proofs.ReplyLaws.{echo-body-length}
 use Rattle.rules.proofs.HandlingLaws.{transit-none, transit-over, faulted-silent, faulted-none, faulted-over, echoed-mode, echoed-none, echoed-over, echo-ranged, channel-echo}
 use Rattle.rules.proofs.HandlingLaws.{inner-short, inner-untagged, inner-any, inner-delivered, inner-up, inner-channel, routed-faulty, routed-stopped, routed-egress, routed-transit}
-use Rattle.rules.proofs.HandlingLaws.{handling-unread, handling-refused, handling-routed, settings-bad, settings-good}
+use Rattle.rules.proofs.HandlingLaws.{handling-unread, handling-refused, handling-routed, clock-bad, room-short, frame-long, frame-handled, settings-bad, settings-good}
 use Rattle.rules.proofs.SettingsLaws.{settings-read}
 use Rattle.rules.proofs.HandledLaws.{forwarded-fits}
 use Rattle.handler.specs.declared.answers.Handled.{Handled}
 use Rattle.handler.specs.declared.Routed.{Routed}
-use Rattle.handler.specs.declared.settings.Own.{Own}
+use Rattle.handler.specs.declared.way.Own.{Own}
+use Rattle.handler.specs.declared.way.Told.{Told}
 use Rattle.handler.specs.declared.options.Cursor.{Cursor}
 use Rattle.handler.specs.declared.options.AreaRead.{AreaRead}
 use Rattle.handler.specs.declared.options.AreaRead.the-variants.{Read, Faulty}
 use Rattle.handler.specs.declared.way.Way.{Way}
 use Rattle.handler.specs.declared.way.Way.the-variants.{Via, NoWay}
-use Rattle.handler.specs.Shapes.{numbersOf, ownOf, wayBy, linkBy, replyOctets, restWith, areaBy, untaggedBy, judgedBy, Fits, Ready, Done, toldBy, routedOf, answerOf}
+use Rattle.handler.specs.declared.handling.Task.{Task}
+use Rattle.handler.specs.declared.handling.Task.the-variants.{Answered, Forward, Error, Echo}
+use Rattle.handler.specs.declared.handling.Examined.{Examined}
+use Rattle.handler.specs.Tasks.{answerBy, doneBy, askedBy, Left, Lent, Held, Comes, ComesAt, Examining}
+use Rattle.handler.specs.Shapes.{numbersOf, ownOf, onlyFor, waysBy, Linked, wayBy, linkBy, replyOctets, restWith, areaBy, untaggedBy, judgedBy, Fits, Ready, Done, toldBy, routedOf, answerOf}
 use Rattle.handler.proofs.Stages.{after, lent-rest}
 use Rattle.handler.proofs.Rests.{area-lent}
 
 -- a frame that is ready
-module _ {s f : List ℕ} {h : Header} {own : Own} {out : List ℕ} (ready : Ready s f h own out) where
-  ready-passed : Passed (settingsRead s) f h
-  ready-passed = header-passed (settingsRead s) f h (ready .passed)
-
+module _ {f : List ℕ} {h : Header} (ready : Ready f h) where
   pub ready-near : h .place ≤ 18
   ready-near = omega (arith, frame-read f h (ready .read) .its-place, link-length f)
 
@@ -66,7 +68,7 @@ module _ {s f : List ℕ} {h : Header} {own : Own} {out : List ℕ} (ready : Rea
   ready-place = omega (arith, frame-read f h (ready .read) .whole)
 
   pub inner-within : {start : ℕ} → start ≡ innerStart h → start ≤ length f
-  inner-within i = omega (arith, ready-passed .area-whole)
+  inner-within i = omega (arith, ready .area-whole)
 
 pub ruleset ready = (ready-near, ready-from, ready-place, inner-within)
 
@@ -96,40 +98,37 @@ done-as : {a b : A.Handled} {r : Handled} {out out2 : List ℕ} → a ≡ b → 
 done-as e d = rw e d
 
 -- a way that was asked for, with its link header
-abbrev pub onward : Settings → Header → Ruling
-onward S h = nextHop S (h .egress)
+abbrev pub onward : Ways → Header → Ruling
+onward S h = S .hop (h .egress)
 
-abbrev pub back : Settings → Header → Ruling
+abbrev pub back : Ways → Header → Ruling
 back S h = returnPath S (h .ingress)
-
-abbrev pub Linked : Settings → Ruling → List ℕ → Way → List ℕ → Type 0
-Linked S R out w out1 = (w ≡ wayBy S R) × (out1 ≡ put out 0 (linkBy S R))
 
 abbrev pub wroteBy : ℕ → ℕ → ℕ → Handled
 wroteBy number end via = record { number = number; written = end; start = 0; length = 0; via = via }
 
-pub record Over (S : Settings) (R : Ruling) (n k : ℕ) : Type 0 where
+pub record Over (S : Ways) (R : Ruling) (n k : ℕ) : Type 0 where
   pub hop : NextHop
   pub rules : R ≡ Found hop
   pub by : n ≡ hop .neighbour
   pub long : k ≡ length (link S hop)
 
-no-way : (S : Settings) (R : Ruling) → wayBy S R ≡ NoWay → R ≡ Absent
+no-way : (S : Ways) (R : Ruling) → wayBy S R ≡ NoWay → R ≡ Absent
 no-way S Absent e = refl
 no-way S (Found r) e = let z : _≡_ {A = ℕ} 0 1 = cc in absurd (omega arith)
 
-some-way : (S : Settings) (R : Ruling) (n k : ℕ) → wayBy S R ≡ Via n k → Over S R n k
+some-way : (S : Ways) (R : Ruling) (n k : ℕ) → wayBy S R ≡ Via n k → Over S R n k
 some-way S Absent n k e = let z : _≡_ {A = ℕ} 0 1 = cc in absurd (omega arith)
 some-way S (Found r) n k e = record { hop = r; rules = refl; by = cc; long = cc }
 
-module _ (S : Settings) (R : Ruling) {w : Way} (e : w ≡ wayBy S R) {n k : ℕ} (v : w ≡ Via n k) where
+module _ (S : Ways) (R : Ruling) {w : Way} (e : w ≡ wayBy S R) {n k : ℕ} (v : w ≡ Via n k) where
   over : Over S R n k
   over = some-way S R n k (sym e ∙ v)
 
   fourteen : k ≡ 14
   fourteen = over .long ∙ length-link S (over .hop)
 
-module _ (S : Settings) (R : Ruling) (out : List ℕ) {w : Way} {out1 : List ℕ} (l : Linked S R out w out1) {a : A.Handled} {r : Handled} where
+module _ (S : Ways) (R : Ruling) (out : List ℕ) {w : Way} {out1 : List ℕ} (l : Linked S R out w out1) {a : A.Handled} {r : Handled} where
   lost : (n : ℕ) → w ≡ NoWay → (R ≡ Absent → a ≡ A.dropped n) → r ≡ numbersOf (A.dropped n) → Done a r out out1
   lost n v e is =
       let absent = no-way S R (sym (l .0) ∙ v) in
@@ -146,27 +145,22 @@ module _ (S : Settings) (R : Ruling) (out : List ℕ) {w : Way} {out1 : List ℕ
       rw (e (o .hop) (o .rules), ← o .by) (record { answer = is ∙ (rw long); after = after out out1 out2 0 k (link S (o .hop)) rest linked p (omega (arith, o .long)) room })
 
 -- 21 and 50
-pub transit-lost : (S : Settings) (f : List ℕ) (h : Header) (out : List ℕ) (w : Way) (out1 : List ℕ) (r : Handled)
+pub transit-lost : (S : Ways) (f : List ℕ) (h : Header) (out : List ℕ) (w : Way) (out1 : List ℕ) (r : Handled)
     → r ≡ numbersOf (A.dropped 21) → w ≡ NoWay → Linked S (onward S h) out w out1 → Done (transit S f h) r out out1
 transit-lost S f h out w out1 r is v l = lost S (onward S h) out l 21 v (transit-none S f h) is
 
-pub transit-fits : (s f : List ℕ) (h : Header) (own : Own) (out : List ℕ) (w : Way) (out1 : List ℕ) (n k : ℕ)
-    → w ≡ Via n k → Linked (settingsRead s) (onward (settingsRead s) h) out w out1 → Ready s f h own out → length out1 ≡ length out → Fits f h out1 k
-transit-fits s f h own out w out1 n k v l ready same =
-    let p = ready-passed ready in
-    let room = fourteen (settingsRead s) (onward (settingsRead s) h) (l .0) v in
-    record { place-small = ready-near ready; area-whole = p .area-whole; hops-left = p .hops-left; room = omega (arith, ready .short, ready .roomy, ready-from ready) }
+pub transit-fits : (f : List ℕ) (h : Header) (out1 : List ℕ) (k : ℕ) (S : Ways) (R : Ruling) (w : Way) (n : ℕ) (out : List ℕ) → Ready f h → w ≡ Via n k → w ≡ wayBy S R
+    → length out1 ≡ length out → 2048 ≤ length out → Fits f h out1 k
+transit-fits f h out1 k S R w n out ready v e same roomy =
+    let room = fourteen S R e v in
+    record { place-small = ready-near ready; area-whole = ready .area-whole; hops-left = ready .hops-left; room = omega (arith, ready .short, ready-from ready) }
 
-module _ (s f : List ℕ) (h : Header) (own : Own) (out : List ℕ) (ready : Ready s f h own out) (well : areaRead (areaOf f h) ≡ WellFormed)
-    (strip : Bool) (flag : strip ≡ (leb 2 (opLength (h .word)) && settingsRead s .strip)) where
-  abbrev S : Settings
-  S = settingsRead s
-
+module _ (S : Ways) (f : List ℕ) (h : Header) (out : List ℕ) (ready : Ready f h) (well : areaRead (areaOf f h) ≡ WellFormed) (strip : Bool) (flag : strip ≡ (leb 2 (opLength (h .word)) && S .strip)) where
   abbrev rest : List ℕ
   rest = restWith (areaBy strip (areaOf f h)) f h
 
   area-words : length (areaOf f h) ≡ 4 * opLength (h .word)
-  area-words = area-length S f h (ready .read) (ready-passed ready) well
+  area-words = length-part f (h .place + 6) (4 * opLength (h .word)) (ready .area-whole)
 
   area-sent : areaBy strip (areaOf f h) ≡ areaSent S (areaOf f h)
   unfolding areaSent
@@ -178,37 +172,47 @@ module _ (s f : List ℕ) (h : Header) (own : Own) (out : List ℕ) (ready : Rea
       let short : stripped (areaOf f h) ≡ areaOf f h = stripped-word (areaOf f h) (omega (arith, area-words, leb-false 2 (opLength (h .word)) e)) in
       rw kept (by-test (S .strip) (λ t. rw (t, short)) (λ t. rw t)))
 
-  pub strips-some : strip ≡ true → 4 ≤ length (areaOf f h)
-  strips-some t =
-      by-test (leb 2 (opLength (h .word)))
-      (λ e. omega (arith, area-words, leb-true 2 (opLength (h .word)) e))
-      (λ e. let z : true ≡ false = sym t ∙ flag ∙ (rw e) in absurd (true≢false z))
-
   forwards : (hop : NextHop) → link S hop ++ rest ≡ forwarded S hop f h
   unfolding forwarded forwardedRest restWith
   forwards hop = rw area-sent
 
-  forwards-short : (end k n : ℕ) (w : Way) → end ≡ k + length rest → w ≡ Via n k → w ≡ wayBy S (onward S h) → end ≤ 2048
-  forwards-short end k n w ended v e =
-      let o = over S (onward S h) e v in
+  forwards-short : (end k n : ℕ) (R : Ruling) (w : Way) → end ≡ k + length rest → w ≡ Via n k → w ≡ wayBy S R → end ≤ 2048
+  forwards-short end k n R w ended v e =
+      let o = over S R e v in
       let long = ap length (forwards (o .hop)) in
       let whole = length-append (link S (o .hop)) rest in
-      omega (arith, o .long, forwarded-fits S (o .hop) f h (ready .read) (ready-passed ready) well (ready .short))
+      omega (arith, o .long, forwarded-fits S (o .hop) f h (ready .read) (ready .area-whole) well (ready .short))
 
   pub transit-sent : (w : Way) (out1 : List ℕ) (n k end : ℕ) (r : Handled) (out2 : List ℕ)
-      → r ≡ wroteBy 50 end n → w ≡ Via n k → Linked S (onward S h) out w out1 → end ≡ k + length rest → out2 ≡ put out1 k rest → Done (transit S f h) r out out2
-  transit-sent w out1 n k end r out2 is v l ended p =
-      sent S (onward S h) out l v 50 rest (λ hop e. rw (forwards hop) (transit-over S f h hop e)) is ended p (omega (arith, forwards-short end k n w ended v (l .0), ready .roomy))
+      → r ≡ wroteBy 50 end n → w ≡ Via n k → Linked S (onward S h) out w out1 → end ≡ k + length rest → out2 ≡ put out1 k rest → 2048 ≤ length out → Done (transit S f h) r out out2
+  transit-sent w out1 n k end r out2 is v l ended p roomy =
+      sent S (onward S h) out l v 50 rest (λ hop e. rw (forwards hop) (transit-over S f h hop e)) is ended p (omega (arith, forwards-short end k n (onward S h) w ended v (l .0)))
 
-pub transit-short : (end k : ℕ) (strip : Bool) (s f : List ℕ) (h : Header) (own : Own) (out : List ℕ) (w : Way) (n : ℕ) → end ≡ k + length (restWith (areaBy strip (areaOf f h)) f h)
-    → Ready s f h own out → w ≡ Via n k → w ≡ wayBy (settingsRead s) (onward (settingsRead s) h)
-    → strip ≡ (leb 2 (opLength (h .word)) && settingsRead s .strip) → areaRead (areaOf f h) ≡ WellFormed → end ≤ 2048
-transit-short end k strip s f h own out w n ended ready v e flag well = forwards-short s f h own out ready well strip flag end k n w ended v e
+pub strips-some : (f : List ℕ) (h : Header) (strip flag : Bool) → Ready f h → strip ≡ (leb 2 (opLength (h .word)) && flag) → strip ≡ true → 4 ≤ length (areaOf f h)
+strips-some f h strip flag ready is t =
+    let words : length (areaOf f h) ≡ 4 * opLength (h .word) = length-part f (h .place + 6) (4 * opLength (h .word)) (ready .area-whole) in
+    by-test (leb 2 (opLength (h .word)))
+    (λ e. omega (arith, words, leb-true 2 (opLength (h .word)) e))
+    (λ e. let z : true ≡ false = sym t ∙ is ∙ (rw e) in absurd (true≢false z))
+
+module _ (h : Header) (strip : Bool) (n : ℕ) (words : n ≡ opLength (h .word)) where
+  pub strips-none : n < 2 → false ≡ (leb 2 (opLength (h .word)) && strip)
+  strips-none few = rw (lt-leb 2 (opLength (h .word)) (omega arith))
+
+  pub strips-so : 2 ≤ n → strip ≡ (leb 2 (opLength (h .word)) && strip)
+  strips-so more = rw (le-leb 2 (opLength (h .word)) (omega arith))
+
+pub ruleset strips-laws = (needs, strips-none, strips-so)
+
+pub transit-short : (end k : ℕ) (strip : Bool) (f : List ℕ) (h : Header) (S : Ways) (R : Ruling) (w : Way) (n : ℕ) → end ≡ k + length (restWith (areaBy strip (areaOf f h)) f h)
+    → Ready f h → w ≡ Via n k → w ≡ wayBy S R
+    → strip ≡ (leb 2 (opLength (h .word)) && S .strip) → areaRead (areaOf f h) ≡ WellFormed → end ≤ 2048
+transit-short end k strip f h S R w n ended ready v e flag well = forwards-short S f h [] ready well strip flag end k n R w ended v e
 
 pub ruleset transit-laws = (needs, ready, transit-lost, transit-fits, strips-some, transit-short, transit-sent)
 
 -- a reply behind its link header
-reply : (S : Settings) (h : Header) (own : Own) (out : List ℕ) {w : Way} {out1 : List ℕ} {n k : ℕ} {a : A.Handled} {r : Handled} (answer number code : ℕ) (body : List ℕ) {end : ℕ} {out2 : List ℕ}
+reply : (S : Ways) (h : Header) (own : Own) (out : List ℕ) {w : Way} {out1 : List ℕ} {n k : ℕ} {a : A.Handled} {r : Handled} (answer number code : ℕ) (body : List ℕ) {end : ℕ} {out2 : List ℕ}
     → w ≡ Via n k → Linked S (back S h) out w out1 → own ≡ ownOf S → 2048 ≤ length out → length body ≤ 530
     → ((hop : NextHop) → back S h ≡ Found hop → a ≡ A.wrote answer (link S hop ++ replyRest S (h .ingress) number code body) (hop .neighbour))
     → r ≡ wroteBy answer end n → end ≡ k + (28 + length body) → out2 ≡ put out1 k (replyOctets own (h .ingress) number code ++ body) → Done a r out out2
@@ -222,7 +226,7 @@ reply S h own out answer number code body v l owned roomy few e is ended p =
 error-few : (f : List ℕ) (h : Header) → length (errorBody f h) ≤ 530
 error-few f h = rw length-take (omega arith)
 
-module _ (S : Settings) (f : List ℕ) (h : Header) (code : ℕ) (inner : List ℕ) (held : inner ≡ innerOf f h) (quiet : Bool) (q : quiet ≡ silenced code inner) (r : Handled) (out : List ℕ) where
+module _ (S : Ways) (f : List ℕ) (h : Header) (code : ℕ) (inner : List ℕ) (held : inner ≡ innerOf f h) (quiet : Bool) (q : quiet ≡ silenced code inner) (r : Handled) (out : List ℕ) where
   said : {b : Bool} → quiet ≡ b → silenced code (innerOf f h) ≡ b
   said t = sym (rw held at q) ∙ t
 
@@ -238,17 +242,16 @@ module _ (S : Settings) (f : List ℕ) (h : Header) (code : ℕ) (inner : List �
     unfolding errorReply
     fault-sent own n k end out2 is v owned roomy ended p = reply S h own out 53 0x001 code (errorBody f h) v l owned roomy (error-few f h) (faulted-over S f h code (said t)) is ended p
 
-pub fault-short : (end k : ℕ) (S : Settings) (f : List ℕ) (h : Header) (w : Way) (n : ℕ) → end ≡ k + (28 + length (errorBody f h)) → w ≡ Via n k → w ≡ wayBy S (back S h) → end ≤ 2048
+pub fault-short : (end k : ℕ) (S : Ways) (f : List ℕ) (h : Header) (w : Way) (n : ℕ) → end ≡ k + (28 + length (errorBody f h)) → w ≡ Via n k → w ≡ wayBy S (back S h) → end ≤ 2048
 fault-short end k S f h w n ended v e = omega (arith, fourteen S (back S h) e v, error-few f h)
 
 -- the room for a reply
-module _ (s f : List ℕ) (h : Header) (own : Own) (out : List ℕ) (ready : Ready s f h own out) (w : Way) (n k : ℕ) (v : w ≡ Via n k) (e : w ≡ wayBy (settingsRead s) (back (settingsRead s) h))
-    (out1 : List ℕ) (same : length out1 ≡ length out) where
+module _ (S : Ways) (f : List ℕ) (h : Header) (out : List ℕ) (roomy : 2048 ≤ length out) (w : Way) (n k : ℕ) (v : w ≡ Via n k) (e : w ≡ wayBy S (back S h)) (out1 : List ℕ) (same : length out1 ≡ length out) where
   pub fault-room : k + 156 ≤ length out1
-  fault-room = omega (arith, fourteen (settingsRead s) (back (settingsRead s) h) e v, ready .roomy)
+  fault-room = omega (arith, fourteen S (back S h) e v)
 
   pub echo-room : (body : List ℕ) → body ≡ bodyOf (innerOf f h) → length (bodyOf (innerOf f h)) ≤ 530 → k + 28 + length body ≤ length out1
-  echo-room body held few = rw held (omega (arith, fourteen (settingsRead s) (back (settingsRead s) h) e v, ready .roomy))
+  echo-room body held few = rw held (omega (arith, fourteen S (back S h) e v))
 
 pub ruleset faulted-laws = (needs, ready, inner-held, fault-quiet, fault-lost, fault-sent, fault-room, fault-short)
 
@@ -256,11 +259,11 @@ pub ruleset faulted-laws = (needs, ready, inner-held, fault-quiet, fault-lost, f
 pub echo-enough : (f : List ℕ) (h : Header) (body : List ℕ) → body ≡ bodyOf (innerOf f h) → 18 ≤ length (bodyOf (innerOf f h)) → 18 ≤ length body
 echo-enough f h body held b = rw held b
 
-pub echo-short : (end k : ℕ) (body s f : List ℕ) (h : Header) (own : Own) (out : List ℕ) (w : Way) (n : ℕ) → end ≡ k + (28 + length body) → Ready s f h own out → w ≡ Via n k
-    → w ≡ wayBy (settingsRead s) (back (settingsRead s) h) → body ≡ bodyOf (innerOf f h) → length (bodyOf (innerOf f h)) ≤ 530 → end ≤ 2048
-echo-short end k body s f h own out w n ended ready v e held few = omega (arith, fourteen (settingsRead s) (back (settingsRead s) h) e v, rw held at ended)
+pub echo-short : (end k : ℕ) (body f : List ℕ) (h : Header) (S : Ways) (w : Way) (n : ℕ) → end ≡ k + (28 + length body) → body ≡ bodyOf (innerOf f h) → w ≡ Via n k
+    → w ≡ wayBy S (back S h) → length (bodyOf (innerOf f h)) ≤ 530 → end ≤ 2048
+echo-short end k body f h S w n ended held v e few = omega (arith, fourteen S (back S h) e v, rw held at ended)
 
-module _ (S : Settings) (f : List ℕ) (h : Header) (clock body : List ℕ) (held : body ≡ bodyOf (innerOf f h)) (mode : ℕ) (m : mode ≡ octet body 4) (r : Handled) (out : List ℕ) where
+module _ (S : Ways) (f : List ℕ) (h : Header) (clock body : List ℕ) (held : body ≡ bodyOf (innerOf f h)) (mode : ℕ) (m : mode ≡ octet body 4) (r : Handled) (out : List ℕ) where
   pub echo-other : r ≡ numbersOf (A.dropped 28) → (mode ≡ 2 → ⊥) → Done (echoed S clock f h) r out out
   echo-other is o = done-dropped 28 (echoed-mode S f h clock (λ e. o (rw held at m ∙ e))) is
 
@@ -279,80 +282,143 @@ module _ (S : Settings) (f : List ℕ) (h : Header) (clock body : List ℕ) (hel
 
 pub ruleset echoed-laws = (needs, ready, body-held, body-within, echo-enough, echo-other, echo-lost, echo-sent, echo-room, echo-short)
 
+-- a task, once the next hop is told: what is left is what the rules say
+module _ (t : Told) (clock f : List ℕ) (h : Header) (task : Task) (out : List ℕ) where
+  pub carry-answer : (a : Handled) → task ≡ Answered a → Held clock f (length out) h task → Done (doneBy (waysBy t) clock f h task) a out out
+  carry-answer a e held = rw e (record { answer = answers a (rw e at held .0); after = sym (put-none out 0) })
+    where
+      answers : (a : Handled) → a .written ≡ 0 → a ≡ numbersOf (answerBy a)
+      answers a z = ap (λ (w : ℕ). record { number = a .number; written = w; start = a .start; length = a .length; via = a .via }) z
+
+  module _ (r : Handled) (out2 : List ℕ) where
+    pub carry-forward : task ≡ Forward → Done (transit (waysBy t) f h) r out out2 → Done (doneBy (waysBy t) clock f h task) r out out2
+    carry-forward e d = rw e d
+
+    pub carry-error : (code : ℕ) → task ≡ Error code → Done (faulted (waysBy t) f h code) r out out2 → Done (doneBy (waysBy t) clock f h task) r out out2
+    carry-error code e d = rw e d
+
+    pub carry-echo : task ≡ Echo → Done (echoed (waysBy t) clock f h) r out out2 → Done (doneBy (waysBy t) clock f h task) r out out2
+    carry-echo e d = rw e d
+
+module _ (clock f : List ℕ) (room : ℕ) (h : Header) (task : Task) (held : Held clock f room h task) where
+  pub forward-well : task ≡ Forward → areaRead (areaOf f h) ≡ WellFormed
+  forward-well e = (rw e at held) .0 .0
+
+  pub forward-ready : task ≡ Forward → Ready f h
+  forward-ready e = (rw e at held) .0 .1
+
+  pub forward-roomy : task ≡ Forward → 2048 ≤ room
+  forward-roomy e = (rw e at held) .1
+
+  pub error-ready : (code : ℕ) → task ≡ Error code → Ready f h
+  error-ready code e = (rw e at held) .0
+
+  pub error-roomy : (code : ℕ) → task ≡ Error code → 2048 ≤ room
+  error-roomy code e = (rw e at held) .1
+
+  pub echo-ready : task ≡ Echo → Ready f h
+  echo-ready e = (rw e at held) .0 .2
+
+  pub echo-eighteen : task ≡ Echo → 18 ≤ length (bodyOf (innerOf f h))
+  echo-eighteen e = (rw e at held) .0 .0
+
+  pub echo-few : task ≡ Echo → length (bodyOf (innerOf f h)) ≤ 530
+  echo-few e = (rw e at held) .0 .1
+
+  pub echo-six : task ≡ Echo → length clock ≡ 6
+  echo-six e = (rw e at held) .1 .0
+
+  pub echo-roomy : task ≡ Echo → 2048 ≤ room
+  echo-roomy e = (rw e at held) .1 .1
+
+pub ruleset carry-laws =
+    (needs, carry-answer, carry-forward, carry-error, carry-echo, forward-well, forward-ready, forward-roomy, error-ready, error-roomy, echo-ready, echo-eighteen, echo-few, echo-six, echo-roomy)
+
+-- a task that is an answer
+module _ {f : List ℕ} {h : Header} {stage : Ways → List ℕ → A.Handled} {r : Handled} where
+  comes-answered : (a : A.Handled) → a .octets ≡ [] → ((S : Ways) (clock : List ℕ) → stage S clock ≡ a) → r ≡ numbersOf a → Comes f h stage (Answered r)
+  comes-answered a nothing e is = record { same = λ S clock. e S clock ∙ rw is (answers a nothing); left = rw (is, nothing) }
+    where
+      answers : (a : A.Handled) → a .octets ≡ [] → a ≡ answerBy (numbersOf a)
+      answers a q = ap (λ (l : List ℕ). record { number = a .number; octets = l; start = a .start; size = a .size; via = a .via }) q
+
+  comes-dropped : (n : ℕ) → ((S : Ways) (clock : List ℕ) → stage S clock ≡ A.dropped n) → r ≡ numbersOf (A.dropped n) → Comes f h stage (Answered r)
+  comes-dropped n = comes-answered (A.dropped n) refl
+
+  at-dropped : (own : Own) (n : ℕ) → ((S : Ways) (clock : List ℕ) → own ≡ ownOf S → stage S clock ≡ A.dropped n) → r ≡ numbersOf (A.dropped n) → ComesAt own f h stage (Answered r)
+  at-dropped own n e is = record { same = λ S clock o. e S clock o ∙ rw is; left = rw is }
+
 -- what a channel message comes to, by what it is found to be
-module _ (S : Settings) (clock f : List ℕ) (h : Header) (inner : List ℕ) (held : inner ≡ innerOf f h) (read : ChannelRead) (is : read ≡ channelRead inner) where
+module _ (f : List ℕ) (h : Header) (inner : List ℕ) (held : inner ≡ innerOf f h) (read : ChannelRead) (is : read ≡ channelRead inner) where
   found : {c : ChannelRead} → read ≡ c → channelRead (innerOf f h) ≡ c
   found e = sym (rw held at is) ∙ e
 
-  abbrev Channel : Handled → List ℕ → List ℕ → Type 0
-  Channel r out out2 = Done (channelled S clock f h (channelRead (innerOf f h))) r out out2
+  abbrev Channel : Task → Type 0
+  Channel t = Comes f h (λ S clock. channelled S clock f h (channelRead (innerOf f h))) t
 
-  module _ (r : Handled) (out out2 : List ℕ) where
-    pub found-fault : (code : ℕ) → read ≡ Fault code → Done (faulted S f h code) r out out2 → Channel r out out2
+  pub found-fault : (code : ℕ) → read ≡ Fault code → Ready f h → Channel (Error code)
+  unfolding channelled
+  found-fault code e ready = record { same = λ S clock. rw (found e); left = ready }
+
+  pub found-request : read ≡ EchoRequest → Ready f h → Channel Echo
+  unfolding channelled
+  found-request e ready =
+      let ranged = echo-ranged (bodyOf (innerOf f h)) (channel-echo (innerOf f h) (found e)) in
+      record { same = λ S clock. rw (found e); left = (ranged .0, ranged .1, ready) }
+
+  module _ (r : Handled) where
+    pub found-bad-err : read ≡ BadErr → r ≡ numbersOf (A.dropped 26) → Channel (Answered r)
     unfolding channelled
-    found-fault code e d = rw (found e) d
+    found-bad-err e = comes-dropped 26 (λ S clock. rw (found e))
 
-    pub found-request : read ≡ EchoRequest → Done (echoed S clock f h) r out out2 → Channel r out out2
+    pub found-error : read ≡ ErrorHeard → r ≡ numbersOf (A.dropped 55) → Channel (Answered r)
     unfolding channelled
-    found-request e d = rw (found e) d
+    found-error e = comes-dropped 55 (λ S clock. rw (found e))
 
-  module _ (r : Handled) (out : List ℕ) where
-    pub found-bad-err : read ≡ BadErr → r ≡ numbersOf (A.dropped 26) → Channel r out out
+    pub found-bad-echo : read ≡ BadEcho → r ≡ numbersOf (A.dropped 27) → Channel (Answered r)
     unfolding channelled
-    found-bad-err e is = done-dropped 26 (rw (found e)) is
+    found-bad-echo e = comes-dropped 27 (λ S clock. rw (found e))
 
-    pub found-error : read ≡ ErrorHeard → r ≡ numbersOf (A.dropped 55) → Channel r out out
+    pub found-echo : read ≡ EchoHeard → r ≡ numbersOf (A.dropped 56) → Channel (Answered r)
     unfolding channelled
-    found-error e is = done-dropped 55 (rw (found e)) is
+    found-echo e = comes-dropped 56 (λ S clock. rw (found e))
 
-    pub found-bad-echo : read ≡ BadEcho → r ≡ numbersOf (A.dropped 27) → Channel r out out
-    unfolding channelled
-    found-bad-echo e is = done-dropped 27 (rw (found e)) is
-
-    pub found-echo : read ≡ EchoHeard → r ≡ numbersOf (A.dropped 56) → Channel r out out
-    unfolding channelled
-    found-echo e is = done-dropped 56 (rw (found e)) is
-
-module _ (f : List ℕ) (h : Header) (inner : List ℕ) (held : inner ≡ innerOf f h) (read : ChannelRead) (e : read ≡ EchoRequest) (is : read ≡ channelRead inner) where
-  pub found-enough : 18 ≤ length (bodyOf (innerOf f h))
-  found-enough = echo-ranged (bodyOf (innerOf f h)) (channel-echo (innerOf f h) (sym (rw held at is) ∙ e)) .0
-
-  pub found-few : length (bodyOf (innerOf f h)) ≤ 530
-  found-few = echo-ranged (bodyOf (innerOf f h)) (channel-echo (innerOf f h) (sym (rw held at is) ∙ e)) .1
-
-pub ruleset channelled-laws = (needs, ready, inner-held, found-fault, found-request, found-bad-err, found-error, found-bad-echo, found-echo, found-enough, found-few)
+pub ruleset channelled-laws = (needs, ready, inner-held, found-fault, found-request, found-bad-err, found-error, found-bad-echo, found-echo)
 
 -- 22 to 24, 51 and 52
-module _ (S : Settings) (clock f : List ℕ) (h : Header) (inner : List ℕ) (held : inner ≡ innerOf f h) (r : Handled) (out : List ℕ) where
-  abbrev Egress : List ℕ → Type 0
-  Egress out2 = Done (decapsulated S clock f h) r out out2
+module _ (f : List ℕ) (h : Header) (inner : List ℕ) (held : inner ≡ innerOf f h) where
+  abbrev Egress : Task → Type 0
+  Egress t = Comes f h (λ S clock. decapsulated S clock f h) t
 
-  pub egress-short : r ≡ numbersOf (A.dropped 22) → length inner < 18 → Egress out
-  egress-short is a = done-dropped 22 (inner-short S clock f h (rw held at a)) is
+  pub egress-short : (r : Handled) → r ≡ numbersOf (A.dropped 22) → length inner < 18 → Egress (Answered r)
+  egress-short r is a = comes-dropped 22 (λ S clock. inner-short S clock f h (rw held at a)) is
 
   module _ (a : 18 ≤ length inner) (tag : Bool) (t : tag ≡ untaggedBy inner) where
     tagged : {b : Bool} → tag ≡ b → untaggedBy (innerOf f h) ≡ b
     tagged b = sym (rw held at t) ∙ b
 
-    pub egress-untagged : r ≡ numbersOf (A.dropped 23) → tag ≡ true → Egress out
-    egress-untagged is b = done-dropped 23 (inner-untagged S clock f h (rw held at a) (tagged b)) is
+    pub egress-untagged : (r : Handled) → r ≡ numbersOf (A.dropped 23) → tag ≡ true → Egress (Answered r)
+    egress-untagged r is b = comes-dropped 23 (λ S clock. inner-untagged S clock f h (rw held at a) (tagged b)) is
 
     module _ (b : tag ≡ false) (all : Bool) (m : all ≡ toAllEgressRBridges inner) where
       to-all : {c : Bool} → all ≡ c → toAllEgressRBridges (innerOf f h) ≡ c
       to-all c = sym (rw held at m) ∙ c
 
-      pub egress-any : r ≡ numbersOf (A.dropped 24) → not all ≡ true → h .egress ≡ 0xFFC0 → Egress out
-      egress-any is n e = done-dropped 24 (inner-any S clock f h (rw held at a) (tagged b) e (to-all (not-true all n))) is
+      pub egress-any : (r : Handled) → r ≡ numbersOf (A.dropped 24) → not all ≡ true → h .egress ≡ 0xFFC0 → Egress (Answered r)
+      egress-any r is n e = comes-dropped 24 (λ S clock. inner-any S clock f h (rw held at a) (tagged b) e (to-all (not-true all n))) is
 
-      pub egress-delivered : (start : ℕ) → start ≡ innerStart h → r ≡ numbersOf (A.delivered 51 start (length inner)) → not all ≡ true → (h .egress ≡ 0xFFC0 → ⊥) → Egress out
-      egress-delivered start i is n e = done-delivered 51 _ _ (inner-delivered S clock f h (rw held at a) (tagged b) e (to-all (not-true all n))) (rw (held, i) at is)
+      pub egress-delivered : (r : Handled) (start : ℕ) → start ≡ innerStart h → r ≡ numbersOf (A.delivered 51 start (length inner)) → not all ≡ true → (h .egress ≡ 0xFFC0 → ⊥) → Egress (Answered r)
+      egress-delivered r start i is n e =
+          comes-answered (A.delivered 51 (innerStart h) (length (innerOf f h))) refl (λ S clock. inner-delivered S clock f h (rw held at a) (tagged b) e (to-all (not-true all n))) (rw (held, i) at is)
 
       module _ (n : not all ≡ false) (word : ℕ) (w : word ≡ be16 inner 16) where
-        pub egress-up : (start : ℕ) → start ≡ innerStart h → r ≡ numbersOf (A.delivered 52 start (length inner)) → word ≡ 0x22F4 → Egress out
-        egress-up start i is e = done-delivered 52 _ _ (inner-up S clock f h (rw held at a) (tagged b) (to-all (not-false all n)) (sym (rw held at w) ∙ e)) (rw (held, i) at is)
+        pub egress-up : (r : Handled) (start : ℕ) → start ≡ innerStart h → r ≡ numbersOf (A.delivered 52 start (length inner)) → word ≡ 0x22F4 → Egress (Answered r)
+        egress-up r start i is e =
+            comes-answered (A.delivered 52 (innerStart h) (length (innerOf f h))) refl (λ S clock. inner-up S clock f h (rw held at a) (tagged b) (to-all (not-false all n)) (sym (rw held at w) ∙ e)) (rw (held, i) at is)
 
-        pub egress-channel : (out2 : List ℕ) → (word ≡ 0x22F4 → ⊥) → Done (channelled S clock f h (channelRead (innerOf f h))) r out out2 → Egress out2
-        egress-channel out2 e = done-as (inner-channel S clock f h (rw held at a) (tagged b) (to-all (not-false all n)) (λ x. e (rw held at w ∙ x)))
+        pub egress-channel : (t : Task) → (word ≡ 0x22F4 → ⊥) → Comes f h (λ S clock. channelled S clock f h (channelRead (innerOf f h))) t → Egress t
+        egress-channel t e d =
+            record { same = λ S clock. inner-channel S clock f h (rw held at a) (tagged b) (to-all (not-false all n)) (λ x. e (rw held at w ∙ x)) ∙ d .same S clock; left = d .left }
 
 pub ruleset decapsulated-laws = (needs, ready, inner-held, egress-short, egress-untagged, egress-any, egress-delivered, egress-up, egress-channel)
 
@@ -363,72 +429,136 @@ route-place p n read e area a short = omega (arith, area-number area n p (sym a 
 pub part-short : (f : List ℕ) (n k : ℕ) → length f ≤ 2048 → length (take n (drop k f)) ≤ 2048
 part-short f n k short = omega (arith, length-take n (drop k f), length-drop k f)
 
-module _ (f : List ℕ) (h : Header) (area : List ℕ) (held : area ≡ areaOf f h) (read : AreaRead) (a : judgedBy read ≡ areaRead area) where
+module _ (f : List ℕ) (h : Header) (area : List ℕ) (held : area ≡ areaOf f h) (read : AreaRead) (a : judgedBy read ≡ areaRead area) (own : Own) where
   judged : {j : O.AreaRead} → judgedBy read ≡ j → areaRead (areaOf f h) ≡ j
   judged e = rw held at (sym a ∙ e)
 
-  pub route-well : (c : Cursor) → read ≡ Read c → areaRead (areaOf f h) ≡ WellFormed
-  route-well c e = judged (ap judgedBy e)
+  abbrev Route : Task → Type 0
+  Route t = ComesAt own f h (λ S clock. routed S clock f h) t
 
-  module _ (S : Settings) (clock : List ℕ) (r : Handled) (out : List ℕ) where
-    pub route-faulty : (n p : ℕ) → read ≡ Faulty n p → r ≡ numbersOf (A.droppedAt n p) → Done (routed S clock f h) r out out
-    route-faulty n p e is = rw (routed-faulty S clock f h n p (judged (ap judgedBy e))) (record { answer = is; after = sym (put-none out 0) })
+  pub route-faulty : (r : Handled) (n p : ℕ) → read ≡ Faulty n p → r ≡ numbersOf (A.droppedAt n p) → Route (Answered r)
+  route-faulty r n p e is = record { same = λ S clock o. routed-faulty S clock f h n p (judged (ap judgedBy e)) ∙ rw is; left = rw is }
 
-    module _ (c : Cursor) (e : read ≡ Read c) (own : Own) (owned : own ≡ ownOf S) (egress : Bool) (o : egress ≡ weAreEgress (own .nickname) h) (stops : Bool) (b : stops ≡ areaStops egress area) where
-      role : egress ≡ weAreEgress (S .nickname) h
-      role = o ∙ (rw owned)
+  module _ (c : Cursor) (w : read ≡ Read c) (egress : Bool) (e : egress ≡ weAreEgress (own .nickname) h) (stops : Bool) (b : stops ≡ areaStops egress area) where
+    well : areaRead (areaOf f h) ≡ WellFormed
+    well = judged (ap judgedBy w)
 
-      halted : {x : Bool} → stops ≡ x → areaStops (weAreEgress (S .nickname) h) (areaOf f h) ≡ x
-      halted x = rw (← role, ← held) (sym b ∙ x)
+    role : (S : Ways) → own ≡ ownOf S → egress ≡ weAreEgress (S .nickname) h
+    role S o = e ∙ (rw o)
 
-      pub route-stopped : r ≡ numbersOf (A.dropped 20) → stops ≡ true → Done (routed S clock f h) r out out
-      route-stopped is x = done-dropped 20 (routed-stopped S clock f h (route-well c e) (halted x)) is
+    halted : (S : Ways) → own ≡ ownOf S → {x : Bool} → stops ≡ x → areaStops (weAreEgress (S .nickname) h) (areaOf f h) ≡ x
+    halted S o x = rw (← role S o, ← held) (sym b ∙ x)
 
-      pub route-egress : (out2 : List ℕ) → stops ≡ false → egress ≡ true → Done (decapsulated S clock f h) r out out2 → Done (routed S clock f h) r out out2
-      route-egress out2 x y = done-as (routed-egress S clock f h (route-well c e) (halted x) (sym role ∙ y))
+    pub route-stopped : (r : Handled) → r ≡ numbersOf (A.dropped 20) → stops ≡ true → Route (Answered r)
+    route-stopped r is x = at-dropped own 20 (λ S clock o. routed-stopped S clock f h well (halted S o x)) is
 
-      pub route-transit : (out2 : List ℕ) → stops ≡ false → egress ≡ false → Done (transit S f h) r out out2 → Done (routed S clock f h) r out out2
-      route-transit out2 x y = done-as (routed-transit S clock f h (route-well c e) (halted x) (sym role ∙ y))
+    pub route-egress : (t : Task) → stops ≡ false → egress ≡ true → Comes f h (λ S clock. decapsulated S clock f h) t → Route t
+    route-egress t x y d =
+        record { same = λ S clock o. routed-egress S clock f h well (halted S o x) (sym (role S o) ∙ y) ∙ d .same S clock; left = d .left }
 
-pub ruleset routed-laws = (needs, ready, area-held, route-place, part-short, route-faulty, route-stopped, route-egress, route-transit, route-well)
+    pub route-transit : Ready f h → stops ≡ false → egress ≡ false → Route Forward
+    route-transit ready x y =
+        record { same = λ S clock o. routed-transit S clock f h well (halted S o x) (sym (role S o) ∙ y); left = (well, ready) }
+
+pub ruleset routed-laws = (needs, ready, area-held, route-place, part-short, route-faulty, route-stopped, route-egress, route-transit)
 
 -- 12 to 18
-module _ (f : List ℕ) (h : Header) (is : readFrame f ≡ Trill h) where
+module _ (f : List ℕ) (h : Header) (is : readFrame f ≡ Trill h) (own : Own) where
+  abbrev Received : Examined → Type 0
+  Received e = ComesAt own f (e .header) (λ S clock. handling S clock f) (e .task)
+
   pub frame-near : h .place ≤ 18
   frame-near = omega (arith, frame-read f h is .its-place, link-length f)
 
-  module _ (s : List ℕ) (own : Own) (o : own ≡ ownOf (settingsRead s)) (refusal : ℕ) (n : refusal ≡ headerRefusal (own .mac) f h) where
-    refuses : refusal ≡ headerRefusal (settingsRead s .mac) f h
-    refuses = n ∙ (rw o)
+  module _ (refusal : ℕ) (n : refusal ≡ headerRefusal (own .mac) f h) where
+    refuses : (S : Ways) → own ≡ ownOf S → refusal ≡ headerRefusal (S .mac) f h
+    refuses S o = n ∙ (rw o)
 
-    pub frame-ready : (out : List ℕ) → refusal ≡ 0 → length f ≤ 2048 → 2048 ≤ length out → Ready s f h own out
-    frame-ready out z short roomy = record { owned = o; read = is; passed = sym refuses ∙ z; short = short; roomy = roomy }
+    pub frame-ready : refusal ≡ 0 → length f ≤ 2048 → Ready f h
+    frame-ready z short =
+        let S : Ways = record { nickname = own .nickname; mac = own .mac; strip = false; hop = λ d. Absent } in
+        let p = header-passed S f h (sym n ∙ z) in
+        record { read = is; hops-left = p .hops-left; area-whole = p .area-whole; short = short }
 
-    module _ (clock : List ℕ) (r : Handled) (out : List ℕ) where
-      pub frame-refused : r ≡ numbersOf (A.dropped refusal) → (refusal ≡ 0 → ⊥) → Done (handling (settingsRead s) clock f) r out out
-      frame-refused d z = done-dropped _ (handling-refused (settingsRead s) clock f h is (λ x. z (refuses ∙ x))) (rw refuses at d)
+    pub frame-refused : (r : Handled) (x : Examined) → x .task ≡ Answered r → r ≡ numbersOf (A.dropped refusal) → (refusal ≡ 0 → ⊥) → Received x
+    frame-refused r x t d z =
+        rw t (record { same = λ S clock o. handling-refused S clock f h is (λ y. z (refuses S o ∙ y)) ∙ rw (d, ← refuses S o); left = rw d })
 
-      pub frame-routed : (out2 : List ℕ) → refusal ≡ 0 → Done (routed (settingsRead s) clock f h) r out out2 → Done (handling (settingsRead s) clock f) r out out2
-      frame-routed out2 z = done-as (handling-routed (settingsRead s) clock f h is (sym refuses ∙ z))
+    pub frame-routed : (t : Task) → refusal ≡ 0 → ComesAt own f h (λ S clock. routed S clock f h) t → Received (record { header = h; task = t })
+    frame-routed t z d = record { same = λ S clock o. handling-routed S clock f h is (sym (refuses S o) ∙ z) ∙ d .same S clock o; left = d .left }
 
 pub ruleset received-laws = (needs, frame-near, frame-refused, frame-ready, frame-routed)
 
 -- 10 and 11
-module _ (f : List ℕ) (read : FrameRead) (is : read ≡ readFrame f) where
-  pub frame-unread : (S : Settings) (clock : List ℕ) (n : ℕ) (r : Handled) (out : List ℕ) → read ≡ Unreadable n → r ≡ numbersOf (A.dropped n) → Done (handling S clock f) r out out
-  frame-unread S clock n r out e u = done-dropped n (handling-unread S clock f n (sym is ∙ e)) u
+module _ (f : List ℕ) (read : FrameRead) (is : read ≡ readFrame f) (own : Own) where
+  pub frame-unread : (n : ℕ) (r : Handled) (e : Examined) → e .task ≡ Answered r → read ≡ Unreadable n → r ≡ numbersOf (A.dropped n)
+      → ComesAt own f (e .header) (λ S clock. handling S clock f) (e .task)
+  frame-unread n r x t e u = rw t (at-dropped own n (λ S clock o. handling-unread S clock f n (sym is ∙ e)) u)
 
   pub frame-trill : (h : Header) → read ≡ Trill h → readFrame f ≡ Trill h
   frame-trill h e = sym is ∙ e
 
-pub ruleset handle-laws = (needs, frame-unread, frame-trill)
+pub ruleset read-laws = (needs, frame-unread, frame-trill)
+
+-- 1 to 3
+lent-left : (clock f : List ℕ) (room : ℕ) (h : Header) (t : Task) → length clock ≡ 6 → 2048 ≤ room → Lent clock room t
+lent-left clock f room h (Answered a) c b = tt
+lent-left clock f room h Forward c b = b
+lent-left clock f room h (Error code) c b = b
+lent-left clock f room h Echo c b = (c, b)
+
+module _ (own : Own) (clock f : List ℕ) (room : ℕ) (e : Examined) where
+  answered-so : (n : ℕ) (r : Handled) → e .task ≡ Answered r → r ≡ numbersOf (A.dropped n) → ((S : Ways) → handledWith S clock room f ≡ A.dropped n) → Examining own clock f room e
+  answered-so n r t is w = record { same = λ S o. w S ∙ rw (t, is); held = rw (t, is) (refl, tt) }
+
+  module _ (r : Handled) (t : e .task ≡ Answered r) where
+    pub examined-clock : r ≡ numbersOf (A.dropped 1) → (length clock ≡ 6 → ⊥) → Examining own clock f room e
+    examined-clock is a = answered-so 1 r t is (λ S. clock-bad S clock room f a)
+
+    pub examined-room : r ≡ numbersOf (A.dropped 2) → length clock ≡ 6 → room < 2048 → Examining own clock f room e
+    examined-room is a b = answered-so 2 r t is (λ S. room-short S clock room f a b)
+
+    pub examined-long : r ≡ numbersOf (A.dropped 3) → length clock ≡ 6 → 2048 ≤ room → 2048 < length f → Examining own clock f room e
+    examined-long is a b c = answered-so 3 r t is (λ S. frame-long S clock room f a b c)
+
+  pub examined-read : ComesAt own f (e .header) (λ S clock. handling S clock f) (e .task) → length clock ≡ 6 → 2048 ≤ room → length f ≤ 2048 → Examining own clock f room e
+  examined-read d a b c =
+      record { same = λ S o. frame-handled S clock room f a b c ∙ d .same S clock o; held = (d .left, lent-left clock f room (e .header) (e .task) a b) }
+
+pub ruleset examine-laws = (needs, examined-clock, examined-room, examined-long, examined-read)
+
+-- one destination is all that a task asks for
+asks-one : (S : Ways) (clock f : List ℕ) (h : Header) (task : Task) → doneBy S clock f h task ≡ doneBy (onlyFor (askedBy h task) S) clock f h task
+unfolding transit faulted echoed returnPath forwarded forwardedRest areaSent link errorReply echoReply replyRest replyInner
+asks-one S clock f h (Answered a) = refl
+asks-one S clock f h Forward = refl
+asks-one S clock f h (Error code) = refl
+asks-one S clock f h Echo = refl
+
+pub tells : (S : Ways) (d : ℕ) (own : Own) (strip : Bool) (hop : Ruling) → own ≡ ownOf S → strip ≡ S .strip → hop ≡ S .hop d → waysBy (record { own = own; strip = strip; hop = hop }) ≡ onlyFor d S
+tells S d own strip hop o s p =
+    ap (λ (x : Own). record { nickname = x .nickname; mac = x .mac; strip = strip; hop = λ e. hop }) o
+    ∙ ap (λ (x : Bool). record { nickname = S .nickname; mac = S .mac; strip = x; hop = λ e. hop }) s
+    ∙ ap (λ (x : Ruling). record { nickname = S .nickname; mac = S .mac; strip = S .strip; hop = λ e. x }) p
+
+pub ruleset told-laws = (needs, tells)
 
 -- the answer as the callers are told it
-pub told-done : (a b : A.Handled) (r : Handled) (t : Routed) (out out′ : List ℕ) → a ≡ b → Done b r out out′ → t ≡ toldBy r → (t ≡ routedOf a) × (out′ ≡ put out 0 (a .octets))
-told-done a b r t out out′ e d is = rw e (is ∙ ap toldBy (d .answer), d .after)
+module _ (S : Ways) (clock f out : List ℕ) (own : Own) (e : Examined) (t : Told) (d : ℕ) (r : Handled) (out′ : List ℕ) (done : Done (doneBy (waysBy t) clock f (e .header) (e .task)) r out out′)
+    (x : Examining own clock f (length out) e) (is : waysBy t ≡ onlyFor d S) (asks : d ≡ askedBy (e .header) (e .task)) (o : own ≡ ownOf S) where
+  handled-so : handledWith S clock (length out) f ≡ doneBy (waysBy t) clock f (e .header) (e .task)
+  handled-so = x .same S o ∙ asks-one S clock f (e .header) (e .task) ∙ rw (is, asks)
+
+  pub told-answer : (told : Routed) → told ≡ toldBy r → told ≡ routedOf (handledWith S clock (length out) f)
+  told-answer told from = rw handled-so (from ∙ ap toldBy (done .answer))
+
+  pub told-after : out′ ≡ outputAfter out (handledWith S clock (length out) f)
+  told-after = rw handled-so (done .after)
+
+pub ruleset handle-fields-laws = (needs, told-answer, told-after)
 
 pub told-dropped : (a : A.Handled) (n : ℕ) (r : Handled) (t : Routed) (out : List ℕ) → a ≡ A.dropped n → r ≡ numbersOf (A.dropped n) → t ≡ toldBy r → (t ≡ routedOf a) × (out ≡ put out 0 (a .octets))
-told-dropped a n r t out e is told = told-done a (A.dropped n) r t out out e (done-dropped n refl is) told
+told-dropped a n r t out e is told = rw e (told ∙ rw is, sym (put-none out 0))
 
 -- the call with settings judged first
 module _ (settings clock frame out : List ℕ) where
@@ -442,13 +572,13 @@ module _ (settings clock frame out : List ℕ) where
           (ap (λ (x : Routed). x .answer) (d .0), d .1)
       go (some S) e = let z : true ≡ false = ap known (sym e) ∙ bad in absurd (true≢false z)
 
-  pub answer-good : known (settingsOf settings) ≡ true → (t : Routed) (out′ : List ℕ) → t ≡ routedOf (handledWith (settingsRead settings) clock (length out) frame)
-      → out′ ≡ outputAfter out (handledWith (settingsRead settings) clock (length out) frame)
+  pub answer-good : known (settingsOf settings) ≡ true → (t : Routed) (out′ : List ℕ) → t ≡ routedOf (handledWith (waysOf (settingsRead settings)) clock (length out) frame)
+      → out′ ≡ outputAfter out (handledWith (waysOf (settingsRead settings)) clock (length out) frame)
       → (t .answer ≡ answerOf (handled settings clock (length out) frame)) × (out′ ≡ outputAfter out (handled settings clock (length out) frame))
   answer-good good t out′ is w = go (settingsOf settings) refl
     where
       go : (o : Option Settings) → settingsOf settings ≡ o → (t .answer ≡ answerOf (handled settings clock (length out) frame)) × (out′ ≡ outputAfter out (handled settings clock (length out) frame))
       go none e = let z : false ≡ true = ap known (sym e) ∙ good in absurd (false≢true z)
       go (some S) e =
-          let same : handledWith (settingsRead settings) clock (length out) frame ≡ handled settings clock (length out) frame = ap (λ (x : Settings). handledWith x clock (length out) frame) (settings-read settings S e) ∙ sym (settings-good settings clock (length out) frame S e) in
+          let same : handledWith (waysOf (settingsRead settings)) clock (length out) frame ≡ handled settings clock (length out) frame = ap (λ (x : Settings). handledWith (waysOf x) clock (length out) frame) (settings-read settings S e) ∙ sym (settings-good settings clock (length out) frame S e) in
           rw (← same) (ap (λ (x : Routed). x .answer) is, w)

@@ -7,9 +7,9 @@ use lib.ListN.{length, drop}
 use lib.Dec.{eqb}
 use Rattle.rules.specs.Octets.{if_then_else_, octet, be16, octets16, octets48, part, put}
 use Rattle.rules.specs.Fields.{Field, field, cut, fieldsFrom}
-use Rattle.rules.specs.Settings.{Settings, newer, hopOf, settingsRead}
+use Rattle.rules.specs.Settings.{Ways, newer, hopOf}
 use Rattle.rules.specs.Link.{link, ethertypeTag, ethertypeTrill}
-use Rattle.rules.specs.Header.{version, reserved, multi, hopCount, headerWord, readFrame, innerStart, innerOf, headerRefusal}
+use Rattle.rules.specs.Header.{version, reserved, multi, hopCount, headerWord, readFrame, innerStart, innerOf}
 use Rattle.rules.specs.Handling.{vlan}
 use Rattle.rules.specs.Options as O
 use Rattle.rules.specs.Options.{OptionRead, Taken, Fault, Options, options, fault, some-key, hopByHopCritical, ingressToEgressCritical, keptOptions, octetsOf, stripped}
@@ -22,12 +22,17 @@ use Rattle.rules.specs.declared.FrameRead.the-variants.{Trill}
 use Rattle.handler.specs.declared.answers.Handled.{Handled}
 use Rattle.handler.specs.declared.Answer.{Answer}
 use Rattle.handler.specs.declared.Routed.{Routed}
-use Rattle.handler.specs.declared.settings.Own.{Own}
+use Rattle.handler.specs.declared.way.Own.{Own}
+use Rattle.handler.specs.declared.way.Told.{Told}
 use Rattle.handler.specs.declared.way.Way.{Way}
 use Rattle.handler.specs.declared.way.Way.the-variants.{Via, NoWay}
 use Rattle.handler.specs.declared.options.Cursor.{Cursor}
 use Rattle.handler.specs.declared.options.AreaRead.{AreaRead}
 use Rattle.handler.specs.declared.options.AreaRead.the-variants.{Read, Faulty}
+
+-- what settings say, asked for one destination only
+abbrev pub onlyFor : ℕ → Ways → Ways
+onlyFor d S = record { nickname = S .nickname; mac = S .mac; strip = S .strip; hop = λ e. S .hop d }
 
 -- an answer as numbers: the octets written by their length
 abbrev pub numbersOf : A.Handled → Handled
@@ -42,8 +47,12 @@ routedOf a = record { answer = answerOf a; via = a .via }
 abbrev pub toldBy : Handled → Routed
 toldBy a = record { answer = record { number = a .number; written = a .written; start = a .start; length = a .length }; via = a .via }
 
-abbrev pub ownOf : Settings → Own
+abbrev pub ownOf : Ways → Own
 ownOf S = record { nickname = S .nickname; mac = S .mac }
+
+-- what a handling is told, which asks for the next hop of one destination only
+abbrev pub waysBy : Told → Ways
+waysBy t = record { nickname = t .own .nickname; mac = t .own .mac; strip = t .strip; hop = λ d. t .hop }
 
 -- the record that rules, and the strip flag, once one more field is read
 unfoldable pub ruledBy : ℕ → Ruling → Field → Ruling
@@ -59,13 +68,16 @@ abbrev pub FoldedFrom : {A : Type 0} → (A → Field → A) → A → List ℕ 
 FoldedFrom step start s from r = (g : ℕ) → length s ≤ from + g → r ≡ foldl step start (fieldsFrom (suc g) s from)
 
 -- the way out to a destination: the neighbour, and the link header written towards it
-abbrev pub wayBy : Settings → Ruling → Way
+abbrev pub wayBy : Ways → Ruling → Way
 wayBy S Absent = NoWay
 wayBy S (Found r) = Via (r .neighbour) (length (link S r))
 
-abbrev pub linkBy : Settings → Ruling → List ℕ
+abbrev pub linkBy : Ways → Ruling → List ℕ
 linkBy S Absent = []
 linkBy S (Found r) = link S r
+
+abbrev pub Linked : Ways → Ruling → List ℕ → Way → List ℕ → Type 0
+Linked S R out w out1 = (w ≡ wayBy S R) × (out1 ≡ put out 0 (linkBy S R))
 
 -- the cursor behind an option that was read, or the fault
 abbrev pub readBy : Cursor → OptionRead → AreaRead
@@ -152,13 +164,12 @@ foreignBy ethertype = not (eqb ethertype ethertypeChannel) && not (eqb ethertype
 abbrev pub quenchedBy : ℕ → Bool
 quenchedBy code = eqb code 4 || eqb code 5
 
--- a frame that was read and of which none of 12 to 18 is given, at a switch with these settings, and room for any answer
-pub record Ready (s f : List ℕ) (h : Header) (own : Own) (out : List ℕ) : Type 0 where
-  pub owned : own ≡ ownOf (settingsRead s)
+-- a frame that was read and of which neither 17 nor 18 is given
+pub record Ready (f : List ℕ) (h : Header) : Type 0 where
   pub read : readFrame f ≡ Trill h
-  pub passed : headerRefusal (settingsRead s .mac) f h ≡ 0
+  pub hops-left : 0 < hopCount (h .word)
+  pub area-whole : innerStart h ≤ length f
   pub short : length f ≤ 2048
-  pub roomy : 2048 ≤ length out
 
 -- the answer, and the output buffer after it
 pub record Done (a : A.Handled) (r : Handled) (out out′ : List ℕ) : Type 0 where

@@ -1,4 +1,4 @@
-// One handling: the answers in the order of document 01.
+// One handling, the answers in the order of document 01: first what a frame comes to before a next hop is asked for, then what is done with it.
 use crate::answers;
 use crate::answers::Handled;
 use crate::channel;
@@ -7,9 +7,9 @@ use crate::header;
 use crate::options;
 use crate::options::AreaRead;
 use crate::reply;
-use crate::settings;
-use crate::settings::Own;
 use crate::way;
+use crate::way::Own;
+use crate::way::Told;
 use crate::way::Way;
 use rules::ChannelRead;
 use rules::FrameRead;
@@ -19,82 +19,42 @@ ghost use mathlib.Core.Bool.{_&&_};
 ghost use Prim.Native.Nat.{_≤_};
 ghost use lib.ListN.{length};
 ghost use lib.Dec.{leb};
-ghost use Rattle.rules.specs.Settings.{settingsRead};
 ghost use Rattle.rules.specs.Header.{opLength, readFrame, areaOf, innerOf};
 ghost use Rattle.rules.specs.Options.{WellFormed, areaRead};
 ghost use Rattle.rules.specs.Channel.{bodyOf, channelRead};
 ghost use Rattle.rules.specs.Handling as Rules;
 ghost use Rattle.rules.specs.declared.FrameRead.the-variants.{Trill};
-ghost use Rattle.handler.specs.Shapes.{Ready, Done, untaggedBy};
+ghost use Rattle.handler.specs.Shapes.{Ready, Done, untaggedBy, waysBy};
+ghost use Rattle.handler.specs.declared.handling.Task.the-variants.{Answered};
+ghost use Rattle.handler.specs.Tasks.{askedBy, doneBy, Comes, ComesAt, Examining, Held};
 
-// The strip flag, asked for only where the area has an option.
-fn strips(s: &[u8], h: Header) -> bool
-    ensures { λ r. ⌜ r ≡ (leb 2 (opLength (h .word)) && (settingsRead (now (s .entry))) .strip) ⌝ }
-{
-    if header::op_length(h.word) < 2 {
-        return false;
-    }
-    settings::strip_flag(s)
+// An answer with nothing written, or what a next hop is asked for.
+pub enum Task {
+    Answered(Handled),
+    Forward,
+    Error { code: u8 },
+    Echo,
 }
 
-// 21 and 50.
-fn transit(s: &[u8], own: Own, f: &[u8], h: Header, out: &mut [u8]) -> Handled
-    requires { ⌜ (areaRead (areaOf (now f) h) ≡ WellFormed) × Ready (now s) (now f) h own (now out) ⌝ }
-    ensures { λ r. ⌜ Done (Rules.transit (settingsRead (now (s .entry))) (now (f .entry)) h) r (now (out .entry)) (now (out .exit)) ⌝ }
-{
-    let Way::Via { neighbour, length } = way::write_link(s, own, h.egress, out) else {
-        return answers::dropped(21);
-    };
-    let end = forward::forward_rest(f, h, strips(s, h), out, length);
-    answers::wrote(50, end, neighbour)
+// The task that a frame comes to, with its header; an answered one may have none.
+pub struct Examined {
+    pub header: Header,
+    pub task: Task,
 }
 
-// 53 and 25.
-fn faulted(s: &[u8], own: Own, f: &[u8], h: Header, code: u8, out: &mut [u8]) -> Handled
-    requires { ⌜ Ready (now s) (now f) h own (now out) ⌝ }
-    ensures { λ r. ⌜ Done (Rules.faulted (settingsRead (now (s .entry))) (now (f .entry)) h code) r (now (out .entry)) (now (out .exit)) ⌝ }
-{
-    let start = header::inner_start(h);
-    if channel::silenced(code, &f[start..]) {
-        return answers::dropped(25);
-    }
-    let Way::Via { neighbour, length } = way::write_return(s, own, h.ingress, out) else {
-        return answers::dropped(25);
-    };
-    let end = reply::write_error(own, f, h, code, out, length);
-    answers::wrote(53, end, neighbour)
-}
-
-// 54 and 28.
-fn echoed(s: &[u8], own: Own, clock: &[u8], f: &[u8], h: Header, out: &mut [u8]) -> Handled
-    requires { ⌜ (18 ≤ length (bodyOf (innerOf (now f) h))) × (length (bodyOf (innerOf (now f) h)) ≤ 530) × (length (now clock) ≡ 6) × Ready (now s) (now f) h own (now out) ⌝ }
-    ensures { λ r. ⌜ Done (Rules.echoed (settingsRead (now (s .entry))) (now (clock .entry)) (now (f .entry)) h) r (now (out .entry)) (now (out .exit)) ⌝ }
-{
-    let start = header::inner_start(h) + 22;
-    let body = &f[start..];
-    if octets::octet(body, 4) != 2 {
-        return answers::dropped(28);
-    }
-    let Way::Via { neighbour, length } = way::write_return(s, own, h.ingress, out) else {
-        return answers::dropped(28);
-    };
-    let end = reply::write_echo(own, h, clock, body, out, length);
-    answers::wrote(54, end, neighbour)
-}
-
-fn channelled(s: &[u8], own: Own, clock: &[u8], f: &[u8], h: Header, out: &mut [u8]) -> Handled
-    requires { ⌜ (length (now clock) ≡ 6) × Ready (now s) (now f) h own (now out) ⌝ }
-    ensures { λ r. ⌜ Done (Rules.channelled (settingsRead (now (s .entry))) (now (clock .entry)) (now (f .entry)) h (channelRead (innerOf (now (f .entry)) h))) r (now (out .entry)) (now (out .exit)) ⌝ }
+fn channelled(f: &[u8], h: Header) -> Task
+    requires { ⌜ Ready (now f) h ⌝ }
+    ensures { λ r. ⌜ Comes (now (f .entry)) h (λ S clock. Rules.channelled S clock (now (f .entry)) h (channelRead (innerOf (now (f .entry)) h))) r ⌝ }
 {
     let start = header::inner_start(h);
     let read = channel::channel_read(&f[start..]);
     match read {
-        ChannelRead::Fault { code } => faulted(s, own, f, h, code, out),
-        ChannelRead::BadErr => answers::dropped(26),
-        ChannelRead::ErrorHeard => answers::dropped(55),
-        ChannelRead::BadEcho => answers::dropped(27),
-        ChannelRead::EchoHeard => answers::dropped(56),
-        ChannelRead::EchoRequest => echoed(s, own, clock, f, h, out),
+        ChannelRead::Fault { code } => Task::Error { code: code },
+        ChannelRead::BadErr => Task::Answered(answers::dropped(26)),
+        ChannelRead::ErrorHeard => Task::Answered(answers::dropped(55)),
+        ChannelRead::BadEcho => Task::Answered(answers::dropped(27)),
+        ChannelRead::EchoHeard => Task::Answered(answers::dropped(56)),
+        ChannelRead::EchoRequest => Task::Echo,
     }
 }
 
@@ -119,72 +79,191 @@ fn to_all_egress(inner: &[u8]) -> bool
 }
 
 // 22 to 24 and 51 to 56.
-fn decapsulated(s: &[u8], own: Own, clock: &[u8], f: &[u8], h: Header, out: &mut [u8]) -> Handled
-    requires { ⌜ (length (now clock) ≡ 6) × Ready (now s) (now f) h own (now out) ⌝ }
-    ensures { λ r. ⌜ Done (Rules.decapsulated (settingsRead (now (s .entry))) (now (clock .entry)) (now (f .entry)) h) r (now (out .entry)) (now (out .exit)) ⌝ }
+fn decapsulated(f: &[u8], h: Header) -> Task
+    requires { ⌜ Ready (now f) h ⌝ }
+    ensures { λ r. ⌜ Comes (now (f .entry)) h (λ S clock. Rules.decapsulated S clock (now (f .entry)) h) r ⌝ }
 {
     let start = header::inner_start(h);
     let inner = &f[start..];
     if inner.len() < 18 {
-        return answers::dropped(22);
+        return Task::Answered(answers::dropped(22));
     }
     if untagged(inner) {
-        return answers::dropped(23);
+        return Task::Answered(answers::dropped(23));
     }
     if !to_all_egress(inner) {
         if h.egress == 0xFFC0 {
-            return answers::dropped(24);
+            return Task::Answered(answers::dropped(24));
         }
-        return answers::delivered(51, start, inner.len());
+        return Task::Answered(answers::delivered(51, start, inner.len()));
     }
     if octets::be16(inner, 16) == 0x22F4 {
-        return answers::delivered(52, start, inner.len());
+        return Task::Answered(answers::delivered(52, start, inner.len()));
     }
-    channelled(s, own, clock, f, h, out)
+    channelled(f, h)
 }
 
 // 30 to 35 and 20, then by our role.
-fn routed(s: &[u8], own: Own, clock: &[u8], f: &[u8], h: Header, out: &mut [u8]) -> Handled
-    requires { ⌜ (length (now clock) ≡ 6) × Ready (now s) (now f) h own (now out) ⌝ }
-    ensures { λ r. ⌜ Done (Rules.routed (settingsRead (now (s .entry))) (now (clock .entry)) (now (f .entry)) h) r (now (out .entry)) (now (out .exit)) ⌝ }
+fn routed(own: Own, f: &[u8], h: Header) -> Task
+    requires { ⌜ Ready (now f) h ⌝ }
+    ensures { λ r. ⌜ ComesAt own (now (f .entry)) h (λ S clock. Rules.routed S clock (now (f .entry)) h) r ⌝ }
 {
     let start = h.place + 6;
     let inner = header::inner_start(h);
     let area = &f[start..inner];
     let read = options::read_area(area);
     if let AreaRead::Faulty { number, place } = read {
-        return answers::dropped_at(number, place);
+        return Task::Answered(answers::dropped_at(number, place));
     }
     let egress = header::we_are_egress(own.nickname, h);
     if options::area_stops(egress, area) {
-        return answers::dropped(20);
+        return Task::Answered(answers::dropped(20));
     }
     if egress {
-        return decapsulated(s, own, clock, f, h, out);
+        return decapsulated(f, h);
     }
-    transit(s, own, f, h, out)
+    Task::Forward
 }
 
 // 12 to 18, then the area.
-fn received(s: &[u8], clock: &[u8], f: &[u8], h: Header, out: &mut [u8]) -> Handled
-    requires { ⌜ (readFrame (now f) ≡ Trill h) × (length (now clock) ≡ 6) × (length (now f) ≤ 2048) × (2048 ≤ length (now out)) ⌝ }
-    ensures { λ r. ⌜ Done (Rules.handling (settingsRead (now (s .entry))) (now (clock .entry)) (now (f .entry))) r (now (out .entry)) (now (out .exit)) ⌝ }
+fn received(own: Own, f: &[u8], h: Header) -> Examined
+    requires { ⌜ (readFrame (now f) ≡ Trill h) × (length (now f) ≤ 2048) ⌝ }
+    ensures { λ r. ⌜ ComesAt own (now (f .entry)) (r .header) (λ S clock. Rules.handling S clock (now (f .entry))) (r .task) ⌝ }
 {
-    let own = settings::own_of(s);
     let refusal = header::header_refusal(own.mac, f, h);
     if refusal != 0 {
-        return answers::dropped(refusal);
+        return answered(answers::dropped(refusal));
     }
-    routed(s, own, clock, f, h, out)
+    Examined {
+        header: h,
+        task: routed(own, f, h),
+    }
 }
 
-pub fn handle(s: &[u8], clock: &[u8], f: &[u8], out: &mut [u8]) -> Handled
-    requires { ⌜ (length (now clock) ≡ 6) × (length (now f) ≤ 2048) × (2048 ≤ length (now out)) ⌝ }
-    ensures { λ r. ⌜ Done (Rules.handling (settingsRead (now (s .entry))) (now (clock .entry)) (now (f .entry))) r (now (out .entry)) (now (out .exit)) ⌝ }
+// 10 and 11, then the rest.
+fn read(own: Own, f: &[u8]) -> Examined
+    requires { ⌜ length (now f) ≤ 2048 ⌝ }
+    ensures { λ r. ⌜ ComesAt own (now (f .entry)) (r .header) (λ S clock. Rules.handling S clock (now (f .entry))) (r .task) ⌝ }
 {
     let read = octets::read_frame(f);
     match read {
-        FrameRead::Unreadable(n) => answers::dropped(n),
-        FrameRead::Trill(h) => received(s, clock, f, h, out),
+        FrameRead::Unreadable(n) => answered(answers::dropped(n)),
+        FrameRead::Trill(h) => received(own, f, h),
+    }
+}
+
+fn answered(a: Handled) -> Examined
+    ensures { λ r. ⌜ r .task ≡ Answered a ⌝ }
+{
+    Examined {
+        header: Header {
+            place: 0,
+            word: 0,
+            egress: 0,
+            ingress: 0,
+        },
+        task: Task::Answered(a),
+    }
+}
+
+// 1 for the clock, 2 and 3, then the rest; `room` is the length of the output buffer.
+pub fn examine(own: Own, clock: &[u8], f: &[u8], room: usize) -> Examined
+    ensures { λ r. ⌜ Examining own (now (clock .entry)) (now (f .entry)) room r ⌝ }
+{
+    if clock.len() != 6 {
+        return answered(answers::dropped(1));
+    }
+    if room < 2048 {
+        return answered(answers::dropped(2));
+    }
+    if 2048 < f.len() {
+        return answered(answers::dropped(3));
+    }
+    read(own, f)
+}
+
+// The destination that a next hop is asked for, 0 where none is.
+pub fn asked(e: Examined) -> u16
+    ensures { λ r. ⌜ r ≡ askedBy (e .header) (e .task) ⌝ }
+{
+    let h = e.header;
+    let task = e.task;
+    match task {
+        Task::Answered(_) => 0,
+        Task::Forward => h.egress,
+        Task::Error { code: _ } => h.ingress,
+        Task::Echo => h.ingress,
+    }
+}
+
+// 21 and 50.
+fn transit(t: Told, f: &[u8], h: Header, out: &mut [u8]) -> Handled
+    requires { ⌜ (areaRead (areaOf (now f) h) ≡ WellFormed) × Ready (now f) h × (2048 ≤ length (now out)) ⌝ }
+    ensures { λ r. ⌜ Done (Rules.transit (waysBy t) (now (f .entry)) h) r (now (out .entry)) (now (out .exit)) ⌝ }
+{
+    let Way::Via { neighbour, length } = way::write_link(t, out) else {
+        return answers::dropped(21);
+    };
+    let end = forward::forward_rest(f, h, strips(t.strip, h), out, length);
+    answers::wrote(50, end, neighbour)
+}
+
+// Whether anything can be stripped: only where the area has an option.
+fn strips(strip: bool, h: Header) -> bool
+    ensures { λ r. ⌜ r ≡ (leb 2 (opLength (h .word)) && strip) ⌝ }
+{
+    if header::op_length(h.word) < 2 {
+        return false;
+    }
+    strip
+}
+
+// 53 and 25.
+fn faulted(t: Told, f: &[u8], h: Header, code: u8, out: &mut [u8]) -> Handled
+    requires { ⌜ Ready (now f) h × (2048 ≤ length (now out)) ⌝ }
+    ensures { λ r. ⌜ Done (Rules.faulted (waysBy t) (now (f .entry)) h code) r (now (out .entry)) (now (out .exit)) ⌝ }
+{
+    let start = header::inner_start(h);
+    if channel::silenced(code, &f[start..]) {
+        return answers::dropped(25);
+    }
+    let Way::Via { neighbour, length } = way::write_return(t, h.ingress, out) else {
+        return answers::dropped(25);
+    };
+    let own = t.own;
+    let end = reply::write_error(own, f, h, code, out, length);
+    answers::wrote(53, end, neighbour)
+}
+
+// 54 and 28.
+fn echoed(t: Told, clock: &[u8], f: &[u8], h: Header, out: &mut [u8]) -> Handled
+    requires { ⌜ (18 ≤ length (bodyOf (innerOf (now f) h))) × (length (bodyOf (innerOf (now f) h)) ≤ 530) × (length (now clock) ≡ 6) × Ready (now f) h × (2048 ≤ length (now out)) ⌝ }
+    ensures { λ r. ⌜ Done (Rules.echoed (waysBy t) (now (clock .entry)) (now (f .entry)) h) r (now (out .entry)) (now (out .exit)) ⌝ }
+{
+    let start = header::inner_start(h) + 22;
+    let body = &f[start..];
+    if octets::octet(body, 4) != 2 {
+        return answers::dropped(28);
+    }
+    let Way::Via { neighbour, length } = way::write_return(t, h.ingress, out) else {
+        return answers::dropped(28);
+    };
+    let own = t.own;
+    let end = reply::write_echo(own, h, clock, body, out, length);
+    answers::wrote(54, end, neighbour)
+}
+
+// What is done with a frame, once the next hop is told.
+pub fn carry_out(t: Told, e: Examined, clock: &[u8], f: &[u8], out: &mut [u8]) -> Handled
+    requires { ⌜ Held (now clock) (now f) (length (now out)) (e .header) (e .task) ⌝ }
+    ensures { λ r. ⌜ Done (doneBy (waysBy t) (now (clock .entry)) (now (f .entry)) (e .header) (e .task)) r (now (out .entry)) (now (out .exit)) ⌝ }
+{
+    let h = e.header;
+    let task = e.task;
+    match task {
+        Task::Answered(a) => a,
+        Task::Forward => transit(t, f, h, out),
+        Task::Error { code } => faulted(t, f, h, code, out),
+        Task::Echo => echoed(t, clock, f, h, out),
     }
 }

@@ -9,7 +9,7 @@ ghost use Rattle.rules.specs.Settings as S;
 ghost use Rattle.rules.specs.Campus.{known};
 ghost use Rattle.handler.specs.Keys.{keyOf, mixOf, slotBy, markBy, coversBy, markedBy, keyMet, Kept, hopTaken, withKey, flagTaken, Taking, Verdict};
 
-fn opens(tag: u8, v: &[u8]) -> bool
+pub fn opens(tag: u8, v: &[u8]) -> bool
     ensures { λ r. ⌜ r ≡ S.opens (field tag (now (v .entry))) ⌝ }
 {
     if tag != 1 {
@@ -22,7 +22,7 @@ fn opens(tag: u8, v: &[u8]) -> bool
 }
 
 // Destination above serial.
-fn key_of(v: &[u8]) -> u64
+pub fn key_of(v: &[u8]) -> u64
     ensures { λ r. ⌜ r ≡ keyOf (S.hopOf (now (v .entry))) ⌝ }
 {
     (octets::be16(v, 0) as u64) << 32 | octets::be32(v, 10) as u64
@@ -117,7 +117,7 @@ fn admit(keys: &mut [u64], seen: &mut [u8], n: usize, v: &[u8]) -> usize
     n + 1
 }
 
-fn flag_good(tag: u8, v: &[u8]) -> bool
+pub fn flag_good(tag: u8, v: &[u8]) -> bool
     ensures { λ r. ⌜ r ≡ flagTaken tag (now (v .entry)) ⌝ }
 {
     if tag != 3 {

@@ -6,15 +6,18 @@ mod handling;
 mod header;
 mod judged;
 mod options;
+mod preparing;
 mod reply;
 mod settings;
+mod store;
 mod treatment;
 mod way;
 
 ghost use mathlib.Core.Path.{_≡_};
 ghost use lib.ListN.{length};
-ghost use Rattle.rules.specs.Settings.{settingsRead};
+ghost use Rattle.rules.specs.Settings.{settingsRead, waysOf};
 ghost use Rattle.rules.specs.Handling.{handled, handledWith, outputAfter, partOf};
+ghost use Rattle.handler.specs.Store.{handledIn, Prepared};
 ghost use Rattle.handler.specs.Shapes.{answerOf, routedOf, toldBy};
 
 // What the C driver is answered.
@@ -34,19 +37,27 @@ pub struct Routed {
 
 // The handling by what the settings fields say, unjudged: 1 for the clock, 2 and 3, then the answers of one handling.
 pub fn handle_fields(frame: &[u8], fields: &[u8], clock: &[u8], out: &mut [u8]) -> Routed
-    ensures { λ r. ⌜ (r ≡ routedOf (handledWith (settingsRead (now (fields .entry))) (now (clock .entry)) (length (now (out .entry))) (now (frame .entry))))
-        × (now (out .exit) ≡ outputAfter (now (out .entry)) (handledWith (settingsRead (now (fields .entry))) (now (clock .entry)) (length (now (out .entry))) (now (frame .entry)))) ⌝ }
+    ensures { λ r. ⌜ (r ≡ routedOf (handledWith (waysOf (settingsRead (now (fields .entry)))) (now (clock .entry)) (length (now (out .entry))) (now (frame .entry))))
+        × (now (out .exit) ≡ outputAfter (now (out .entry)) (handledWith (waysOf (settingsRead (now (fields .entry)))) (now (clock .entry)) (length (now (out .entry))) (now (frame .entry)))) ⌝ }
 {
-    if clock.len() != 6 {
+    let own = settings::own_of(fields);
+    let e = handling::examine(own, clock, frame, out.len());
+    let t = settings::told(fields, own, handling::asked(e));
+    told(handling::carry_out(t, e, clock, frame, out))
+}
+
+// The handling by a prepared store.
+pub fn handle_prepared(frame: &[u8], store: &[u64], clock: &[u8], out: &mut [u8]) -> Routed
+    ensures { λ r. ⌜ (r ≡ routedOf (handledIn (now (store .entry)) (now (clock .entry)) (length (now (out .entry))) (now (frame .entry))))
+        × (now (out .exit) ≡ outputAfter (now (out .entry)) (handledIn (now (store .entry)) (now (clock .entry)) (length (now (out .entry))) (now (frame .entry)))) ⌝ }
+{
+    if !store::good(store) {
         return told(answers::dropped(1));
     }
-    if out.len() < 2048 {
-        return told(answers::dropped(2));
-    }
-    if 2048 < frame.len() {
-        return told(answers::dropped(3));
-    }
-    told(handling::handle(fields, clock, frame, out))
+    let own = store::own_of(store);
+    let e = handling::examine(own, clock, frame, out.len());
+    let t = store::told(store, own, handling::asked(e));
+    told(handling::carry_out(t, e, clock, frame, out))
 }
 
 fn told(a: answers::Handled) -> Routed
@@ -90,4 +101,33 @@ pub extern "C" fn trill_handle(
         return told(answers::dropped(1)).answer;
     }
     handle_fields(frame, settings, clock, out).answer
+}
+
+// Settings octets into a store of 164 words or more, once for all frames: 0, 1 for bad settings, 2 for too few words.
+#[no_mangle]
+pub extern "C" fn trill_prepare(settings: &[u8], store: &mut [u64]) -> u32
+    ensures { λ r. ⌜ Prepared (now (settings .entry)) (now (store .entry)) (now (store .exit)) r ⌝ }
+{
+    let mut w = [0u64; 164];
+    if !preparing::prepare(settings, &mut w) {
+        return 1;
+    }
+    if store.len() < 164 {
+        return 2;
+    }
+    preparing::copy(store, &w);
+    0
+}
+
+#[no_mangle]
+pub extern "C" fn trill_handle_prepared(
+    frame: &[u8],
+    store: &[u64],
+    clock: &[u8],
+    out: &mut [u8],
+) -> Answer
+    ensures { λ r. ⌜ (r ≡ answerOf (handledIn (now (store .entry)) (now (clock .entry)) (length (now (out .entry))) (now (frame .entry))))
+        × (now (out .exit) ≡ outputAfter (now (out .entry)) (handledIn (now (store .entry)) (now (clock .entry)) (length (now (out .entry))) (now (frame .entry)))) ⌝ }
+{
+    handle_prepared(frame, store, clock, out).answer
 }

@@ -1,5 +1,5 @@
 // The two replies behind their link header.
-use crate::settings::Own;
+use crate::way::Own;
 use rules::Header;
 ghost use mathlib.Core.Path.{_≡_};
 ghost use Prim.Native.Nat.{_+_, _%_, _≤_};

@@ -1,4 +1,6 @@
 // The settings of one switch, read from the lent octets (document 01, "Settings").
+use crate::way::Own;
+use crate::way::Told;
 use rules::FieldRead;
 use rules::Ruling;
 ghost use mathlib.Core.Path.{_≡_};
@@ -10,16 +12,10 @@ ghost use Rattle.rules.specs.Fields.{field};
 ghost use Rattle.rules.specs.declared.Ruling.{Ruling};
 ghost use Rattle.rules.specs.declared.Ruling.the-variants.{Absent};
 ghost use Rattle.rules.specs.Settings as S;
-ghost use Rattle.handler.specs.Shapes.{ownOf, ruledBy, flaggedBy, FoldedFrom};
-
-// Own nickname and MAC.
-pub struct Own {
-    pub nickname: u16,
-    pub mac: u64,
-}
+ghost use Rattle.handler.specs.Shapes.{ownOf, waysBy, onlyFor, ruledBy, flaggedBy, FoldedFrom};
 
 pub fn own_of(s: &[u8]) -> Own
-    ensures { λ r. ⌜ r ≡ ownOf (S.settingsRead (now (s .entry))) ⌝ }
+    ensures { λ r. ⌜ r ≡ ownOf (S.waysOf (S.settingsRead (now (s .entry)))) ⌝ }
 {
     let FieldRead::Taken {
         tag: _,
@@ -164,4 +160,16 @@ pub fn strip_flag(s: &[u8]) -> bool
         return false;
     };
     flag_from(s, next)
+}
+
+// What a handling is told that asks for the next hop of `d`.
+pub fn told(s: &[u8], own: Own, d: u16) -> Told
+    requires { ⌜ own ≡ ownOf (S.waysOf (S.settingsRead (now s))) ⌝ }
+    ensures { λ r. ⌜ waysBy r ≡ onlyFor d (S.waysOf (S.settingsRead (now (s .entry)))) ⌝ }
+{
+    Told {
+        own: own,
+        strip: strip_flag(s),
+        hop: next_hop(s, d),
+    }
 }

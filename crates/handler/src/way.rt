@@ -1,14 +1,23 @@
-// The way out to a destination: from the record that rules for it to the link header written.
-use crate::settings;
-use crate::settings::Own;
+// What a handling is told of settings, and the way out: from the record that rules to the link header written.
 use rules::Ruling;
 ghost use mathlib.Core.Path.{_≡_};
 ghost use Prim.Native.Nat.{_≤_};
 ghost use lib.ListN.{length};
-ghost use Rattle.rules.specs.Octets.{put};
-ghost use Rattle.rules.specs.Settings.{settingsRead, nextHop};
 ghost use Rattle.rules.specs.Channel.{returnPath};
-ghost use Rattle.handler.specs.Shapes.{ownOf, linkOctets, wayBy, linkBy};
+ghost use Rattle.handler.specs.Shapes.{linkOctets, waysBy, Linked};
+
+// Own nickname and MAC.
+pub struct Own {
+    pub nickname: u16,
+    pub mac: u64,
+}
+
+// With the strip flag and the next hop for the one destination that is asked for.
+pub struct Told {
+    pub own: Own,
+    pub strip: bool,
+    pub hop: Ruling,
+}
 
 // The neighbour used, and how long its link header is.
 pub enum Way {
@@ -39,16 +48,16 @@ fn link_octets(to: u64, own: u64) -> [u8; 14]
     ]
 }
 
-// Writes the link header towards the next hop for `d`, if there is one.
-pub fn write_link(s: &[u8], own: Own, d: u16, out: &mut [u8]) -> Way
-    requires { ⌜ (own ≡ ownOf (settingsRead (now s))) × (14 ≤ length (now out)) ⌝ }
-    ensures { λ r. ⌜ (r ≡ wayBy (settingsRead (now (s .entry))) (nextHop (settingsRead (now (s .entry))) d))
-        × (now (out .exit) ≡ put (now (out .entry)) 0 (linkBy (settingsRead (now (s .entry))) (nextHop (settingsRead (now (s .entry))) d))) ⌝ }
+// Writes the link header towards the next hop, if there is one.
+pub fn write_link(t: Told, out: &mut [u8]) -> Way
+    requires { ⌜ 14 ≤ length (now out) ⌝ }
+    ensures { λ r. ⌜ Linked (waysBy t) (t .hop) (now (out .entry)) r (now (out .exit)) ⌝ }
 {
-    let Ruling::Found(r) = settings::next_hop(s, d) else {
+    let hop = t.hop;
+    let Ruling::Found(r) = hop else {
         return Way::NoWay;
     };
-    let head = link_octets(r.mac, own.mac);
+    let head = link_octets(r.mac, t.own.mac);
     octets::copy(out, 0, &head);
     Way::Via {
         neighbour: r.neighbour,
@@ -57,13 +66,12 @@ pub fn write_link(s: &[u8], own: Own, d: u16, out: &mut [u8]) -> Way
 }
 
 // The same back to an ingress: "No return path: the ingress is our own nickname or has no next hop."
-pub fn write_return(s: &[u8], own: Own, ingress: u16, out: &mut [u8]) -> Way
-    requires { ⌜ (own ≡ ownOf (settingsRead (now s))) × (14 ≤ length (now out)) ⌝ }
-    ensures { λ r. ⌜ (r ≡ wayBy (settingsRead (now (s .entry))) (returnPath (settingsRead (now (s .entry))) ingress))
-        × (now (out .exit) ≡ put (now (out .entry)) 0 (linkBy (settingsRead (now (s .entry))) (returnPath (settingsRead (now (s .entry))) ingress))) ⌝ }
+pub fn write_return(t: Told, ingress: u16, out: &mut [u8]) -> Way
+    requires { ⌜ 14 ≤ length (now out) ⌝ }
+    ensures { λ r. ⌜ Linked (waysBy t) (returnPath (waysBy t) ingress) (now (out .entry)) r (now (out .exit)) ⌝ }
 {
-    if ingress == own.nickname {
+    if ingress == t.own.nickname {
         return Way::NoWay;
     }
-    write_link(s, own, ingress, out)
+    write_link(t, out)
 }

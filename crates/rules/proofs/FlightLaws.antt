@@ -9,7 +9,7 @@ use native.Mathlib.Omega.{arith}
 use borrow.Author.Tests.{ne-eqb}
 use lib.Dec.{eqb}
 use lib.ListN.{length}
-use Rattle.rules.specs.Settings.{Settings, nextHop}
+use Rattle.rules.specs.Settings.{Settings, nextHop, Ways, waysOf}
 use Rattle.rules.specs.Link.{link}
 use Rattle.rules.specs.Header.{hopCount, anyRBridge, readFrame, innerOf, weAreEgress}
 use Rattle.rules.specs.Answer.{Handled, wrote}
@@ -66,8 +66,8 @@ towards-found switches egress S r e = rw (towards, e)
 
 -- a frame that is a reply of ours, wherever it is on its way
 pub data ReplyInner (inner : List ℕ) : Type 0 where
-  error : (S : Settings) (code : ℕ) (body : List ℕ) → code < 16 → inner ≡ replyInner S protocolError code body → ReplyInner inner
-  echo : (S : Settings) (body : List ℕ) → 18 ≤ length body → length body ≤ 530 → spid body ≡ spidReply → inner ≡ replyInner S protocolEcho 0 body → ReplyInner inner
+  error : (S : Ways) (code : ℕ) (body : List ℕ) → code < 16 → inner ≡ replyInner S protocolError code body → ReplyInner inner
+  echo : (S : Ways) (body : List ℕ) → 18 ≤ length body → length body ≤ 530 → spid body ≡ spidReply → inner ≡ replyInner S protocolEcho 0 body → ReplyInner inner
 
 pub record IsReply (f : List ℕ) : Type 0 where
   pub header : Header
@@ -102,27 +102,27 @@ pub record Forwarded (S : Settings) (f : List ℕ) (a : Handled) : Type 0 where
   pub goes : (switches : List Settings) → towards switches (egressReceived f) S ≡ switchNamed switches (a .via)
   pub reply-kept : IsReply f → IsReply (a .octets)
 
-module _ (S : Settings) (f : List ℕ) (h : Header) (r : NextHop) (t : Cleared S f h false) (found : nextHop S (h .egress) ≡ Found r) where
-  passed : Passed S f h
-  passed = header-passed S f h (t .unrefused)
+module _ (S : Settings) (f : List ℕ) (h : Header) (r : NextHop) (t : Cleared (waysOf S) f h false) (found : nextHop S (h .egress) ≡ Found r) where
+  passed : Passed (waysOf S) f h
+  passed = header-passed (waysOf S) f h (t .unrefused)
 
   abbrev sent : Header
-  sent = sentHeader S f h (t .read) passed (t .well) (link S r) (link-written S r)
+  sent = sentHeader (waysOf S) f h (t .read) passed (t .well) (link (waysOf S) r) (link-written (waysOf S) r)
 
-  sent-read : readFrame (forwarded S r f h) ≡ Trill sent
+  sent-read : readFrame (forwarded (waysOf S) r f h) ≡ Trill sent
   unfolding forwarded
-  sent-read = forwarded-read S f h (t .read) passed (t .well) (link S r) (link-written S r)
+  sent-read = forwarded-read (waysOf S) f h (t .read) passed (t .well) (link (waysOf S) r) (link-written (waysOf S) r)
 
-  sent-inner : innerOf (forwarded S r f h) sent ≡ innerOf f h
+  sent-inner : innerOf (forwarded (waysOf S) r f h) sent ≡ innerOf f h
   unfolding forwarded
-  sent-inner = forwarded-inner S f h (t .read) passed (t .well) (link S r) (link-written S r)
+  sent-inner = forwarded-inner (waysOf S) f h (t .read) passed (t .well) (link (waysOf S) r) (link-written (waysOf S) r)
 
-  sent-reply : IsReply f → IsReply (forwarded S r f h)
+  sent-reply : IsReply f → IsReply (forwarded (waysOf S) r f h)
   sent-reply y =
       let same : y .header ≡ h = cc (y .read, t .read) in
       record { header = sent; read = sent-read; inner = rw (sent-inner, ← same) (y .inner) }
 
-  forwarded-on : Forwarded S f (wrote 50 (forwarded S r f h) (r .neighbour))
+  forwarded-on : Forwarded S f (wrote 50 (forwarded (waysOf S) r f h) (r .neighbour))
   unfolding kindAfter writesReply
   forwarded-on =
       record {
@@ -130,8 +130,8 @@ module _ (S : Settings) (f : List ℕ) (h : Header) (r : NextHop) (t : Cleared S
         no-reply = refl;
         transit = ours-role S f h (t .read) ∙ t .role;
         one-less =
-            hop-read f h (t .read) ∙ sym (sent-hop S f h (t .read) passed (t .well)) ∙ ap suc (sym (hop-read (forwarded S r f h) sent sent-read));
-        same-egress = egress-read (forwarded S r f h) sent sent-read ∙ sym (egress-read f h (t .read));
+            hop-read f h (t .read) ∙ sym (sent-hop (waysOf S) f h (t .read) passed (t .well)) ∙ ap suc (sym (hop-read (forwarded (waysOf S) r f h) sent sent-read));
+        same-egress = egress-read (forwarded (waysOf S) r f h) sent sent-read ∙ sym (egress-read f h (t .read));
         goes = λ switches. ap (λ (e : ℕ). towards switches e S) (egress-read f h (t .read)) ∙ towards-found switches (h .egress) S r found;
         reply-kept = sent-reply;
       }
@@ -145,20 +145,20 @@ pub record Replied (S : Settings) (f : List ℕ) (a : Handled) : Type 0 where
   pub full : hopReceived (a .octets) ≡ 63
   pub is-reply : IsReply (a .octets)
 
-module _ (S : Settings) (own : S .nickname < 65536) (f : List ℕ) (h : Header) (r : NextHop) (t : Cleared S f h true) where
+module _ (S : Settings) (own : S .nickname < 65536) (f : List ℕ) (h : Header) (r : NextHop) (t : Cleared (waysOf S) f h true) where
   hops-had : 1 ≤ hopReceived f
-  hops-had = omega (arith, hop-read f h (t .read), header-passed S f h (t .unrefused) .hops-left)
+  hops-had = omega (arith, hop-read f h (t .read), header-passed (waysOf S) f h (t .unrefused) .hops-left)
 
   -- either reply, as it is written
-  module _ (number code : ℕ) (body : List ℕ) (is : ReplyInner (replyInner S number code body)) where
+  module _ (number code : ℕ) (body : List ℕ) (is : ReplyInner (replyInner (waysOf S) number code body)) where
     abbrev written : List ℕ
-    written = link S r ++ replyRest S (h .ingress) number code body
+    written = link (waysOf S) r ++ replyRest (waysOf S) (h .ingress) number code body
 
     abbrev header-written : Header
-    header-written = replyHeader S own (h .ingress) (frame-read f h (t .read) .ingress-fits) number code body (link S r) (link-written S r)
+    header-written = replyHeader (waysOf S) own (h .ingress) (frame-read f h (t .read) .ingress-fits) number code body (link (waysOf S) r) (link-written (waysOf S) r)
 
     read-written : readFrame written ≡ Trill header-written
-    read-written = reply-read S own (h .ingress) (frame-read f h (t .read) .ingress-fits) number code body (link S r) (link-written S r)
+    read-written = reply-read (waysOf S) own (h .ingress) (frame-read f h (t .read) .ingress-fits) number code body (link (waysOf S) r) (link-written (waysOf S) r)
 
     written-full : hopReceived written ≡ 63
     written-full = hop-read written header-written read-written
@@ -168,13 +168,13 @@ module _ (S : Settings) (own : S .nickname < 65536) (f : List ℕ) (h : Header) 
         record {
           header = header-written;
           read = read-written;
-          inner = rw (reply-inner S own (h .ingress) (frame-read f h (t .read) .ingress-fits) number code body (link S r) (link-written S r)) is;
+          inner = rw (reply-inner (waysOf S) own (h .ingress) (frame-read f h (t .read) .ingress-fits) number code body (link (waysOf S) r) (link-written (waysOf S) r)) is;
         }
 
-  error-replied : (code : ℕ) → channelRead (innerOf f h) ≡ Fault code → Replied S f (wrote 53 (errorReply S r f h code) (r .neighbour))
+  error-replied : (code : ℕ) → channelRead (innerOf f h) ≡ Fault code → Replied S f (wrote 53 (errorReply (waysOf S) r f h code) (r .neighbour))
   unfolding errorReply kindAfter
   error-replied code c =
-      let is = error S code (errorBody f h) (fault-small (innerOf f h) code c) refl in
+      let is = error (waysOf S) code (errorBody f h) (fault-small (innerOf f h) code c) refl in
       record {
         turns = λ kind. refl;
         egress = ours-role S f h (t .read) ∙ t .role;
@@ -184,13 +184,13 @@ module _ (S : Settings) (own : S .nickname < 65536) (f : List ℕ) (h : Header) 
         is-reply = written-reply protocolError code (errorBody f h) is;
       }
 
-  echo-replied : (clock : List ℕ) → length clock ≡ 6 → channelRead (innerOf f h) ≡ EchoRequest → Replied S f (wrote 54 (echoReply S r h clock (bodyOf (innerOf f h))) (r .neighbour))
+  echo-replied : (clock : List ℕ) → length clock ≡ 6 → channelRead (innerOf f h) ≡ EchoRequest → Replied S f (wrote 54 (echoReply (waysOf S) r h clock (bodyOf (innerOf f h))) (r .neighbour))
   unfolding echoReply kindAfter
   echo-replied clock six c =
       let body : List ℕ = bodyOf (innerOf f h) in
       let ranged = echo-ranged body (channel-echo (innerOf f h) c) in
       let n = echo-body-length body clock (ranged .0) six in
-      let is = echo S (echoBody body clock) (omega (arith, n, ranged)) (omega (arith, n, ranged)) (echo-body-spid body clock) refl in
+      let is = echo (waysOf S) (echoBody body clock) (omega (arith, n, ranged)) (omega (arith, n, ranged)) (echo-body-spid body clock) refl in
       record {
         turns = λ kind. refl;
         egress = ours-role S f h (t .read) ∙ t .role;
@@ -218,10 +218,10 @@ pub data Does (S : Settings) (f : List ℕ) (a : Handled) : Type 0 where
   forwards : Forwarded S f a → Does S f a
   replies : Replied S f a → Does S f a
 
-pub does : (S : Settings) (clock f : List ℕ) → S .nickname < 65536 → length clock ≡ 6 → Does S f (handling S clock f)
-does S clock f own six = go (handling S clock f) (how S clock f)
+pub does : (S : Settings) (clock f : List ℕ) → S .nickname < 65536 → length clock ≡ 6 → Does S f (handling (waysOf S) clock f)
+does S clock f own six = go (handling (waysOf S) clock f) (how (waysOf S) clock f)
   where
-    go : (a : Handled) → How S clock f a → Does S f a
+    go : (a : Handled) → How (waysOf S) clock f a → Does S f a
     go a (How.ends n) = ends (final-ended a n)
     go a (How.forwards h r t found e) = rw e (forwards (forwarded-on S f h r t found))
     go a (How.faults h r code t found c e) = rw e (replies (error-replied S own f h r t code c))

@@ -12,7 +12,7 @@ use lib.Dec.{ltb, leb, eqb}
 use lib.ListN.{length, drop, length-append}
 use lib.Seq.{take-at, drop-at, drop-drop, drop-append-add}
 use Rattle.rules.specs.Octets.{be16, be48, octets16}
-use Rattle.rules.specs.Settings.{Settings}
+use Rattle.rules.specs.Settings.{Ways}
 use Rattle.rules.specs.Link.{linkLength, linkEthertype, link, ethertypeTag, ethertypeTrill}
 use Rattle.rules.specs.Header.{version, reserved, multi, opLength, hopCount, headerWord, readFrame, innerStart, areaOf, innerOf, headerRefusal}
 use Rattle.rules.specs.Options.{WellFormed, areaRead, areaSent}
@@ -56,11 +56,11 @@ pub record IsLink (l : List ℕ) : Type 0 where
   pub long : length l ≡ linkLength l
   pub trill : linkEthertype l ≡ ethertypeTrill
 
-pub link-written : (S : Settings) (r : NextHop) → IsLink (link S r)
+pub link-written : (S : Ways) (r : NextHop) → IsLink (link S r)
 unfolding link linkLength
 link-written S r = record { long = refl; trill = refl }
 
-pub length-link : (S : Settings) (r : NextHop) → length (link S r) ≡ 14
+pub length-link : (S : Ways) (r : NextHop) → length (link S r) ≡ 14
 unfolding link
 length-link S r = refl
 
@@ -164,7 +164,7 @@ module _ (l : List ℕ) (h : Header) (area inner : List ℕ) (place : h .place �
       (drop-at area inner (4 * opLength (h .word)) whole)
 
 -- a received frame of which none of 12 to 18 is given
-pub record Passed (S : Settings) (f : List ℕ) (h : Header) : Type 0 where
+pub record Passed (S : Ways) (f : List ℕ) (h : Header) : Type 0 where
   pub to-us : be48 f 0 ≡ S .mac
   pub version-0 : version (h .word) ≡ 0
   pub unicast : multi (h .word) ≡ 1 → ⊥
@@ -177,7 +177,7 @@ pub none-given : (b : Bool) (n x : ℕ) → 0 < n → cond b n x ≡ 0 → (b �
 none-given false n x h e = (refl, e)
 none-given true n x h e = absurd (omega arith)
 
-pub header-passed : (S : Settings) (f : List ℕ) (h : Header) → headerRefusal (S .mac) f h ≡ 0 → Passed S f h
+pub header-passed : (S : Ways) (f : List ℕ) (h : Header) → headerRefusal (S .mac) f h ≡ 0 → Passed S f h
 unfolding headerRefusal
 header-passed S f h e =
     let p1 = none-given (not (eqb (be48 f 0) (S .mac))) 12 _ (omega arith) e in
@@ -205,7 +205,7 @@ header-passed S f h e =
     }
 
 -- the area sent is no longer than the one received, and of whole words
-module _ (S : Settings) (area : List ℕ) (well : areaRead area ≡ WellFormed) where
+module _ (S : Ways) (area : List ℕ) (well : areaRead area ≡ WellFormed) where
   pub sent-shorter : length (areaSent S area) ≤ length area
   unfolding areaSent
   sent-shorter = by-test (S .strip) (λ e. rw e (stripped-shorter area well)) (λ e. rw e (omega arith))
@@ -215,7 +215,7 @@ module _ (S : Settings) (area : List ℕ) (well : areaRead area ≡ WellFormed) 
   sent-words m = by-test (S .strip) (λ e. rw e (stripped-words area well m)) (λ e. rw e m)
 
 -- a forwarded frame, behind any link header
-module _ (S : Settings) (f : List ℕ) (h : Header) (read : readFrame f ≡ Trill h) (passed : Passed S f h) (well : areaRead (areaOf f h) ≡ WellFormed) where
+module _ (S : Ways) (f : List ℕ) (h : Header) (read : readFrame f ≡ Trill h) (passed : Passed S f h) (well : areaRead (areaOf f h) ≡ WellFormed) where
   pub area-length : length (areaOf f h) ≡ 4 * opLength (h .word)
   area-length = length-part f (h .place + 6) (4 * opLength (h .word)) (passed .area-whole)
 

@@ -4,15 +4,15 @@ use mathlib.Core.Path.{_≡_, refl, ap}
 use mathlib.Core.List.{List}
 use mathlib.Core.Bool.{Bool, true, false, not, _&&_, _||_, cond}
 use mathlib.Core.Option.{Option, none, some}
-use Prim.Native.Nat.{ℕ, _-_, _<_, _≤_}
+use Prim.Native.Nat.{ℕ, _+_, _-_, _*_, _<_, _≤_}
 use native.Mathlib.Omega.{arith}
 use borrow.Author.Tests.{ltb-true, ltb-false, eqb-true, eqb-false}
 use lib.Dec.{ltb, eqb}
 use lib.ListN.{length, length-drop}
 use Rattle.rules.specs.Octets.{be16}
-use Rattle.rules.specs.Settings.{Settings, nextHop, settingsOf}
+use Rattle.rules.specs.Settings.{Settings, Ways, waysOf, settingsOf}
 use Rattle.rules.specs.Link.{ethertypeTag}
-use Rattle.rules.specs.Header.{anyRBridge, readFrame, innerStart, areaOf, innerOf, headerRefusal, weAreEgress}
+use Rattle.rules.specs.Header.{opLength, anyRBridge, readFrame, innerStart, areaOf, innerOf, headerRefusal, weAreEgress}
 use Rattle.rules.specs.Options.{AreaRead, WellFormed, Faulty, areaRead, areaStops}
 use Rattle.rules.specs.Answer.{Handled, dropped, wrote}
 use Rattle.rules.specs.Channel.{ethertypeChannel, ethertypeIsIs, protocolError, protocolEcho, innerEthertype, chv, protocol, na, err, bodyOf, replyMode, spid, spidRequest, spidReply, echoRead, channelRead, silenced, returnPath, errorReply, echoReply}
@@ -26,7 +26,8 @@ use Rattle.rules.specs.declared.FrameRead.the-variants.{Trill, Unreadabl
 use Rattle.rules.specs.declared.ChannelRead.{ChannelRead}
 use Rattle.rules.specs.declared.ChannelRead.the-variants.{Fault, BadErr, ErrorHeard, BadEcho, EchoHeard, EchoRequest}
 use Rattle.rules.proofs.TestLaws.{by-test}
-use Rattle.rules.proofs.FrameLaws.{Passed, frame-read, header-passed, sent-shorter, area-length}
+use Rattle.rules.proofs.OctetLaws.{length-part}
+use Rattle.rules.proofs.FrameLaws.{frame-read, header-passed, sent-shorter}
 use Rattle.rules.proofs.OptionLaws.{area-number}
 use Rattle.rules.proofs.HandlingLaws.{transit-none, transit-over, faulted-silent, faulted-none, faulted-over, echoed-mode, echoed-none, echoed-over, inner-short, inner-up, inner-channel, inner-any, inner-delivered, inner-untagged, routed-faulty, routed-stopped, routed-egress, routed-transit, handling-unread, unread-small, handling-routed, handling-refused, header-refused-small, length-forwarded, length-error, length-echo, echo-ranged, channel-echo, clock-bad, room-short, frame-long, frame-handled, settings-bad, settings-good}
 
@@ -39,15 +40,15 @@ pub record Final (a : Handled) : Type 0 where
   pub not-54 : a .number ≡ 54 → ⊥
 
 -- a frame of which none of 10 to 19 is given, and whether we are its egress
-pub record Cleared (S : Settings) (f : List ℕ) (h : Header) (egress : Bool) : Type 0 where
+pub record Cleared (S : Ways) (f : List ℕ) (h : Header) (egress : Bool) : Type 0 where
   pub read : readFrame f ≡ Trill h
   pub unrefused : headerRefusal (S .mac) f h ≡ 0
   pub well : areaRead (areaOf f h) ≡ WellFormed
   pub role : weAreEgress (S .nickname) h ≡ egress
 
-pub data How (S : Settings) (clock f : List ℕ) (a : Handled) : Type 0 where
+pub data How (S : Ways) (clock f : List ℕ) (a : Handled) : Type 0 where
   ends : Final a → How S clock f a
-  forwards : (h : Header) (r : NextHop) → Cleared S f h false → nextHop S (h .egress) ≡ Found r → a ≡ wrote 50 (forwarded S r f h) (r .neighbour) → How S clock f a
+  forwards : (h : Header) (r : NextHop) → Cleared S f h false → S .hop (h .egress) ≡ Found r → a ≡ wrote 50 (forwarded S r f h) (r .neighbour) → How S clock f a
   faults : (h : Header) (r : NextHop) (code : ℕ) → Cleared S f h true → returnPath S (h .ingress) ≡ Found r → channelRead (innerOf f h) ≡ Fault code
       → a ≡ wrote 53 (errorReply S r f h code) (r .neighbour) → How S clock f a
   echoes : (h : Header) (r : NextHop) → Cleared S f h true → returnPath S (h .ingress) ≡ Found r → channelRead (innerOf f h) ≡ EchoRequest
@@ -84,11 +85,11 @@ pub fault-small : (inner : List ℕ) (code : ℕ) → channelRead inner ≡ Faul
 unfolding codeOf
 fault-small inner code e = rw (ap codeOf e) at (code-small inner)
 
-module _ (S : Settings) (clock f : List ℕ) (h : Header) where
+module _ (S : Ways) (clock f : List ℕ) (h : Header) where
   how-transit : Cleared S f h false → How S clock f (transit S f h)
-  how-transit t = go (nextHop S (h .egress)) refl
+  how-transit t = go (S .hop (h .egress)) refl
     where
-      go : (w : Ruling) → nextHop S (h .egress) ≡ w → How S clock f (transit S f h)
+      go : (w : Ruling) → S .hop (h .egress) ≡ w → How S clock f (transit S f h)
       go Absent e = rw (transit-none S f h e) (ends (omega arith))
       go (Found r) e = forwards h r t e (transit-over S f h r e)
 
@@ -159,7 +160,7 @@ module _ (S : Settings) (clock f : List ℕ) (h : Header) where
           (λ c. rw (routed-egress S clock f h a b c) (how-decapsulated (cleared a true c)))
           (λ c. rw (routed-transit S clock f h a b c) (how-transit (cleared a false c))))
 
-pub how : (S : Settings) (clock f : List ℕ) → How S clock f (handling S clock f)
+pub how : (S : Ways) (clock f : List ℕ) → How S clock f (handling S clock f)
 how S clock f = go (readFrame f) refl
   where
     go : (w : FrameRead) → readFrame f ≡ w → How S clock f (handling S clock f)
@@ -175,30 +176,30 @@ pub record Bounded (a : Handled) : Type 0 where
   pub fits : length (a .octets) ≤ frameMost
 
 -- what is forwarded is no longer than what was received
-pub forwarded-fits : (S : Settings) (r : NextHop) (f : List ℕ) (h : Header) → readFrame f ≡ Trill h → Passed S f h → areaRead (areaOf f h) ≡ WellFormed → length f ≤ frameMost
+pub forwarded-fits : (S : Ways) (r : NextHop) (f : List ℕ) (h : Header) → readFrame f ≡ Trill h → innerStart h ≤ length f → areaRead (areaOf f h) ≡ WellFormed → length f ≤ frameMost
     → length (forwarded S r f h) ≤ frameMost
-forwarded-fits S r f h read passed well short =
-    let n = area-length S f h read passed well in
+forwarded-fits S r f h read whole well short =
+    let n = length-part f (h .place + 6) (4 * opLength (h .word)) whole in
     let i : length (innerOf f h) ≡ length f - innerStart h = length-drop (innerStart h) f in
-    rw (length-forwarded, i) (omega (arith, n, sent-shorter S (areaOf f h) well, passed .area-whole, frame-read f h read .from))
+    rw (length-forwarded, i) (omega (arith, n, sent-shorter S (areaOf f h) well, whole, frame-read f h read .from))
 
-how-bounded : (S : Settings) (clock f : List ℕ) (a : Handled) → length clock ≡ 6 → length f ≤ frameMost → How S clock f a → Bounded a
+how-bounded : (S : Ways) (clock f : List ℕ) (a : Handled) → length clock ≡ 6 → length f ≤ frameMost → How S clock f a → Bounded a
 how-bounded S clock f a six short (ends n) = record { number-small = n .small; fits = omega (arith, n .nothing) }
 how-bounded S clock f a six short (forwards h r t found e) =
-    rw e (record { number-small = omega arith; fits = forwarded-fits S r f h (t .read) (header-passed S f h (t .unrefused)) (t .well) short })
+    rw e (record { number-small = omega arith; fits = forwarded-fits S r f h (t .read) (header-passed S f h (t .unrefused) .area-whole) (t .well) short })
 how-bounded S clock f a six short (faults h r code t found c e) = rw e (record { number-small = omega arith; fits = omega (arith, length-error S r f h code) })
 how-bounded S clock f a six short (echoes h r t found c e) =
     let ranged = echo-ranged (bodyOf (innerOf f h)) (channel-echo (innerOf f h) c) in
     rw e (record { number-small = omega arith; fits = omega (arith, length-echo S r f h clock (bodyOf (innerOf f h)) six (ranged .0), ranged .1) })
 
-pub handling-bounded : (S : Settings) (clock f : List ℕ) → length clock ≡ 6 → length f ≤ frameMost → Bounded (handling S clock f)
+pub handling-bounded : (S : Ways) (clock f : List ℕ) → length clock ≡ 6 → length f ≤ frameMost → Bounded (handling S clock f)
 handling-bounded S clock f six short = how-bounded S clock f (handling S clock f) six short (how S clock f)
 
 -- and of the refusals before a frame is looked at
 dropped-bounded : (n : ℕ) → n < 64 → Bounded (dropped n)
 dropped-bounded n h = record { number-small = h; fits = omega arith }
 
-pub handled-with-bounded : (S : Settings) (clock : List ℕ) (room : ℕ) (f : List ℕ) → Bounded (handledWith S clock room f)
+pub handled-with-bounded : (S : Ways) (clock : List ℕ) (room : ℕ) (f : List ℕ) → Bounded (handledWith S clock room f)
 handled-with-bounded S clock room f =
     by-test (eqb (length clock) 6) (λ a. clocked (eqb-true _ 6 a)) (λ a. rw (clock-bad S clock room f (eqb-false _ 6 a)) (dropped-bounded 1 (omega arith)))
   where
@@ -220,4 +221,4 @@ handled-bounded settings clock room f = go (settingsOf settings) refl
   where
     go : (w : Option Settings) → settingsOf settings ≡ w → Bounded (handled settings clock room f)
     go none e = rw (settings-bad settings clock room f e) (dropped-bounded 1 (omega arith))
-    go (some S) e = rw (settings-good settings clock room f S e) (handled-with-bounded S clock room f)
+    go (some S) e = rw (settings-good settings clock room f S e) (handled-with-bounded (waysOf S) clock room f)

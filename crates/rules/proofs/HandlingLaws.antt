@@ -10,7 +10,7 @@ use borrow.Author.Tests.{lt-ltb, le-ltb, eq-eqb, ne-eqb, ltb-false}
 use lib.Dec.{ltb, leb, eqb}
 use lib.ListN.{length, length-append, length-take}
 use Rattle.rules.specs.Octets.{be16, be48}
-use Rattle.rules.specs.Settings.{Settings, nextHop, settingsOf}
+use Rattle.rules.specs.Settings.{Settings, Ways, waysOf, settingsOf}
 use Rattle.rules.specs.Link.{link, linkLength, linkEthertype, ethertypeTag, ethertypeTrill}
 use Rattle.rules.specs.Header.{version, multi, hopCount, anyRBridge, readFrame, innerStart, areaOf, innerOf, headerRefusal, weAreEgress}
 use Rattle.rules.specs.Options.{WellFormed, Faulty, areaRead, areaStops, areaSent}
@@ -27,12 +27,12 @@ use Rattle.rules.proofs.TestLaws.{or-false, and-no}
 use Rattle.rules.proofs.FrameLaws.{length-link}
 use Rattle.rules.proofs.ReplyLaws.{length-reply, echo-body-length}
 
-module _ (S : Settings) (f : List ℕ) (h : Header) where
-  pub transit-none : nextHop S (h .egress) ≡ Absent → transit S f h ≡ dropped 21
+module _ (S : Ways) (f : List ℕ) (h : Header) where
+  pub transit-none : S .hop (h .egress) ≡ Absent → transit S f h ≡ dropped 21
   unfolding transit
   transit-none e = rw (transit, e)
 
-  pub transit-over : (r : NextHop) → nextHop S (h .egress) ≡ Found r → transit S f h ≡ wrote 50 (forwarded S r f h) (r .neighbour)
+  pub transit-over : (r : NextHop) → S .hop (h .egress) ≡ Found r → transit S f h ≡ wrote 50 (forwarded S r f h) (r .neighbour)
   unfolding transit
   transit-over r e = rw (transit, e)
 
@@ -65,7 +65,7 @@ module _ (S : Settings) (f : List ℕ) (h : Header) where
       echoed-over r e = rw (echoed, eq-eqb (replyMode (bodyOf (innerOf f h))) 2 asked, e)
 
 -- how long what is written is
-module _ (S : Settings) (r : NextHop) (f : List ℕ) (h : Header) where
+module _ (S : Ways) (r : NextHop) (f : List ℕ) (h : Header) where
   pub length-forwarded : length (forwarded S r f h) ≡ 20 + length (areaSent S (areaOf f h)) + length (innerOf f h)
   unfolding forwarded forwardedRest
   length-forwarded =
@@ -103,7 +103,7 @@ channel-echo inner e =
     passed-over (eqb (protocol inner) protocolError) ErrorHeard _ (λ z. cc) e6 .1
 
 -- the stages of an egress, by outcome
-module _ (S : Settings) (clock f : List ℕ) (h : Header) where
+module _ (S : Ways) (clock f : List ℕ) (h : Header) where
   pub inner-short : length (innerOf f h) < 18 → decapsulated S clock f h ≡ dropped 22
   unfolding decapsulated
   inner-short a = simp (lt-ltb (length (innerOf f h)) 18 a)
@@ -157,12 +157,12 @@ module _ (S : Settings) (clock f : List ℕ) (h : Header) where
   unfolding handling
   handling-routed e a = rw (handling, e, eq-eqb (headerRefusal (S .mac) f h) 0 a)
 
-pub handling-unread : (S : Settings) (clock f : List ℕ) (n : ℕ) → readFrame f ≡ Unreadable n → handling S clock f ≡ dropped n
+pub handling-unread : (S : Ways) (clock f : List ℕ) (n : ℕ) → readFrame f ≡ Unreadable n → handling S clock f ≡ dropped n
 unfolding handling
 handling-unread S clock f n e = rw (handling, e)
 
 -- the refusals before a frame is looked at
-module _ (S : Settings) (clock : List ℕ) (room : ℕ) (f : List ℕ) where
+module _ (S : Ways) (clock : List ℕ) (room : ℕ) (f : List ℕ) where
   pub clock-bad : (length clock ≡ 6 → ⊥) → handledWith S clock room f ≡ dropped 1
   unfolding handledWith
   clock-bad a = simp (ne-eqb (length clock) 6 a)
@@ -186,7 +186,7 @@ module _ (settings clock : List ℕ) (room : ℕ) (f : List ℕ) where
   unfolding handled
   settings-bad e = rw (handled, e)
 
-  pub settings-good : (S : Settings) → settingsOf settings ≡ some S → handled settings clock room f ≡ handledWith S clock room f
+  pub settings-good : (S : Settings) → settingsOf settings ≡ some S → handled settings clock room f ≡ handledWith (waysOf S) clock room f
   unfolding handled
   settings-good S e = rw (handled, e)
 
@@ -195,7 +195,7 @@ one-small : (b : Bool) (n x : ℕ) → n < 50 → x < 50 → cond b n x < 50
 one-small true n x hn hx = hn
 one-small false n x hn hx = hx
 
-pub header-refused-small : (S : Settings) (f : List ℕ) (h : Header) → headerRefusal (S .mac) f h < 50
+pub header-refused-small : (S : Ways) (f : List ℕ) (h : Header) → headerRefusal (S .mac) f h < 50
 unfolding headerRefusal
 header-refused-small S f h =
     one-small (not (eqb (be48 f 0) (S .mac))) 12 _ (omega arith)

@@ -9,7 +9,7 @@ use borrow.Author.Tests.{le-ltb, eq-eqb, ne-eqb, eqb-false}
 use lib.Dec.{eqb}
 use lib.ListN.{length, length-append, length-take, length-drop}
 use Rattle.rules.specs.Octets.{be16}
-use Rattle.rules.specs.Settings.{Settings}
+use Rattle.rules.specs.Settings.{Ways}
 use Rattle.rules.specs.Link.{link}
 use Rattle.rules.specs.Header.{readFrame, innerOf}
 use Rattle.rules.specs.Channel.{protocolError, protocolEcho, protocol, na, spid, spidReply, echoRead, channelRead, silenced, replyInner, replyRest, echoBody}
@@ -20,7 +20,7 @@ use Rattle.rules.specs.declared.ChannelRead.the-variants.{ErrorHeard, Ec
 use Rattle.rules.proofs.TestLaws.{by-test, or-yes}
 use Rattle.rules.proofs.FrameLaws.{IsLink, read-headed, inner-headed, length-link}
 
-module _ (S : Settings) (own : S .nickname < 65536) (ingress : ℕ) (hi : ingress < 65536) (number code : ℕ) (body : List ℕ) (l : List ℕ) (is : IsLink l) where
+module _ (S : Ways) (own : S .nickname < 65536) (ingress : ℕ) (hi : ingress < 65536) (number code : ℕ) (body : List ℕ) (l : List ℕ) (is : IsLink l) where
   abbrev pub replyHeader : Header
   replyHeader = record { place = length l; word = 0x003F; egress = ingress; ingress = S .nickname }
 
@@ -33,7 +33,7 @@ module _ (S : Settings) (own : S .nickname < 65536) (ingress : ℕ) (hi : ingres
   reply-inner = inner-headed l replyHeader [] (replyInner S number code body) refl refl
 
 -- an error that was written is heard as an error
-pub error-heard : (S : Settings) (code : ℕ) (body : List ℕ) → code < 16 → channelRead (replyInner S protocolError code body) ≡ ErrorHeard
+pub error-heard : (S : Ways) (code : ℕ) (body : List ℕ) → code < 16 → channelRead (replyInner S protocolError code body) ≡ ErrorHeard
 unfolding replyInner channelRead
 error-heard S code body h =
     let i : List ℕ = replyInner S protocolError code body in
@@ -42,7 +42,7 @@ error-heard S code body h =
     simp (le-ltb (length i) 22 (omega arith), ne-eqb (na i) 1 (rw (flags, high) (omega arith)))
 
 -- an echo reply that was written is heard as an echo reply
-pub echo-heard : (S : Settings) (body : List ℕ) → 18 ≤ length body → length body ≤ 530 → spid body ≡ spidReply → channelRead (replyInner S protocolEcho 0 body) ≡ EchoHeard
+pub echo-heard : (S : Ways) (body : List ℕ) → 18 ≤ length body → length body ≤ 530 → spid body ≡ spidReply → channelRead (replyInner S protocolEcho 0 body) ≡ EchoHeard
 unfolding replyInner channelRead echoRead
 echo-heard S body h k e =
     simp (le-ltb (length (replyInner S protocolEcho 0 body)) 22 (omega arith), le-ltb (length body) 18 h, le-ltb 530 (length body) k, e)
@@ -62,6 +62,6 @@ pub error-unanswered : (code : ℕ) (inner : List ℕ) → 4 ≤ code → code �
 unfolding silenced
 error-unanswered code inner h k e = by-test (eqb code 4) (λ t. simp (t, e, or-yes)) (λ t. simp (t, eq-eqb code 5 (omega (arith, eqb-false code 4 t)), e, or-yes))
 
-pub length-reply : (S : Settings) (r : NextHop) (ingress number code : ℕ) (body : List ℕ) → length (link S r ++ replyRest S ingress number code body) ≡ 42 + length body
+pub length-reply : (S : Ways) (r : NextHop) (ingress number code : ℕ) (body : List ℕ) → length (link S r ++ replyRest S ingress number code body) ≡ 42 + length body
 unfolding replyRest replyInner
 length-reply S r ingress number code body = rw (length-append, length-link) (omega arith)

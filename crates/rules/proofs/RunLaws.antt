@@ -10,7 +10,7 @@ use native.Mathlib.Nat.{not-suc-le-zero, zero-add}
 use native.Mathlib.Omega.{arith}
 use lib.Dec.{eqb}
 use lib.ListN.{length}
-use Rattle.rules.specs.Settings.{Settings}
+use Rattle.rules.specs.Settings.{Settings, waysOf}
 use Rattle.rules.specs.Handling.{handling, frameMost}
 use Rattle.rules.specs.Campus.{switchNamed, Kind, reply, State, kindAfter, runFrom, handlingsMost, hopReceived, egressReceived, entryOctets, traceOctets}
 use Rattle.rules.specs.Demand.{writesReply, repliesIn}
@@ -50,13 +50,13 @@ module _ (switches : List Settings) (clock : List ℕ) where
 
   -- what is written, and the switch that it goes to
   abbrev pub sent : Settings → List ℕ → List ℕ
-  sent S f = (handling S clock f) .octets
+  sent S f = (handling (waysOf S) clock f) .octets
 
   abbrev pub neighbour : Settings → List ℕ → Option Settings
-  neighbour S f = switchNamed switches ((handling S clock f) .via)
+  neighbour S f = switchNamed switches ((handling (waysOf S) clock f) .via)
 
   abbrev pub state : Settings → Kind → List ℕ → State
-  state S kind f = record { switch = S; kind = kind; frame = f; answer = handling S clock f }
+  state S kind f = record { switch = S; kind = kind; frame = f; answer = handling (waysOf S) clock f }
 
   -- what a run looks like, by its first handling
   pub run-none : (S : Settings) (kind : Kind) (f : List ℕ) → run zero S kind f ≡ []
@@ -64,11 +64,11 @@ module _ (switches : List Settings) (clock : List ℕ) where
   run-none S kind f = refl
 
   module _ (m : ℕ) (S : Settings) (kind : Kind) (f : List ℕ) where
-    pub run-over : kindAfter kind ((handling S clock f) .number) ≡ none → run (suc m) S kind f ≡ state S kind f ∷ []
+    pub run-over : kindAfter kind ((handling (waysOf S) clock f) .number) ≡ none → run (suc m) S kind f ≡ state S kind f ∷ []
     unfolding runFrom
     run-over e = rw (runFrom, e)
 
-    module _ (kind′ : Kind) (e : kindAfter kind ((handling S clock f) .number) ≡ some kind′) where
+    module _ (kind′ : Kind) (e : kindAfter kind ((handling (waysOf S) clock f) .number) ≡ some kind′) where
       pub run-left : neighbour S f ≡ none → run (suc m) S kind f ≡ state S kind f ∷ []
       unfolding runFrom
       run-left n = rw (runFrom, e, n)
@@ -79,10 +79,10 @@ module _ (switches : List Settings) (clock : List ℕ) where
 
   -- one turn: the run stops, or goes on with what was forwarded, or with a reply
   data Turn (S : Settings) (kind : Kind) (f : List ℕ) : Type 0 where
-    stops : (IsReply f → writesReply ((handling S clock f) .number) ≡ false) → ((m : ℕ) → run (suc m) S kind f ≡ state S kind f ∷ []) → Turn S kind f
-    forwards : (T : Settings) → neighbour S f ≡ some T → Forwarded S f (handling S clock f)
+    stops : (IsReply f → writesReply ((handling (waysOf S) clock f) .number) ≡ false) → ((m : ℕ) → run (suc m) S kind f ≡ state S kind f ∷ []) → Turn S kind f
+    forwards : (T : Settings) → neighbour S f ≡ some T → Forwarded S f (handling (waysOf S) clock f)
         → ((m : ℕ) → run (suc m) S kind f ≡ state S kind f ∷ run m T kind (sent S f)) → Turn S kind f
-    replies : (T : Settings) → neighbour S f ≡ some T → Replied S f (handling S clock f)
+    replies : (T : Settings) → neighbour S f ≡ some T → Replied S f (handling (waysOf S) clock f)
         → ((m : ℕ) → run (suc m) S kind f ≡ state S kind f ∷ run m T reply (sent S f)) → Turn S kind f
 
   -- an original's way: without a reply at most h + 1 in all; with one it arrived at the k-th handling, k ≤ h, and the rest is 64
@@ -94,21 +94,21 @@ module _ (switches : List Settings) (clock : List ℕ) where
     turn : (S : Settings) → List·Memᴰ S switches → (kind : Kind) (f : List ℕ) → Turn S kind f
     turn S i kind f = go (does S clock f (fit S i) six)
       where
-        forwarded : Forwarded S f (handling S clock f) → (w : Option Settings) → neighbour S f ≡ w → Turn S kind f
+        forwarded : Forwarded S f (handling (waysOf S) clock f) → (w : Option Settings) → neighbour S f ≡ w → Turn S kind f
         forwarded o none n = stops (λ y. o .no-reply) (λ m. run-left m S kind f kind (o .stays kind) n)
         forwarded o (some T) n = forwards T n o (λ m. run-on m S kind f kind (o .stays kind) T n)
 
-        replied : Replied S f (handling S clock f) → (w : Option Settings) → neighbour S f ≡ w → Turn S kind f
+        replied : Replied S f (handling (waysOf S) clock f) → (w : Option Settings) → neighbour S f ≡ w → Turn S kind f
         replied o none n = stops (λ y. absurd (o .mute y)) (λ m. run-left m S kind f reply (o .turns kind) n)
         replied o (some T) n = replies T n o (λ m. run-on m S kind f reply (o .turns kind) T n)
 
-        go : Does S f (handling S clock f) → Turn S kind f
+        go : Does S f (handling (waysOf S) clock f) → Turn S kind f
         go (Does.ends o) = stops (λ y. o .no-reply) (λ m. run-over m S kind f (o .over kind))
         go (Does.forwards o) = forwarded o (neighbour S f) refl
         go (Does.replies o) = replied o (neighbour S f) refl
 
     member : (S : Settings) (f : List ℕ) (T : Settings) → neighbour S f ≡ some T → List·Memᴰ T switches
-    member S f T n = named-member switches ((handling S clock f) .via) T n
+    member S f T n = named-member switches ((handling (waysOf S) clock f) .via) T n
 
     -- a reply's way is at most its hop count and one
     reply-way : (m : ℕ) (S : Settings) (kind : Kind) (f : List ℕ) → List·Memᴰ S switches → IsReply f → length (run m S kind f) ≤ suc (hopReceived f)
@@ -125,7 +125,7 @@ module _ (switches : List Settings) (clock : List ℕ) where
     way zero S kind f i = rw (run-none S kind f) (unanswered (omega arith))
     way (suc m) S kind f i = go (turn S i kind f) (λ T j. way m T kind (sent S f) j)
       where
-        further : (T : Settings) → neighbour S f ≡ some T → Forwarded S f (handling S clock f) → length (run (suc m) S kind f) ≡ suc (length (run m T kind (sent S f)))
+        further : (T : Settings) → neighbour S f ≡ some T → Forwarded S f (handling (waysOf S) clock f) → length (run (suc m) S kind f) ≡ suc (length (run m T kind (sent S f)))
             → Way (egressReceived (sent S f)) T (hopReceived (sent S f)) (length (run m T kind (sent S f))) → Way (egressReceived f) S (hopReceived f) (length (run (suc m) S kind f))
         further T n o e (unanswered q) = unanswered (omega (arith, e, q, o .one-less))
         further T n o e (answered k a q c) =
@@ -203,9 +203,9 @@ module _ (switches : List Settings) (clock : List ℕ) where
 
     -- of every state: what holds at a handling under an invariant that forwarding and replying keep
     module _ (P : State → Type 0) (Q : Kind → List ℕ → Type 0)
-        (here-holds : (S : Settings) (kind : Kind) (f : List ℕ) → Does S f (handling S clock f) → Q kind f → P (state S kind f))
-        (on-holds : (S : Settings) (kind : Kind) (f : List ℕ) → Forwarded S f (handling S clock f) → Q kind f → Q kind (sent S f))
-        (back-holds : (S : Settings) (kind : Kind) (f : List ℕ) → Replied S f (handling S clock f) → Q kind f → Q reply (sent S f))
+        (here-holds : (S : Settings) (kind : Kind) (f : List ℕ) → Does S f (handling (waysOf S) clock f) → Q kind f → P (state S kind f))
+        (on-holds : (S : Settings) (kind : Kind) (f : List ℕ) → Forwarded S f (handling (waysOf S) clock f) → Q kind f → Q kind (sent S f))
+        (back-holds : (S : Settings) (kind : Kind) (f : List ℕ) → Replied S f (handling (waysOf S) clock f) → Q kind f → Q reply (sent S f))
       where
         every : (m : ℕ) (S : Settings) (kind : Kind) (f : List ℕ) → List·Memᴰ S switches → Q kind f → (s : State) → List·Memᴰ s (run m S kind f) → P s
         every zero S kind f i q s w = absurd (List·Memᴰ·not-nil (rw (run-none S kind f) at w))
@@ -229,7 +229,7 @@ module _ (switches : List Settings) (clock : List ℕ) where
     unanswered-replies =
         every (λ s. s .kind ≡ reply → writesReply (s .answer .number) ≡ false) (λ kind f. kind ≡ reply → IsReply f) heard (λ S kind f o q k. o .reply-kept (q k)) (λ S kind f o q k. o .is-reply)
       where
-        heard : (S : Settings) (kind : Kind) (f : List ℕ) → Does S f (handling S clock f) → (kind ≡ reply → IsReply f) → kind ≡ reply → writesReply ((handling S clock f) .number) ≡ false
+        heard : (S : Settings) (kind : Kind) (f : List ℕ) → Does S f (handling (waysOf S) clock f) → (kind ≡ reply → IsReply f) → kind ≡ reply → writesReply ((handling (waysOf S) clock f) .number) ≡ false
         heard S kind f (Does.ends o) q k = o .no-reply
         heard S kind f (Does.forwards o) q k = o .no-reply
         heard S kind f (Does.replies o) q k = absurd (o .mute (q k))
@@ -239,8 +239,8 @@ module _ (switches : List Settings) (clock : List ℕ) where
         → (s : State) → List·Memᴰ s (runFrom m switches clock S kind f) → length (s .frame) ≤ frameMost
     frames-fit =
         every (λ s. length (s .frame) ≤ frameMost) (λ kind f. length f ≤ frameMost) (λ S kind f o q. q)
-        (λ S kind f o q. handling-bounded S clock f six q .fits)
-        (λ S kind f o q. handling-bounded S clock f six q .fits)
+        (λ S kind f o q. handling-bounded (waysOf S) clock f six q .fits)
+        (λ S kind f o q. handling-bounded (waysOf S) clock f six q .fits)
 
 -- the trace has eight octets for each state
 pub length-trace : (states : List State) → length (traceOctets states) ≡ 8 * length states

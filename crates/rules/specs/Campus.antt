@@ -7,7 +7,7 @@ use lib.ListN.{length, drop}
 use lib.Dec.{ltb, eqb}
 use Rattle.rules.specs.Octets.{if_then_else_, be16, octets16, put}
 use Rattle.rules.specs.Fields.{Field, field, cut, fields, lengthGood}
-use Rattle.rules.specs.Settings.{Settings, hopGood, switchGood, serialMet, switchOf, hopOf, stripGood, hopsMost, withField}
+use Rattle.rules.specs.Settings.{Settings, hopGood, switchGood, serialMet, switchOf, hopOf, stripGood, hopsMost, withField, waysOf}
 use Rattle.rules.specs.Header.{hopCount, readFrame}
 use Rattle.rules.specs.Answer.{Handled}
 use Rattle.rules.specs.Handling.{handling}
@@ -144,7 +144,7 @@ kindAfter kind number =
 unfoldable pub runFrom : ℕ → List Settings → List ℕ → Settings → Kind → List ℕ → List State
 runFrom zero switches clock S kind f = []
 runFrom (suc fuel) switches clock S kind f =
-    let a = handling S clock f in
+    let a = handling (waysOf S) clock f in
     record { switch = S; kind = kind; frame = f; answer = a }
     ∷ elim (kindAfter kind (a .number)) [
       | none ↦ []

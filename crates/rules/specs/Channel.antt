@@ -5,7 +5,7 @@ use mathlib.Core.Bool.{Bool, not, _&&_, _||_}
 use lib.ListN.{length, take, drop}
 use lib.Dec.{ltb, eqb}
 use Rattle.rules.specs.Octets.{if_then_else_, octet, be16, octets16, octets48, part}
-use Rattle.rules.specs.Settings.{Settings, nextHop}
+use Rattle.rules.specs.Settings.{Ways}
 use Rattle.rules.specs.Link.{link, ethertypeTag}
 use Rattle.rules.specs.declared.NextHop.{NextHop}
 use Rattle.rules.specs.declared.Header.{Header}
@@ -97,12 +97,12 @@ silenced code inner =
     && (eqb (sl inner) 1 || eqb (protocol inner) protocolError || not (eqb (err inner) 0))
 
 -- "No return path: the ingress is our own nickname or has no next hop."
-unfoldable pub returnPath : Settings → ℕ → Ruling
-returnPath S ingress = if eqb ingress (S .nickname) then Absent else nextHop S ingress
+unfoldable pub returnPath : Ways → ℕ → Ruling
+returnPath S ingress = if eqb ingress (S .nickname) then Absent else S .hop ingress
 
 -- "Each reply: .. All-Egress-RBridges, own MAC, 0x8100, 0x0001, 0x8946, protocol word, flags and ERR word 0xC000 plus the code,
 -- body."
-unfoldable pub replyInner : Settings → ℕ → ℕ → List ℕ → List ℕ
+unfoldable pub replyInner : Ways → ℕ → ℕ → List ℕ → List ℕ
 replyInner S number code body =
     octets48 allEgressRBridges
     ++ octets48 (S .mac)
@@ -114,7 +114,7 @@ replyInner S number code body =
     ++ body
 
 -- "first TRILL word 0x003F, egress the old ingress, ingress our nickname", and the inner frame
-unfoldable pub replyRest : Settings → ℕ → ℕ → ℕ → List ℕ → List ℕ
+unfoldable pub replyRest : Ways → ℕ → ℕ → ℕ → List ℕ → List ℕ
 replyRest S ingress number code body =
     octets16 0x003F ++ octets16 ingress ++ octets16 (S .nickname) ++ replyInner S number code body
 
@@ -126,8 +126,8 @@ errorBody f h = take 128 (drop (h .place - 2) f)
 unfoldable pub echoBody : List ℕ → List ℕ → List ℕ
 echoBody body clock = ((spidReply * 16 + octet body 0 % 16) ∷ []) ++ part body 1 11 ++ clock ++ drop 18 body
 
-unfoldable pub errorReply : Settings → NextHop → List ℕ → Header → ℕ → List ℕ
+unfoldable pub errorReply : Ways → NextHop → List ℕ → Header → ℕ → List ℕ
 errorReply S r f h code = link S r ++ replyRest S (h .ingress) protocolError code (errorBody f h)
 
-unfoldable pub echoReply : Settings → NextHop → Header → List ℕ → List ℕ → List ℕ
+unfoldable pub echoReply : Ways → NextHop → Header → List ℕ → List ℕ → List ℕ
 echoReply S r h clock body = link S r ++ replyRest S (h .ingress) protocolEcho 0 (echoBody body clock)

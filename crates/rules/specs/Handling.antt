@@ -6,7 +6,7 @@ use mathlib.Core.Option.{none, some}
 use lib.ListN.{length}
 use lib.Dec.{ltb, leb, eqb}
 use Rattle.rules.specs.Octets.{if_then_else_, be16, be48, octets16, part, put}
-use Rattle.rules.specs.Settings.{Settings, nextHop, settingsOf}
+use Rattle.rules.specs.Settings.{Ways, waysOf, settingsOf}
 use Rattle.rules.specs.Link.{link, ethertypeTag}
 use Rattle.rules.specs.Header.{version, reserved, multi, hopCount, headerWord, anyRBridge, readFrame, innerStart, areaOf, innerOf, headerRefusal, weAreEgress}
 use Rattle.rules.specs.Options.{WellFormed, Faulty, areaRead, areaStops, areaSent}
@@ -20,7 +20,7 @@ use Rattle.rules.specs.declared.ChannelRead.{ChannelRead}
 use Rattle.rules.specs.declared.ChannelRead.the-variants.{Fault, BadErr, ErrorHeard, BadEcho, EchoHeard, EchoRequest}
 
 -- "TRILL header with hop count one less and the new Op-Length, area, inner frame unchanged"
-unfoldable pub forwardedRest : Settings → List ℕ → Header → List ℕ
+unfoldable pub forwardedRest : Ways → List ℕ → Header → List ℕ
 forwardedRest S f h =
     let area = areaSent S (areaOf f h) in
     octets16 (headerWord (version (h .word)) (reserved (h .word)) (multi (h .word)) (length area / 4) (hopCount (h .word) - 1))
@@ -29,19 +29,19 @@ forwardedRest S f h =
     ++ area
     ++ innerOf f h
 
-unfoldable pub forwarded : Settings → NextHop → List ℕ → Header → List ℕ
+unfoldable pub forwarded : Ways → NextHop → List ℕ → Header → List ℕ
 forwarded S r f h = link S r ++ forwardedRest S f h
 
 -- 21 and 50
-unfoldable pub transit : Settings → List ℕ → Header → Handled
+unfoldable pub transit : Ways → List ℕ → Header → Handled
 transit S f h =
-    elim (nextHop S (h .egress)) [
+    elim (S .hop (h .egress)) [
       | Absent ↦ dropped 21
       | Found r ↦ wrote 50 (forwarded S r f h) (r .neighbour)
     ]
 
 -- 53 and 25
-unfoldable pub faulted : Settings → List ℕ → Header → ℕ → Handled
+unfoldable pub faulted : Ways → List ℕ → Header → ℕ → Handled
 faulted S f h code =
     if silenced code (innerOf f h) then dropped 25 else
     elim (returnPath S (h .ingress)) [
@@ -50,7 +50,7 @@ faulted S f h code =
     ]
 
 -- 54 and 28: "ours replies only to 2. So 28 is given for any other mode or without a return path, and only then."
-unfoldable pub echoed : Settings → List ℕ → List ℕ → Header → Handled
+unfoldable pub echoed : Ways → List ℕ → List ℕ → Header → Handled
 echoed S clock f h =
     if not (eqb (replyMode (bodyOf (innerOf f h))) 2) then dropped 28 else
     elim (returnPath S (h .ingress)) [
@@ -58,7 +58,7 @@ echoed S clock f h =
       | Found r ↦ wrote 54 (echoReply S r h clock (bodyOf (innerOf f h))) (r .neighbour)
     ]
 
-unfoldable pub channelled : Settings → List ℕ → List ℕ → Header → ChannelRead → Handled
+unfoldable pub channelled : Ways → List ℕ → List ℕ → Header → ChannelRead → Handled
 channelled S clock f h (Fault code) = faulted S f h code
 channelled S clock f h BadErr = dropped 26
 channelled S clock f h ErrorHeard = dropped 55
@@ -73,7 +73,7 @@ abbrev pub toAllEgressRBridges : List ℕ → Bool
 toAllEgressRBridges inner = eqb (be48 inner 0) allEgressRBridges
 
 -- 22 to 24 and 51 to 56
-unfoldable pub decapsulated : Settings → List ℕ → List ℕ → Header → Handled
+unfoldable pub decapsulated : Ways → List ℕ → List ℕ → Header → Handled
 decapsulated S clock f h =
     if ltb (length (innerOf f h)) 18 then dropped 22 else
     if not (eqb (be16 (innerOf f h) 12) ethertypeTag) || eqb (vlan (innerOf f h)) 0 || eqb (vlan (innerOf f h)) 4095 then dropped 23 else
@@ -83,7 +83,7 @@ decapsulated S clock f h =
     else channelled S clock f h (channelRead (innerOf f h))
 
 -- 30 to 35 and 20, then by our role
-unfoldable pub routed : Settings → List ℕ → List ℕ → Header → Handled
+unfoldable pub routed : Ways → List ℕ → List ℕ → Header → Handled
 routed S clock f h =
     elim (areaRead (areaOf f h)) [
       | Faulty number place ↦ droppedAt number place
@@ -93,7 +93,7 @@ routed S clock f h =
           else transit S f h
     ]
 
-unfoldable pub handling : Settings → List ℕ → List ℕ → Handled
+unfoldable pub handling : Ways → List ℕ → List ℕ → Handled
 handling S clock f =
     elim (readFrame f) [
       | Unreadable number ↦ dropped number
@@ -107,7 +107,7 @@ abbrev pub frameMost : ℕ
 frameMost = 2048
 
 -- 1 for the clock, 2 and 3; `room` is the length of the output buffer
-unfoldable pub handledWith : Settings → List ℕ → ℕ → List ℕ → Handled
+unfoldable pub handledWith : Ways → List ℕ → ℕ → List ℕ → Handled
 handledWith S clock room f =
     if not (eqb (length clock) 6) then dropped 1 else
     if ltb room frameMost then dropped 2 else
@@ -116,7 +116,7 @@ handledWith S clock room f =
 
 -- the whole call: settings octets, clock, the output buffer's length, frame
 unfoldable pub handled : List ℕ → List ℕ → ℕ → List ℕ → Handled
-handled settings clock room f = elim (settingsOf settings) [ none ↦ dropped 1 | some S ↦ handledWith S clock room f ]
+handled settings clock room f = elim (settingsOf settings) [ none ↦ dropped 1 | some S ↦ handledWith (waysOf S) clock room f ]
 
 -- "Answers 50, 53 and 54 write exactly the frame at the start of the output; later octets stay. All other answers write nothing."
 abbrev pub outputAfter : List ℕ → Handled → List ℕ

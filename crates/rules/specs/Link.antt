@@ -3,7 +3,7 @@ use Prim.Native.Nat.{ℕ, _-_}
 use mathlib.Core.List.{List, _++_}
 use lib.Dec.{eqb}
 use Rattle.rules.specs.Octets.{if_then_else_, be16, octets16, octets48}
-use Rattle.rules.specs.Settings.{Settings}
+use Rattle.rules.specs.Settings.{Ways}
 use Rattle.rules.specs.declared.NextHop.{NextHop}
 
 -- IEEE 802.1Q; RFC 6325
@@ -21,5 +21,5 @@ abbrev pub linkEthertype : List ℕ → ℕ
 linkEthertype f = be16 f (linkLength f - 2)
 
 -- the link header written towards a neighbour: "neighbour MAC, own MAC, 0x22F3"
-unfoldable pub link : Settings → NextHop → List ℕ
+unfoldable pub link : Ways → NextHop → List ℕ
 link S r = octets48 (r .mac) ++ octets48 (S .mac) ++ octets16 ethertypeTrill

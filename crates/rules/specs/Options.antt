@@ -6,7 +6,7 @@ use mathlib.Core.Bool.{Bool, true, false, not, _&&_, _||_}
 use lib.ListN.{length, take, drop}
 use lib.Dec.{ltb, leb, eqb}
 use Rattle.rules.specs.Octets.{if_then_else_, octet, be16, part}
-use Rattle.rules.specs.Settings.{Settings}
+use Rattle.rules.specs.Settings.{Ways}
 
 -- "First word: bit 0 CHbH, bit 1 CItE, 30 bit options." An empty area has both summary bits 0.
 abbrev pub chbh : List ℕ → Bool
@@ -158,5 +158,5 @@ unfoldable pub areaStops : Bool → List ℕ → Bool
 areaStops egress area = chbh area || (cite area && egress)
 
 -- "With the strip flag .. Without the flag the area is copied."
-unfoldable pub areaSent : Settings → List ℕ → List ℕ
+unfoldable pub areaSent : Ways → List ℕ → List ℕ
 areaSent S area = if S .strip then stripped area else area

@@ -122,3 +122,13 @@ settingsOf octets =
 -- what the fields say, without a judgement: of settings that are not bad, the settings
 unfoldable pub settingsRead : List ℕ → Settings
 settingsRead octets = elim (fields octets) [ [] ↦ switchOf [] | f ∷ fs ↦ foldl withField (opened f) fs ]
+
+-- what a handling asks of settings: our nickname and MAC, the strip flag, and the next hop for a destination
+pub record Ways : Type 0 where
+  pub nickname : ℕ
+  pub mac : ℕ
+  pub strip : Bool
+  pub hop : ℕ → Ruling
+
+abbrev pub waysOf : Settings → Ways
+waysOf S = record { nickname = S .nickname; mac = S .mac; strip = S .strip; hop = nextHop S }

@@ -5,7 +5,7 @@ use Prim.Native.Nat.{ℕ, _+_, _-_}
 use native.Mathlib.Omega.{arith}
 use lib.ListN.{length, take, replicate, length-replicate}
 use lib.Seq.{length-take-le}
-use Rattle.rules.specs.Settings.{settingsRead}
+use Rattle.rules.specs.Settings.{settingsRead, waysOf}
 use Rattle.rules.specs.Handling.{handledWith, outputAfter}
 use Rattle.handler.specs.Shapes.{routedOf}
 use Rattle.campus.specs.Places.{between, switchesTo}
@@ -68,7 +68,7 @@ put-entry-requires c κs =
       omega (arith, l .inv .same, c .before .before .before .before .before .before .before .before .before .before .before .before .before .before .before .before .before .before .pre .1 .room, c .before .before .before .before .before .before .before .before .loop-test .taken),
       number-small (a .s .now) (switchesTo (a .s .now) (a .starts .now) (a .n) (a .place)) (a .clock .now) (a .frame .now) (a .start) (a .end) (a .trace .now) (c .before .before .before .before .before .before .before .before .before .before .before .before .before .before .before .before .before .before .pre .1)
           (l .trace) (l .cur) (l .next) (l .size) (l .from) (l .to) (l .replied) (l .k) (l .inv) (c .before .before .before .before .before .before .before .before .loop-test .taken) (c .before .before .before .before .handle-fields .result)
-          (c .before .before .before .before .handle-fields .ensures .0 ∙ ap (λ x. routedOf (handledWith (settingsRead x) (a .clock .now) (length (l .next)) (take (l .size) (l .cur)))) (c .before .before .before .before .before .before .before .between .ensures)),
+          (c .before .before .before .before .handle-fields .ensures .0 ∙ ap (λ x. routedOf (handledWith (waysOf (settingsRead x)) (a .clock .now) (length (l .next)) (take (l .size) (l .cur)))) (c .before .before .before .before .before .before .before .between .ensures)),
     )
 
 add-k : tie.Need-add-k Inv-loop μ-loop
@@ -95,7 +95,7 @@ returns c =
     let l = c .before .before .before .before .before .before .before .before .before .before .before .before .before .before .before .loop in
     flying-stop (a .s .now) (switchesTo (a .s .now) (a .starts .now) (a .n) (a .place)) (a .clock .now) (a .frame .now) (a .start) (a .end) (a .trace .now) (c .before .before .before .before .before .before .before .before .before .before .before .before .before .before .before .before .before .before .before .before .before .before .before .before .pre .1)
     (l .trace) (l .cur) (l .next) (l .size) (l .from) (l .to) (l .replied) (l .k) (l .inv) (c .before .before .before .before .before .before .before .before .before .before .before .before .before .before .loop-test .taken) (c .before .before .before .before .before .before .before .before .before .before .handle-fields .result)
-    (c .before .before .before .before .before .before .before .before .before .before .handle-fields .ensures .0 ∙ ap (λ x. routedOf (handledWith (settingsRead x) (a .clock .now) (length (l .next)) (take (l .size) (l .cur)))) (c .before .before .before .before .before .before .before .before .before .before .before .before .before .between .ensures))
+    (c .before .before .before .before .before .before .before .before .before .before .handle-fields .ensures .0 ∙ ap (λ x. routedOf (handledWith (waysOf (settingsRead x)) (a .clock .now) (length (l .next)) (take (l .size) (l .cur)))) (c .before .before .before .before .before .before .before .before .before .before .before .before .before .between .ensures))
     (c .before .before .before .before .before .before .before .nickname-of .result) (c .before .before .before .before .before .before .before .nickname-of .ensures ∙ ap (λ x. settingsRead x .nickname) (c .before .before .before .before .before .before .before .before .before .before .before .before .before .between .ensures)) (c .before .before .before .before .before .put-entry .last .0) (c .before .before .before .before .before .put-entry .ensures)
     (sym (c .before .before .sent-on .ensures) ∙ ap (goesBy (a .s .now)) (c .enum-told .given .1)) (l .k + 1) refl
 
@@ -112,7 +112,7 @@ array-share-prefix-next c =
     let small =
     size-small (a .s .now) (switchesTo (a .s .now) (a .starts .now) (a .n) (a .place)) (a .clock .now) (a .frame .now) (a .start) (a .end) (a .trace .now) (c .before .before .before .before .before .before .before .before .before .before .before .before .before .before .before .before .before .before .before .before .before .before .before .before .before .before .before .pre .1)
     (l .trace) (l .cur) (l .next) (l .size) (l .from) (l .to) (l .replied) (l .k) (l .inv) (c .before .before .before .before .before .before .before .before .before .before .before .before .before .before .before .before .before .loop-test .taken) (c .before .before .before .before .before .before .before .before .before .before .before .before .before .handle-fields .result)
-    (c .before .before .before .before .before .before .before .before .before .before .before .before .before .handle-fields .ensures .0 ∙ ap (λ x. routedOf (handledWith (settingsRead x) (a .clock .now) (length (l .next)) (take (l .size) (l .cur)))) (c .before .before .before .before .before .before .before .before .before .before .before .before .before .before .before .before .between .ensures)) in
+    (c .before .before .before .before .before .before .before .before .before .before .before .before .before .handle-fields .ensures .0 ∙ ap (λ x. routedOf (handledWith (waysOf (settingsRead x)) (a .clock .now) (length (l .next)) (take (l .size) (l .cur)))) (c .before .before .before .before .before .before .before .before .before .before .before .before .before .before .before .before .between .ensures)) in
     omega (arith, small, c .before .before .before .before .before .before .before .before .before .before .before .before .before .handle-fields .kept .1 .1 .1 .0, l .inv .next-long)
 
 slice-aggregate-copy-3 : tie.Need-slice-aggregate-copy-3 Inv-loop μ-loop
@@ -122,7 +122,7 @@ slice-aggregate-copy-3 c =
     let small =
     size-small (a .s .now) (switchesTo (a .s .now) (a .starts .now) (a .n) (a .place)) (a .clock .now) (a .frame .now) (a .start) (a .end) (a .trace .now) (c .before .before .before .before .before .before .before .before .before .before .before .before .before .before .before .before .before .before .before .before .before .before .before .before .before .before .before .before .pre .1)
     (l .trace) (l .cur) (l .next) (l .size) (l .from) (l .to) (l .replied) (l .k) (l .inv) (c .before .before .before .before .before .before .before .before .before .before .before .before .before .before .before .before .before .before .loop-test .taken) (c .before .before .before .before .before .before .before .before .before .before .before .before .before .before .handle-fields .result)
-    (c .before .before .before .before .before .before .before .before .before .before .before .before .before .before .handle-fields .ensures .0 ∙ ap (λ x. routedOf (handledWith (settingsRead x) (a .clock .now) (length (l .next)) (take (l .size) (l .cur)))) (c .before .before .before .before .before .before .before .before .before .before .before .before .before .before .before .before .before .between .ensures)) in
+    (c .before .before .before .before .before .before .before .before .before .before .before .before .before .before .handle-fields .ensures .0 ∙ ap (λ x. routedOf (handledWith (waysOf (settingsRead x)) (a .clock .now) (length (l .next)) (take (l .size) (l .cur)))) (c .before .before .before .before .before .before .before .before .before .before .before .before .before .before .before .before .before .between .ensures)) in
     sym (length-take-le (c .before .before .before .before .before .before .before .before .before .before .before .before .before .before .handle-fields .result .answer .written) (c .before .before .before .before .before .before .before .before .before .before .before .before .before .before .handle-fields .last .1 .1 .1 .0) (omega (arith, small, c .before .before .before .before .before .before .before .before .before .before .before .before .before .before .handle-fields .kept .1 .1 .1 .0, l .inv .next-long)))
 
 copy-requires-2 : tie.Need-copy-requires-2 Inv-loop μ-loop
@@ -138,10 +138,10 @@ loop-again c =
     let g = c .before .before .before .before .before .before .start .given in
     flying-on (a .s .now) (switchesTo (a .s .now) (a .starts .now) (a .n) (a .place)) (a .clock .now) (a .frame .now) (a .start) (a .end) (a .trace .now) (c .before .before .before .before .before .before .before .before .before .before .before .before .before .before .before .before .before .before .before .before .before .before .before .before .before .before .before .before .before .before .pre .1)
     (l .trace) (l .cur) (l .next) (l .size) (l .from) (l .to) (l .replied) (l .k) (l .inv) (c .before .before .before .before .before .before .before .before .before .before .before .before .before .before .before .before .before .before .before .before .loop-test .taken) (c .before .before .before .before .before .before .before .before .before .before .before .before .before .before .before .before .handle-fields .result)
-    (c .before .before .before .before .before .before .before .before .before .before .before .before .before .before .before .before .handle-fields .ensures .0 ∙ ap (λ x. routedOf (handledWith (settingsRead x) (a .clock .now) (length (l .next)) (take (l .size) (l .cur)))) (c .before .before .before .before .before .before .before .before .before .before .before .before .before .before .before .before .before .before .before .between .ensures))
+    (c .before .before .before .before .before .before .before .before .before .before .before .before .before .before .before .before .handle-fields .ensures .0 ∙ ap (λ x. routedOf (handledWith (waysOf (settingsRead x)) (a .clock .now) (length (l .next)) (take (l .size) (l .cur)))) (c .before .before .before .before .before .before .before .before .before .before .before .before .before .before .before .before .before .before .before .between .ensures))
     (c .before .before .before .before .before .before .before .before .before .before .before .before .before .nickname-of .result) (c .before .before .before .before .before .before .before .before .before .before .before .before .before .nickname-of .ensures ∙ ap (λ x. settingsRead x .nickname) (c .before .before .before .before .before .before .before .before .before .before .before .before .before .before .before .before .before .before .before .between .ensures)) (c .before .before .before .before .before .before .before .before .before .before .before .put-entry .last .0) (c .before .before .before .before .before .before .before .before .before .before .before .put-entry .ensures)
     (c .before .before .before .before .before .before .before .before .before .before .before .before .before .before .before .before .handle-fields .last .1 .1 .1 .0) (g .0 .0) (g .0 .1 .0) (g .0 .1 .1 .0) (sym (c .before .before .before .before .before .before .before .before .sent-on .ensures) ∙ ap (goesBy (a .s .now)) (g .1))
-    (c .before .before .before .before .before .before .before .before .before .before .before .before .before .before .before .before .handle-fields .ensures .1 ∙ ap (λ x. outputAfter (l .next) (handledWith (settingsRead x) (a .clock .now) (length (l .next)) (take (l .size) (l .cur)))) (c .before .before .before .before .before .before .before .before .before .before .before .before .before .before .before .before .before .before .before .between .ensures))
+    (c .before .before .before .before .before .before .before .before .before .before .before .before .before .before .before .before .handle-fields .ensures .1 ∙ ap (λ x. outputAfter (l .next) (handledWith (waysOf (settingsRead x)) (a .clock .now) (length (l .next)) (take (l .size) (l .cur)))) (c .before .before .before .before .before .before .before .before .before .before .before .before .before .before .before .before .before .before .before .between .ensures))
     (omega (arith, c .before .before .before .before .before .before .before .before .before .before .before .before .before .before .before .before .handle-fields .kept .1 .1 .1 .0, l .inv .next-long)) (c .before .copy2 .last .0) (c .before .copy2 .ensures) (omega (arith, c .before .copy2 .kept .0, l .inv .cur-long))
 
 cast-result-2 : tie.Need-cast-result-2 Inv-loop μ-loop

@@ -25,5 +25,4 @@ decapsulated-spec =
     (λ c κs. search laws)
     (λ c. search laws)
     (λ c κs. search laws)
-    (λ c. search laws)
     (λ c. search laws))

@@ -1,4 +1,4 @@
--- `handling::faulted` meets its contract, by the return path that was found and the error reply written behind its link header. Assumes nothing.
+-- `handling::faulted` meets its contract, by the way back that was found and what was written behind its link header. Assumes nothing.
 use Rattle.handler.proofs.StageLaws.{faulted-laws as laws}
 use Rattle.handler.proofs.handling.faulted.Statement.{statement}
 use Rattle.handler.proofs.handling.faulted.Tie as tie

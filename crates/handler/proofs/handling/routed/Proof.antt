@@ -1,6 +1,5 @@
 -- `handler::handling::routed` meets its contract, by one law of `routed` for each way out.
-use native.Mathlib.Omega.{arith}
-use Rattle.handler.proofs.StageLaws.{ready-near, routed-laws as laws}
+use Rattle.handler.proofs.StageLaws.{routed-laws as laws}
 use Rattle.handler.proofs.handling.routed.Statement.{statement}
 use Rattle.handler.proofs.handling.routed.Tie as tie
 
@@ -8,22 +7,19 @@ pub routed-spec : {M : Type 1} → statement M
 routed-spec =
     tie.close
     (tie.spec
-    (λ c. omega (arith, ready-near))
-    (λ c κs. search laws)
-    (λ c. search laws)
-    (λ c. search laws)
-    (λ c. search laws)
-    (λ c κs. search laws)
     (λ c. search laws)
     (λ c κs. search laws)
     (λ c. search laws)
     (λ c. search laws)
-    (λ c κs. search laws)
-    (λ c κs. search laws)
-    (λ c κs. search laws)
     (λ c. search laws)
     (λ c κs. search laws)
     (λ c. search laws)
+    (λ c κs. search laws)
+    (λ c. search laws)
+    (λ c. search laws)
+    (λ c κs. search laws)
+    (λ c κs. search laws)
+    (λ c κs. search laws)
     (λ c. search laws)
     (λ c κs. search laws)
     (λ c. search laws)

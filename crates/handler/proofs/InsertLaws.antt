@@ -1,0 +1,337 @@
+-- A record put in its place among records that stand for settings' records: they then stand for those with the record behind them.
+-- By position, and by `row-slide`, which takes the record from its place to the end. Assumes nothing.
+use Prim.Native.Nat.{ℕ, zero, suc, _+_, _-_, _*_, _/_, _%_, _≤_, _<_}
+use mathlib.Core.Path.{_≡_, refl, sym, ap, _∙_}
+use mathlib.Core.List.{List, [], _∷_, _++_, foldl}
+use mathlib.Core.Bool.{Bool, true, false, _||_, _&&_, true≢false, false≢true}
+use native.Mathlib.Omega.{arith}
+use native.Mathlib.Nat.{zero-add, add-zero}
+use borrow.Author.Needs.{needs}
+use lib.ListN.{length, getD, set, length-set, length-append}
+use lib.Seq.{getD-set-same, getD-set-other}
+use lib.Dec.{eqb, leb, ltb}
+use borrow.Author.Tests.{lt-ltb, le-ltb, eqb-true, eqb-false, leb-true, leb-false, ltb-true, ltb-false, eq-eqb, ne-eqb}
+use Rattle.rules.proofs.TestLaws.{by-test, and-true, or-yes, or-no, or-assoc}
+use Rattle.rules.specs.declared.NextHop.{NextHop}
+use Rattle.rules.specs.declared.Ruling.{Ruling}
+use Rattle.rules.specs.declared.Ruling.the-variants.{Found, Absent}
+use Rattle.rules.specs.Settings as S
+use Rattle.handler.specs.Store.{keyAt, valueAt, rankAt, destAt, hopOf, hopAt, hopsFrom, Ordered, StandsFor}
+use Rattle.handler.specs.Insert.{storeKey, storeValue, metAt, PlaceFor, Shifted, PutIn, With, Inserted}
+use Rattle.handler.proofs.RulingLaws.{row-slide, hops-split, fold-append}
+
+-- the fields of a record are in range, as those read from octets are
+pub record Fitting (r : NextHop) : Type 0 where
+  pub serial-fits : r .serial < 4294967296
+  pub neighbour-fits : r .neighbour < 65536
+
+pub fitting : (v : List ℕ) → Fitting (S.hopOf v)
+fitting v = record { serial-fits = omega arith; neighbour-fits = omega arith }
+
+module _ (w : List ℕ) (n rank p : ℕ) where
+  pub met-past : n ≤ p → false ≡ metAt w n rank p
+  unfolding metAt
+  met-past h = simp (le-ltb p n h)
+
+  pub met-there : p < n → eqb (rankAt w p) rank ≡ metAt w n rank p
+  unfolding metAt
+  met-there h = simp (lt-ltb p n h)
+
+-- the loop of `place_for`
+pub above-one-more : (w : List ℕ) (n rank i : ℕ) → 0 < i → ((j : ℕ) → i ≤ j → j < n → rank ≤ rankAt w j) → rank ≤ getD w (2 + 2 * i) 0 / 65536 → (j : ℕ) → i - 1 ≤ j → j < n → rank ≤ rankAt w j
+above-one-more w n rank i p above h j a b = by-test (leb i j) (λ t. above j (leb-true i j t) b) here
+  where
+    here : leb i j ≡ false → rank ≤ rankAt w j
+    here f =
+        let m : j < i = leb-false i j f in
+        let e : 2 + 2 * i ≡ 4 + 2 * j = omega arith in
+        (rw e at h)
+
+pub below-it : (w : List ℕ) (rank i : ℕ) → getD w (2 + 2 * i) 0 / 65536 < rank → (j : ℕ) → suc j ≡ i → rankAt w j < rank
+below-it w rank i h j e =
+    let m : 2 + 2 * i ≡ 4 + 2 * j = omega arith in
+    (rw m at h)
+
+-- the loop of `shift`, from behind: the words from i on are moved
+pub record Shifting (w : List ℕ) (to i : ℕ) (v : List ℕ) : Type 0 where
+  pub size : length v ≡ length w
+  pub before : (j : ℕ) → j < i + 2 → getD v j 0 ≡ getD w j 0
+  pub moved : (j : ℕ) → i ≤ j → j < to → getD v (j + 2) 0 ≡ getD w j 0
+  pub beyond : (j : ℕ) → to + 2 ≤ j → getD v j 0 ≡ getD w j 0
+
+pub shifting-begin : (w : List ℕ) (to : ℕ) → Shifting w to to w
+shifting-begin w to = record { size = refl; before = λ j h. refl; moved = λ j a b. absurd (omega arith); beyond = λ j h. refl }
+
+pub shifting-on : (w : List ℕ) (to i : ℕ) (v : List ℕ) → 0 < i → i + 1 < length w → i ≤ to → Shifting w to i v → Shifting w to (i - 1) (set v (i + 1) (getD v (i - 1) 0))
+shifting-on w to i v p fits m s =
+    record {
+      size = length-set v (i + 1) (getD v (i - 1) 0) ∙ s .size;
+      before = λ j h. getD-set-other v (i + 1) j (getD v (i - 1) 0) 0 (λ e. absurd (omega arith)) ∙ s .before j (omega arith);
+      moved = λ j a b. by-test (eqb j (i - 1)) (here j) (other j a b);
+      beyond = λ j h. getD-set-other v (i + 1) j (getD v (i - 1) 0) 0 (λ e. absurd (omega arith)) ∙ s .beyond j h;
+    }
+  where
+    here : (j : ℕ) → eqb j (i - 1) ≡ true → getD (set v (i + 1) (getD v (i - 1) 0)) (j + 2) 0 ≡ getD w j 0
+    here j t =
+        let e : j ≡ i - 1 = eqb-true j (i - 1) t in
+        let f : i - 1 + 2 ≡ i + 1 = omega arith in
+        rw (e, f, getD-set-same v (i + 1) (getD v (i - 1) 0) 0 (omega (arith, s .size))) (s .before (i - 1) (omega arith))
+
+    other : (j : ℕ) → i - 1 ≤ j → j < to → eqb j (i - 1) ≡ false → getD (set v (i + 1) (getD v (i - 1) 0)) (j + 2) 0 ≡ getD w j 0
+    other j a b f =
+        let n : j ≡ i - 1 → ⊥ = eqb-false j (i - 1) f in
+        let k : i - 1 < j = by-test (leb j (i - 1)) (λ t. absurd (n (omega (arith, leb-true j (i - 1) t)))) (λ u. leb-false j (i - 1) u) in
+        getD-set-other v (i + 1) (j + 2) (getD v (i - 1) 0) 0 (λ e. absurd (omega arith)) ∙ s .moved j (omega arith) b
+
+pub shifting-end : (w : List ℕ) (from to i : ℕ) (v : List ℕ) → i ≡ from → Shifting w to i v → Shifted w from to v
+shifting-end w from to i v e s =
+    record { size = s .size; before = λ j h. s .before j (omega arith); moved = λ j a b. s .moved j (omega arith) b; beyond = s .beyond }
+
+-- the two ways out of `insert`
+module _ (w : List ℕ) (n key value p : ℕ) (place : PlaceFor w n (key / 65536) p) where
+  pub insert-refused : metAt w n (key / 65536) p ≡ true → Inserted w n key value false w
+  unfolding metAt
+  insert-refused m =
+      let b = and-true (ltb p n) (eqb (rankAt w p) (key / 65536)) m in
+      record { put-in = λ e. absurd (false≢true e); refused = λ e. (refl, (p, ltb-true p n (b .0), eqb-true (rankAt w p) (key / 65536) (b .1))) }
+
+  not-met : metAt w n (key / 65536) p ≡ false → p < n → key / 65536 < rankAt w p
+  not-met m h =
+      let e = eqb-false (rankAt w p) (key / 65536) (met-there w n (key / 65536) p h ∙ m) in
+      by-test (leb (rankAt w p) (key / 65536)) (λ t. absurd (e (omega (arith, leb-true (rankAt w p) (key / 65536) t, place .above p (omega arith) h)))) (λ f. leb-false (rankAt w p) (key / 65536) f)
+
+  pub insert-done : (v : List ℕ) → metAt w n (key / 65536) p ≡ false → PutIn w n key value p v → Inserted w n key value true v
+  insert-done v m put = record { put-in = λ e. (p, record { place = place; fresh = not-met m; put = put }); refused = λ e. absurd (true≢false e) }
+
+-- two words written where the records were moved up
+pub put-done : (w : List ℕ) (n key value p : ℕ) (v : List ℕ) → p ≤ n → 6 + 2 * n ≤ length w → Shifted w (4 + 2 * p) (4 + 2 * n) v → PutIn w n key value p (set (set v (4 + 2 * p) key) (5 + 2 * p) value)
+put-done w n key value p v within room s = record { shifted = all; here-key = one; here-value = two }
+  where
+    one : getD (set (set v (4 + 2 * p) key) (5 + 2 * p) value) (4 + 2 * p) 0 ≡ key
+    one =
+        getD-set-other (set v (4 + 2 * p) key) (5 + 2 * p) (4 + 2 * p) value 0 (λ e. absurd (omega arith)) ∙ getD-set-same v (4 + 2 * p) key 0 (omega (arith, s .size))
+
+    two : getD (set (set v (4 + 2 * p) key) (5 + 2 * p) value) (5 + 2 * p) 0 ≡ value
+    two = getD-set-same (set v (4 + 2 * p) key) (5 + 2 * p) value 0 (rw length-set (omega (arith, s .size)))
+
+    other : (j : ℕ) → (j ≡ 4 + 2 * p → ⊥) → (j ≡ 5 + 2 * p → ⊥) → getD (set (set v (4 + 2 * p) key) (5 + 2 * p) value) j 0 ≡ getD v j 0
+    other j a b = getD-set-other (set v (4 + 2 * p) key) (5 + 2 * p) j value 0 b ∙ getD-set-other v (4 + 2 * p) j key 0 a
+
+    all : Shifted w (4 + 2 * p) (4 + 2 * n) (set (set v (4 + 2 * p) key) (5 + 2 * p) value)
+    all =
+        record {
+          size = simp length-set (s .size);
+          before = λ j h. other j (λ e. absurd (omega arith)) (λ e. absurd (omega arith)) ∙ s .before j h;
+          moved = λ j a b. other (j + 2) (λ e. absurd (omega arith)) (λ e. absurd (omega arith)) ∙ s .moved j a b;
+          beyond = λ j h. other j (λ e. absurd (omega arith)) (λ e. absurd (omega arith)) ∙ s .beyond j h;
+        }
+
+by-place : {X : Type 0} (p i : ℕ) → (i < p → X) → (i ≡ p → X) → ((k : ℕ) → i ≡ suc k → p ≤ k → X) → X
+by-place p i a b c =
+    by-test (ltb i p) (λ t. a (ltb-true i p t)) (λ f.
+    let l = ltb-false i p f in
+    by-test (eqb i p) (λ t. b (eqb-true i p t)) (λ g. c (i - 1) (omega (arith, apart i p l (eqb-false i p g))) (omega (arith, apart i p l (eqb-false i p g)))))
+  where
+    apart : (i p : ℕ) → p ≤ i → (i ≡ p → ⊥) → p < i
+    apart i p l n = by-test (ltb p i) (ltb-true p i) (λ f. absurd (n (omega (arith, ltb-false p i f))))
+
+-- rows that agree
+row-same : (w v : List ℕ) (k i j : ℕ) → ((m : ℕ) → m < k → hopAt v (j + m) ≡ hopAt w (i + m)) → hopsFrom v j k ≡ hopsFrom w i k
+unfolding hopsFrom
+row-same w v zero i j h = refl
+row-same w v (suc k) i j h =
+    let e : hopAt v j ≡ hopAt w i = (rw (add-zero, add-zero) at (h 0 (omega arith))) in
+    let f : hopsFrom v (suc j) k ≡ hopsFrom w (suc i) k = row-same w v k (suc i) (suc j) (λ m b. next m b) in
+    cc
+  where
+    next : (m : ℕ) → m < k → hopAt v (suc j + m) ≡ hopAt w (suc i + m)
+    next m b =
+        let e : suc j + m ≡ j + suc m = omega arith in
+        let f : suc i + m ≡ i + suc m = omega arith in
+        rw (e, f) (h (suc m) (omega arith))
+
+met-append : (x : NextHop) (l m : List NextHop) → S.serialMet x (l ++ m) ≡ (S.serialMet x l || S.serialMet x m)
+unfolding S.serialMet
+met-append x [] m = refl
+met-append x (q ∷ l) m = rw (met-append x l m, or-assoc)
+
+or-turn : (a b c : Bool) → (a || (c || b)) ≡ ((a || b) || (c || false))
+or-turn true b c = refl
+or-turn false true true = refl
+or-turn false true false = refl
+or-turn false false true = refl
+or-turn false false false = refl
+
+module _ (w : List ℕ) (n key value p : ℕ) (v : List ℕ) (o : Ordered w n) (t : With w n key value p v) where
+  at-before : (i : ℕ) → i < p → (keyAt v i ≡ keyAt w i) × (valueAt v i ≡ valueAt w i)
+  at-before i h = (t .put .shifted .before (4 + 2 * i) (omega arith), t .put .shifted .before (5 + 2 * i) (omega arith))
+
+  at-moved : (k : ℕ) → p ≤ k → k < n → (keyAt v (suc k) ≡ keyAt w k) × (valueAt v (suc k) ≡ valueAt w k)
+  at-moved k a b =
+      let e : 4 + 2 * suc k ≡ 4 + 2 * k + 2 = omega arith in
+      let f : 5 + 2 * suc k ≡ 5 + 2 * k + 2 = omega arith in
+      (rw e (t .put .shifted .moved (4 + 2 * k) (omega arith) (omega arith)), rw f (t .put .shifted .moved (5 + 2 * k) (omega arith) (omega arith)))
+
+  at-beyond : (i : ℕ) → n < i → (keyAt v i ≡ keyAt w i) × (valueAt v i ≡ valueAt w i)
+  at-beyond i h = (t .put .shifted .beyond (4 + 2 * i) (omega arith), t .put .shifted .beyond (5 + 2 * i) (omega arith))
+
+  low : (i : ℕ) → i < p → rankAt w i < key / 65536
+  low i h =
+      let b = t .place .below (p - 1) (omega arith) in
+      by-test (ltb i (p - 1)) (λ u. omega (arith, b, o .rises i (p - 1) (ltb-true i (p - 1) u) (omega (arith, t .place .within)))) (λ f.
+      let e : i ≡ p - 1 = omega (arith, ltb-false i (p - 1) f) in
+      rw e b)
+
+  high : (k : ℕ) → p ≤ k → k < n → key / 65536 < rankAt w k
+  high k a b =
+      let f = t .fresh (omega arith) in
+      by-test (ltb p k) (λ u. omega (arith, f, o .rises p k (ltb-true p k u) b)) (λ g.
+      let e : k ≡ p = omega (arith, ltb-false p k g) in
+      rw e f)
+
+  pub in-order : n < 64 → Ordered v (suc n)
+  in-order few = record { few = few; rises = λ i j a b. rising i j a b }
+    where
+      rising : (i j : ℕ) → i < j → j < suc n → rankAt v i < rankAt v j
+      rising i j a b =
+          by-place p j
+          (λ l. omega (arith, at-before i (omega arith), at-before j l, o .rises i j a (omega (arith, t .place .within))))
+          (λ e. rw e (omega (arith, at-before i (omega arith), low i (omega arith), t .put .here-key)))
+          (λ k e l. rw e (over i k (omega arith) l (omega arith)))
+        where
+          over : (i k : ℕ) → i ≤ k → p ≤ k → k < n → rankAt v i < rankAt v (suc k)
+          over i k a l b =
+              by-place p i
+              (λ m. omega (arith, at-before i m, at-moved k l b, low i m, high k l b))
+              (λ e. rw e (omega (arith, t .put .here-key, at-moved k l b, high k l b)))
+              (λ m e g. rw e (omega (arith, at-moved m g (omega arith), at-moved k l b, o .rises m k (omega arith) b)))
+
+  hop-before : (i : ℕ) → i < p → hopAt v i ≡ hopAt w i
+  unfolding hopAt
+  hop-before i h = rw (at-before i h .0, at-before i h .1)
+
+  hop-moved : (k : ℕ) → p ≤ k → k < n → hopAt v (suc k) ≡ hopAt w k
+  unfolding hopAt
+  hop-moved k a b = rw (at-moved k a b .0, at-moved k a b .1)
+
+  moved-on : (m : ℕ) → m < n - p → hopAt v (suc p + m) ≡ hopAt w (p + m)
+  moved-on m b =
+      let e : suc p + m ≡ suc (p + m) = omega arith in
+      rw e (hop-moved (p + m) (omega arith) (omega arith))
+
+  -- the records with the new one in its place
+  module _ (r : NextHop) (is-r : hopAt v p ≡ r) where
+    hops-with : hopsFrom v 0 (suc n) ≡ hopsFrom w 0 p ++ (r ∷ hopsFrom w p (n - p))
+    unfolding hopsFrom
+    hops-with =
+        let a : suc n ≡ p + suc (n - p) = omega (arith, t .place .within) in
+        let x : hopsFrom v 0 p ≡ hopsFrom w 0 p = row-same w v p 0 0 (λ m b. rw zero-add (hop-before m b)) in
+        let y : hopsFrom v (suc p) (n - p) ≡ hopsFrom w p (n - p) = row-same w v (n - p) p (suc p) moved-on in
+        ap (hopsFrom v 0) a ∙ hops-split v p 0 (suc (n - p)) ∙ rw (zero-add, x, y, is-r)
+
+    hops-without : hopsFrom w 0 n ≡ hopsFrom w 0 p ++ hopsFrom w p (n - p)
+    hops-without =
+        let a : n ≡ p + (n - p) = omega (arith, t .place .within) in
+        ap (hopsFrom w 0) a ∙ hops-split w p 0 (n - p) ∙ rw zero-add
+
+    ruling-with : ((j : ℕ) → j < n → hopAt w j .destination ≡ r .destination → hopAt w j .serial ≡ r .serial → ⊥) → (d : ℕ) → S.ruling (hopsFrom v 0 (suc n)) d ≡ S.newer d (S.ruling (hopsFrom w 0 n) d) r
+    unfolding S.ruling
+    ruling-with apart d =
+        ap (foldl (S.newer d) Absent) hops-with
+        ∙ fold-append (S.newer d) Absent (hopsFrom w 0 p) (r ∷ hopsFrom w p (n - p))
+        ∙ row-slide d w (n - p) p (foldl (S.newer d) Absent (hopsFrom w 0 p)) r (λ j a b. apart j (omega (arith, t .place .within)))
+        ∙ ap (λ (x : Ruling). S.newer d x r) (sym (ap (foldl (S.newer d) Absent) hops-without ∙ fold-append (S.newer d) Absent (hopsFrom w 0 p) (hopsFrom w p (n - p))))
+
+    met-with : (x : NextHop) → S.serialMet x (hopsFrom v 0 (suc n)) ≡ (S.serialMet x (hopsFrom w 0 n) || S.serialMet x (r ∷ []))
+    unfolding S.serialMet
+    met-with x =
+        ap (S.serialMet x) hops-with
+        ∙ met-append x (hopsFrom w 0 p) (r ∷ hopsFrom w p (n - p))
+        ∙ or-turn (S.serialMet x (hopsFrom w 0 p)) (S.serialMet x (hopsFrom w p (n - p))) (eqb (r .destination) (x .destination) && eqb (r .serial) (x .serial))
+        ∙ ap (λ (b : Bool). b || S.serialMet x (r ∷ [])) (sym (ap (S.serialMet x) hops-without ∙ met-append x (hopsFrom w 0 p) (hopsFrom w p (n - p))))
+
+hop-back : (r : NextHop) → Fitting r → hopOf (storeKey r) (storeValue r) ≡ r
+hop-back r f =
+    let a : storeKey r / 281474976710656 ≡ r .destination = omega (arith, f .serial-fits) in
+    let b : storeValue r % 65536 ≡ r .neighbour = omega (arith, f .neighbour-fits) in
+    let c : storeValue r / 65536 ≡ r .mac = omega (arith, f .neighbour-fits) in
+    let e : storeKey r / 65536 % 4294967296 ≡ r .serial = omega (arith, f .serial-fits) in
+    rw (a, b, c, e)
+
+-- rank and record: one of the other's
+rank-of : (w : List ℕ) (j : ℕ) (r : NextHop) → Fitting r → hopAt w j .destination ≡ r .destination → hopAt w j .serial ≡ r .serial → rankAt w j ≡ storeKey r / 65536
+unfolding hopAt
+rank-of w j r f x y = omega (arith, f .serial-fits)
+
+of-rank : (w : List ℕ) (j : ℕ) (r : NextHop) → Fitting r → rankAt w j ≡ storeKey r / 65536 → (hopAt w j .destination ≡ r .destination) × (hopAt w j .serial ≡ r .serial)
+unfolding hopAt
+of-rank w j r f e = (omega (arith, f .serial-fits), omega (arith, f .serial-fits))
+
+row-met : (w : List ℕ) (r : NextHop) (k i j : ℕ) → i ≤ j → j < i + k → hopAt w j .destination ≡ r .destination → hopAt w j .serial ≡ r .serial → S.serialMet r (hopsFrom w i k) ≡ true
+unfolding hopsFrom S.serialMet
+row-met w r zero i j a b x y = absurd (omega arith)
+row-met w r (suc k) i j a b x y = by-test (eqb i j) (λ t. here (eqb-true i j t)) (λ f. rw (row-met w r k (suc i) j (later (eqb-false i j f)) (omega arith) x y) (or-yes (eqb (hopAt w i .destination) (r .destination) && eqb (hopAt w i .serial) (r .serial))))
+  where
+    later : (i ≡ j → ⊥) → suc i ≤ j
+    later n = by-test (ltb i j) (ltb-true i j) (λ f. absurd (n (omega (arith, ltb-false i j f))))
+
+    here : i ≡ j → S.serialMet r (hopsFrom w i (suc k)) ≡ true
+    here e = rw (e, eq-eqb (hopAt w j .destination) (r .destination) x, eq-eqb (hopAt w j .serial) (r .serial) y)
+
+row-unmet : (w : List ℕ) (r : NextHop) (k i : ℕ) → ((j : ℕ) → i ≤ j → j < i + k → hopAt w j .destination ≡ r .destination → hopAt w j .serial ≡ r .serial → ⊥) → S.serialMet r (hopsFrom w i k) ≡ false
+unfolding hopsFrom S.serialMet
+row-unmet w r zero i h = refl
+row-unmet w r (suc k) i h =
+    rw (row-unmet w r k (suc i) (λ j a b. h j (omega arith) (omega arith)), or-no)
+    (by-test (eqb (hopAt w i .destination) (r .destination))
+    (λ t. rw (t, ne-eqb (hopAt w i .serial) (r .serial) (h i (omega arith) (omega arith) (eqb-true (hopAt w i .destination) (r .destination) t))))
+    (λ f. rw f))
+
+-- THE INSERTION: a record put in among records that stand for settings' makes them stand for these with it; it is refused exactly if
+-- its serial was met
+module _ (w : List ℕ) (n : ℕ) (r : NextHop) (v : List ℕ) (hops : List NextHop) (few : n < 64) (fits : Fitting r) (s : StandsFor w n hops) where
+  apart : (p : ℕ) → With w n (storeKey r) (storeValue r) p v → (j : ℕ) → j < n → hopAt w j .destination ≡ r .destination → hopAt w j .serial ≡ r .serial → ⊥
+  apart p t j h x y =
+      let e = rank-of w j r fits x y in
+      by-test (ltb j p) (λ u. absurd (omega (arith, e, low w n (storeKey r) (storeValue r) p v (s .ordered) t j (ltb-true j p u)))) (λ f. absurd (omega (arith, e, high w n (storeKey r) (storeValue r) p v (s .ordered) t j (ltb-false j p f) h)))
+
+  put-stands : (p : ℕ) → With w n (storeKey r) (storeValue r) p v → StandsFor v (suc n) (hops ++ (r ∷ []))
+  unfolding S.ruling hopAt
+  put-stands p t =
+      let is-r : hopAt v p ≡ r = rw (t .put .here-key, t .put .here-value) (hop-back r fits) in
+      record {
+        ordered = in-order w n (storeKey r) (storeValue r) p v (s .ordered) t few;
+        count = rw length-append (omega (arith, s .count));
+        same-ruling = λ d. fold-append (S.newer d) Absent hops (r ∷ []) ∙ ap (λ (x : Ruling). S.newer d x r) (s .same-ruling d) ∙ sym (ruling-with w n (storeKey r) (storeValue r) p v (s .ordered) t r is-r (apart p t) d);
+        same-met = λ x. met-append x hops (r ∷ []) ∙ ap (λ (b : Bool). b || S.serialMet x (r ∷ [])) (s .same-met x) ∙ sym (met-with w n (storeKey r) (storeValue r) p v (s .ordered) t r is-r x);
+      }
+
+  pub met-refused : Inserted w n (storeKey r) (storeValue r) false v → S.serialMet r hops ≡ true
+  met-refused i =
+      let t = i .refused refl in
+      let x = of-rank w (t .1 .0) r fits (t .1 .2) in
+      rw (s .same-met r, row-met w r n 0 (t .1 .0) (omega arith) (omega (arith, t .1 .1)) (x .0) (x .1))
+
+  pub unmet-put : Inserted w n (storeKey r) (storeValue r) true v → S.serialMet r hops ≡ false
+  unmet-put i =
+      let t = i .put-in refl in
+      rw (s .same-met r, row-unmet w r n 0 (λ j a c. apart (t .0) (t .1) j (omega arith)))
+
+  pub stands-more : Inserted w n (storeKey r) (storeValue r) true v → StandsFor v (suc n) (hops ++ (r ∷ []))
+  stands-more i = let t = i .put-in refl in put-stands (t .0) (t .1)
+
+-- words that agree from the first record on
+module _ (w v : List ℕ) (n : ℕ) (few : n ≤ 64) (same : (j : ℕ) → 4 ≤ j → j < 132 → getD v j 0 ≡ getD w j 0) where
+  hop-same : (i : ℕ) → i < n → hopAt v i ≡ hopAt w i
+  unfolding hopAt
+  hop-same i h = rw (same (4 + 2 * i) (omega arith) (omega arith), same (5 + 2 * i) (omega arith) (omega arith))
+
+  pub stands-same : (hops : List NextHop) → StandsFor w n hops → StandsFor v n hops
+  stands-same hops s =
+      let rows : hopsFrom v 0 n ≡ hopsFrom w 0 n = row-same w v n 0 0 (λ m b. rw zero-add (hop-same m b)) in
+      record {
+        ordered = record { few = few; rises = λ i j a b. omega (arith, same (4 + 2 * i) (omega arith) (omega arith), same (4 + 2 * j) (omega arith) (omega arith), s .ordered .rises i j a b) };
+        count = s .count;
+        same-ruling = λ d. rw rows (s .same-ruling d);
+        same-met = λ x. rw rows (s .same-met x);
+      }

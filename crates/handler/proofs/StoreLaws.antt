@@ -1,0 +1,218 @@
+-- A store as the code reads it: one law for each way out, over what the tests and calls before it say. By computation. Assumes nothing.
+use Prim.Native.Nat.{ℕ, _+_, _*_, _/_, _%_, _^_, _≤_, _<_}
+use mathlib.Core.Path.{_≡_, refl, sym, ap, _∙_}
+use mathlib.Core.List.{List}
+use mathlib.Core.Bool.{Bool, true, false, not, _&&_, true≢false}
+use native.Mathlib.Omega.{arith}
+use borrow.Author.Needs.{needs}
+use borrow.Author.Tests.{lt-ltb, le-ltb, le-leb, lt-leb, eq-eqb, ne-eqb, leb-true, not-true, not-false}
+use lib.Dec.{ltb, leb, eqb}
+use lib.ListN.{length, getD}
+use Rattle.rules.specs.Settings.{nicknameValid}
+use Rattle.rules.specs.declared.NextHop.{NextHop}
+use Rattle.rules.specs.declared.Ruling.{Ruling}
+use Rattle.rules.specs.declared.Ruling.the-variants.{Found, Absent}
+use Rattle.rules.proofs.TestLaws.{and-true, and-no}
+use Rattle.rules.specs.Answer as A
+use Rattle.rules.specs.Handling.{handledWith, outputAfter}
+use Rattle.rules.proofs.OctetLaws.{put-none}
+use Rattle.handler.specs.declared.answers.Handled.{Handled}
+use Rattle.handler.specs.declared.Routed.{Routed}
+use Rattle.handler.specs.declared.way.Own.{Own}
+use Rattle.handler.specs.declared.way.Told.{Told}
+use Rattle.handler.specs.declared.handling.Examined.{Examined}
+use Rattle.handler.specs.Shapes.{numbersOf, answerOf, routedOf, toldBy, ownOf, onlyFor, waysBy, Done}
+use Rattle.handler.specs.Tasks.{doneBy, askedBy, Examining}
+use Rattle.handler.proofs.StageLaws.{told-answer, told-after, tells}
+use Rattle.handler.specs.Store.{nicknameIn, countIn, valueAt, destAt, hopOf, hopAt, stepped, searched, lastAt, hintAt, placeIn, hopFor, waysIn, storeGood, handledIn, Whole, destOf}
+
+-- which words are good
+module _ (w : List ℕ) where
+  pub good-short : length w < 4 → false ≡ storeGood w
+  unfolding storeGood
+  good-short h = rw (lt-leb 4 (length w) h)
+
+  module _ (a : 4 ≤ length w) where
+    pub good-nobody : getD w 0 0 ≡ 0 → false ≡ storeGood w
+    unfolding storeGood
+    good-nobody h = rw (le-leb 4 (length w) a, h)
+
+    pub good-above : 0xFFBF < getD w 0 0 → false ≡ storeGood w
+    unfolding storeGood
+    good-above h = rw (le-leb 4 (length w) a, lt-leb (getD w 0 0) 0xFFBF h, and-no)
+
+    module _ (b : getD w 0 0 ≡ 0 → ⊥) (c : getD w 0 0 ≤ 0xFFBF) where
+      named : nicknameValid (nicknameIn w) ≡ true
+      named = rw (le-leb 1 (getD w 0 0) (omega (arith, b)), le-leb (getD w 0 0) 0xFFBF c)
+
+      pub good-many : 64 < getD w 3 0 → false ≡ storeGood w
+      unfolding storeGood
+      good-many h = rw (le-leb 4 (length w) a, named, lt-leb (getD w 3 0) 64 h)
+
+      pub good-so : getD w 3 0 ≤ 64 → leb (4 + 2 * getD w 3 0) (length w) ≡ storeGood w
+      unfolding storeGood
+      good-so h = rw (le-leb 4 (length w) a, named, le-leb (getD w 3 0) 64 h)
+
+pub good-whole : (w : List ℕ) → storeGood w ≡ true → Whole w
+unfolding storeGood
+good-whole w e =
+    let a = and-true (leb 4 (length w)) (nicknameValid (nicknameIn w) && (leb (countIn w) 64 && leb (4 + 2 * countIn w) (length w))) e in
+    let b = and-true (nicknameValid (nicknameIn w)) (leb (countIn w) 64 && leb (4 + 2 * countIn w) (length w)) (a .1) in
+    let c = and-true (leb (countIn w) 64) (leb (4 + 2 * countIn w) (length w)) (b .1) in
+    let n = and-true (leb 1 (nicknameIn w)) (leb (nicknameIn w) 0xFFBF) (b .0) in
+    record { named = omega (arith, leb-true (nicknameIn w) 0xFFBF (n .1)); few = leb-true (countIn w) 64 (c .0); long = leb-true (4 + 2 * countIn w) (length w) (c .1) }
+
+pub ruleset store-good-laws = (needs, good-short, good-nobody, good-above, good-many, good-so)
+
+-- the search
+module _ (w : List ℕ) (n d at half : ℕ) where
+  pub step-past : n ≤ at + half → at ≡ stepped w n d at half
+  unfolding stepped
+  step-past h = simp (le-ltb (at + half) n h)
+
+  module _ (a : at + half < n) (key : ℕ) (is : key ≡ destAt w (at + half)) where
+    pub step-up : key ≤ d → at + half ≡ stepped w n d at half
+    unfolding stepped
+    step-up h = simp (lt-ltb (at + half) n a, le-leb (destAt w (at + half)) d (rw is at h))
+
+    pub step-stay : d < key → at ≡ stepped w n d at half
+    unfolding stepped
+    step-stay h = simp (lt-ltb (at + half) n a, lt-leb (destAt w (at + half)) d (rw is at h))
+
+pub ruleset step-laws = (needs, step-past, step-up, step-stay)
+
+pub six-steps : (w : List ℕ) (n d a b c e f r : ℕ) → r ≡ stepped w n d f 1 → f ≡ stepped w n d e 2 → e ≡ stepped w n d c 4 → c ≡ stepped w n d b 8 → b ≡ stepped w n d a 16 → a ≡ stepped w n d 0 32 → r ≡ searched w n d
+six-steps w n d a b c e f r s t u v x y = rw (s, t, u, v, x, y)
+
+pub ruleset search-laws = (needs, six-steps)
+
+-- the last record of a destination
+module _ (w : List ℕ) (n d i : ℕ) where
+  pub last-past : n ≤ i → false ≡ lastAt w n d i
+  unfolding lastAt
+  last-past h = rw (le-ltb i n h)
+
+  module _ (a : i < n) (key : ℕ) (is : key ≡ destAt w i) where
+    pub last-other : (key ≡ d → ⊥) → false ≡ lastAt w n d i
+    unfolding lastAt
+    last-other h = rw (lt-ltb i n a, ← is, ne-eqb key d h)
+
+    module _ (b : key ≡ d) where
+      pub last-end : n ≤ i + 1 → true ≡ lastAt w n d i
+      unfolding lastAt
+      last-end h = rw (lt-ltb i n a, ← is, eq-eqb key d b, le-ltb (i + 1) n h)
+
+      pub last-next : i + 1 < n → (next : ℕ) → next ≡ destAt w (i + 1) → not (eqb next d) ≡ lastAt w n d i
+      unfolding lastAt
+      last-next h next e = rw (lt-ltb i n a, ← is, eq-eqb key d b, lt-ltb (i + 1) n h, e)
+
+pub ruleset last-at-laws = (needs, last-past, last-other, last-end, last-next)
+
+-- hints
+module _ (w : List ℕ) (d : ℕ) where
+  pub hint-none : length w < 164 → 0 ≡ hintAt w d
+  unfolding hintAt
+  hint-none h = rw (lt-leb 164 (length w) h)
+
+  pub hint-so : 164 ≤ length w → (r word shift : ℕ) → r ≡ word / 2 ^ shift % 64 → word ≡ getD w (132 + d % 256 / 8) 0 → shift ≡ d % 8 * 8 → r ≡ hintAt w d
+  unfolding hintAt
+  hint-so h r word shift e a b = rw (le-leb 164 (length w) h, ← a, ← b) e
+
+pub ruleset hint-at-laws = (needs, hint-none, hint-so)
+
+module _ (w : List ℕ) (n d i : ℕ) (e : i ≡ hintAt w d) (last : Bool) (is : last ≡ lastAt w n d i) where
+  pub place-hinted : last ≡ true → i ≡ placeIn w n d
+  unfolding placeIn
+  place-hinted t = rw (placeIn, ← e, ← is, t)
+
+  pub place-searched : last ≡ false → (r : ℕ) → r ≡ searched w n d → r ≡ placeIn w n d
+  unfolding placeIn
+  place-searched t r s = rw (placeIn, ← e, ← is, t) s
+
+pub ruleset place-in-laws = (needs, place-hinted, place-searched)
+
+-- the record there
+module _ (w : List ℕ) (n d i : ℕ) where
+  pub for-past : n ≤ i → Absent ≡ hopFor w n d i
+  unfolding hopFor
+  for-past h = rw (le-ltb i n h)
+
+  module _ (a : i < n) (key : ℕ) (is : key ≡ destAt w i) where
+    pub for-other : (key ≡ d → ⊥) → Absent ≡ hopFor w n d i
+    unfolding hopFor
+    for-other h = rw (lt-ltb i n a, ← is, ne-eqb key d h)
+
+    module _ (b : key ≡ d) (r : NextHop) (e : r ≡ hopOf (getD w (4 + 2 * i) 0) (getD w (5 + 2 * i) 0)) where
+      gone : r .neighbour ≡ valueAt w i % 65536
+      gone = ap (λ (x : NextHop). x .neighbour) e
+
+      pub for-withdrawn : r .neighbour ≡ 0 → Absent ≡ hopFor w n d i
+      unfolding hopFor
+      for-withdrawn h = rw (lt-ltb i n a, ← is, eq-eqb key d b, ← gone, h)
+
+      pub for-found : (r .neighbour ≡ 0 → ⊥) → Found r ≡ hopFor w n d i
+      unfolding hopFor hopAt
+      for-found h =
+          let there : (ltb i n && (eqb (destAt w i) d && not (eqb (valueAt w i % 65536) 0))) ≡ true = rw (lt-ltb i n a, ← is, eq-eqb key d b, ne-eqb (valueAt w i % 65536) 0 (λ z. h (gone ∙ z))) in
+          rw there (ap Found e)
+
+pub hop-made : (key value dest : ℕ) → dest ≡ destOf key
+    → _≡_ {A = NextHop} (record { destination = dest; neighbour = value % 65536; mac = value / 65536; serial = key / 65536 % 4294967296 }) (hopOf key value)
+hop-made key value dest e = rw e
+
+pub ruleset hop-of-laws = (needs, hop-made)
+
+pub ruleset hop-for-laws = (needs, for-past, for-other, for-withdrawn, for-found)
+
+pub next-so : (w : List ℕ) (n d i : ℕ) (r : Ruling) → r ≡ hopFor w n d i → i ≡ placeIn w n d → n ≡ countIn w → r ≡ hopFor w (countIn w) d (placeIn w (countIn w) d)
+next-so w n d i r e p c = e ∙ rw (p, c)
+
+module _ {w : List ℕ} (whole : Whole w) where
+  pub whole-named : getD w 0 0 < 65536
+  whole-named = whole .named
+
+  pub whole-four : 4 ≤ length w
+  whole-four = omega (arith, whole .long)
+
+  pub whole-long : (n : ℕ) → n ≡ countIn w → 4 + 2 * n ≤ length w
+  whole-long n e = omega (arith, whole .long)
+
+pub ruleset next-hop-laws = (needs, next-so, whole-four, whole-long, whole-named)
+
+pub ruleset store-told-laws = (needs, tells, whole-four)
+
+-- the call: a bad store, and a good one
+module _ (w clock f out : List ℕ) (ok : Bool) (is : ok ≡ storeGood w) where
+  module _ (n : not ok ≡ true) where
+    bad-is : handledIn w clock (length out) f ≡ A.dropped 1
+    unfolding handledIn
+    bad-is = rw (← is, not-true ok n)
+
+    pub bad-answer : (r : Handled) (told : Routed) → told ≡ toldBy r → r ≡ numbersOf (A.dropped 1) → told ≡ routedOf (handledIn w clock (length out) f)
+    bad-answer r told t e = t ∙ ap toldBy e ∙ sym (ap routedOf bad-is)
+
+    pub bad-after : out ≡ outputAfter out (handledIn w clock (length out) f)
+    bad-after = sym (ap (outputAfter out) bad-is ∙ put-none out 0)
+
+  module _ (n : not ok ≡ false) where
+    good-is : handledIn w clock (length out) f ≡ handledWith (waysIn w) clock (length out) f
+    unfolding handledIn
+    good-is = rw (← is, not-false ok n)
+
+    pub good-store : Whole w
+    good-store = good-whole w (sym is ∙ not-false ok n)
+
+    module _ (own : Own) (e : Examined) (t : Told) (d : ℕ) (r : Handled) (out′ : List ℕ) (done : Done (doneBy (waysBy t) clock f (e .header) (e .task)) r out out′)
+        (x : Examining own clock f (length out) e) (said : waysBy t ≡ onlyFor d (waysIn w)) (asks : d ≡ askedBy (e .header) (e .task)) (o : own ≡ ownOf (waysIn w)) where
+      pub good-answer : (told : Routed) → told ≡ toldBy r → told ≡ routedOf (handledIn w clock (length out) f)
+      good-answer told from = told-answer (waysIn w) clock f out own e t d r out′ done x said asks o told from ∙ sym (ap routedOf good-is)
+
+      pub good-after : out′ ≡ outputAfter out (handledIn w clock (length out) f)
+      good-after = told-after (waysIn w) clock f out own e t d r out′ done x said asks o ∙ sym (ap (outputAfter out) good-is)
+
+pub ruleset handle-prepared-laws = (needs, good-store, bad-answer, bad-after, good-answer, good-after)
+
+pub answer-only : (w clock f out : List ℕ) (told : Routed) → told ≡ routedOf (handledIn w clock (length out) f) → told .answer ≡ answerOf (handledIn w clock (length out) f)
+answer-only w clock f out told e = ap (λ (x : Routed). x .answer) e
+
+pub ruleset answer-only-laws = (needs, answer-only)

@@ -1,0 +1,12 @@
+-- `trill_handle_prepared` meets its contract, by that of `handle_prepared`. Assumes nothing.
+use Rattle.handler.proofs.StoreLaws.{answer-only-laws as laws}
+use Rattle.handler.proofs.trill_handle_prepared.Statement.{statement}
+use Rattle.handler.proofs.trill_handle_prepared.Tie as tie
+
+pub trill-handle-prepared-spec : {M : Type 1} → statement M
+trill-handle-prepared-spec =
+    tie.close
+    (tie.spec
+    (λ c κs. search laws)
+    (λ c. search laws)
+    (λ c. search laws))

@@ -1,0 +1,227 @@
+// Settings octets into a store: the fields judged and written in one pass, each record put in its place.
+use crate::judged;
+use rules::FieldRead;
+ghost use mathlib.Core.Path.{_≡_};
+ghost use Prim.Native.Nat.{_+_, _*_, _/_, _≤_, _<_};
+ghost use lib.ListN.{length};
+ghost use Rattle.rules.specs.Octets.{put};
+ghost use Rattle.rules.specs.Fields.{field};
+ghost use Rattle.rules.specs.Settings as S;
+ghost use Rattle.handler.specs.Store.{Stands, Roomy, Takes, Filled, Fills, Hinted};
+ghost use Rattle.handler.specs.Insert.{storeKey, storeValue, metAt, PlaceFor, Shifted, PutIn, Inserted};
+
+// From behind: records in order take one comparison each.
+fn place_for(w: &[u64], n: usize, rank: u64) -> usize
+    requires { ⌜ 4 + 2 * n ≤ length (now w) ⌝ }
+    ensures { λ r. ⌜ PlaceFor (now (w .entry)) n rank r ⌝ }
+{
+    let mut i = n;
+    while 0 < i {
+        if w[2 + 2 * i] >> 16 < rank {
+            return i;
+        }
+        i -= 1;
+    }
+    0
+}
+
+// Moves the words between two places two up.
+fn shift(w: &mut [u64], from: usize, to: usize)
+    requires { ⌜ (from ≤ to) × (to + 2 ≤ length (now w)) ⌝ }
+    ensures { λ _. ⌜ Shifted (now (w .entry)) from to (now (w .exit)) ⌝ }
+{
+    let mut i = to;
+    while from < i {
+        w[i + 1] = w[i - 1];
+        i -= 1;
+    }
+}
+
+fn met(w: &[u64], n: usize, rank: u64, p: usize) -> bool
+    requires { ⌜ 4 + 2 * n ≤ length (now w) ⌝ }
+    ensures { λ r. ⌜ r ≡ metAt (now (w .entry)) n rank p ⌝ }
+{
+    if n <= p {
+        return false;
+    }
+    w[4 + 2 * p] >> 16 == rank
+}
+
+// Whether the record could be put in: not where one of its destination has its serial.
+fn insert(w: &mut [u64], n: usize, key: u64, value: u64) -> bool
+    requires { ⌜ 6 + 2 * n ≤ length (now w) ⌝ }
+    ensures { λ r. ⌜ Inserted (now (w .entry)) n key value r (now (w .exit)) ⌝ }
+{
+    let p = place_for(w, n, key >> 16);
+    if met(w, n, key >> 16, p) {
+        return false;
+    }
+    put_at(w, n, key, value, p);
+    true
+}
+
+// At a place among the first n records.
+fn put_at(w: &mut [u64], n: usize, key: u64, value: u64, p: usize)
+    requires { ⌜ (p ≤ n) × (6 + 2 * n ≤ length (now w)) ⌝ }
+    ensures { λ _. ⌜ PutIn (now (w .entry)) n key value p (now (w .exit)) ⌝ }
+{
+    shift(w, 4 + 2 * p, 4 + 2 * n);
+    w[4 + 2 * p] = key;
+    w[5 + 2 * p] = value;
+}
+
+fn key_of(v: &[u8]) -> u64
+    ensures { λ r. ⌜ r ≡ storeKey (S.hopOf (now (v .entry))) ⌝ }
+{
+    judged::key_of(v) << 16
+}
+
+fn value_of(v: &[u8]) -> u64
+    ensures { λ r. ⌜ r ≡ storeValue (S.hopOf (now (v .entry))) ⌝ }
+{
+    octets::be48(v, 4) << 16 | octets::be16(v, 2) as u64
+}
+
+// One more record.
+fn admit(w: &mut [u64], v: &[u8]) -> bool
+    requires { ⌜ Roomy (now w) ⌝ }
+    ensures { λ r. ⌜ Takes (now (w .entry)) (field 2 (now (v .entry))) r (now (w .exit)) ⌝ }
+{
+    if v.len() != 14 {
+        return false;
+    }
+    if !octets::hop_good(v) {
+        return false;
+    }
+    let n = w[3] as usize;
+    if n == 64 {
+        return false;
+    }
+    if !insert(w, n, key_of(v), value_of(v)) {
+        return false;
+    }
+    w[3] = n as u64 + 1;
+    true
+}
+
+// A strip flag; no other field goes with settings.
+fn flag(w: &mut [u64], tag: u8, v: &[u8]) -> bool
+    requires { ⌜ Roomy (now w) × (tag ≡ 2 → ⊥) ⌝ }
+    ensures { λ r. ⌜ Takes (now (w .entry)) (field tag (now (v .entry))) r (now (w .exit)) ⌝ }
+{
+    if !judged::flag_good(tag, v) {
+        return false;
+    }
+    w[2] = octets::octet(v, 0) as u64;
+    true
+}
+
+fn take(w: &mut [u64], tag: u8, v: &[u8]) -> bool
+    requires { ⌜ Roomy (now w) ⌝ }
+    ensures { λ r. ⌜ Takes (now (w .entry)) (field tag (now (v .entry))) r (now (w .exit)) ⌝ }
+{
+    if tag == 2 {
+        return admit(w, v);
+    }
+    flag(w, tag, v)
+}
+
+fn fill_from(s: &[u8], from: usize, w: &mut [u64]) -> bool
+    requires { ⌜ (from ≤ length (now s)) × Roomy (now w) ⌝ }
+    ensures { λ r. ⌜ Fills (now (s .entry)) from (now (w .entry)) r (now (w .exit)) ⌝ }
+{
+    let mut at = from;
+    while at < s.len() {
+        let FieldRead::Taken {
+            tag,
+            length: _,
+            next,
+        } = octets::field_at(s, at)
+        else {
+            return false;
+        };
+        if !take(w, tag, &s[at + 3..next]) {
+            return false;
+        }
+        at = next;
+    }
+    true
+}
+
+// The switch, with no record and no flag yet.
+fn open(w: &mut [u64], v: &[u8])
+    requires { ⌜ length (now w) ≡ 164 ⌝ }
+    ensures { λ _. ⌜ Stands (now (w .exit)) (S.switchOf (now (v .entry))) × Roomy (now (w .exit)) ⌝ }
+{
+    w[0] = octets::be16(v, 0) as u64;
+    w[1] = octets::be48(v, 2) << 16 | 0x22F3;
+    w[2] = 0;
+    w[3] = 0;
+}
+
+// A word with one of its eight hints set.
+fn hinted(word: u64, shift: u32, hint: u64) -> u64
+    requires { ⌜ (shift < 64) × (hint < 64) ⌝ }
+{
+    word & !(255 << shift) | hint << shift
+}
+
+// The hint of a destination is its last record.
+fn hint_all(w: &mut [u64])
+    requires { ⌜ Roomy (now w) ⌝ }
+    ensures { λ _. ⌜ Hinted (now (w .entry)) (now (w .exit)) ⌝ }
+{
+    let n = w[3];
+    let mut i = 0;
+    while i < n {
+        let d = w[4 + 2 * i as usize] >> 48;
+        let k = 132 + (d % 256 / 8) as usize;
+        w[k] = hinted(w[k], (d % 8 * 8) as u32, i);
+        i += 1;
+    }
+}
+
+// Whether the settings are good; then the words stand for them.
+pub fn prepare(s: &[u8], w: &mut [u64]) -> bool
+    requires { ⌜ length (now w) ≡ 164 ⌝ }
+    ensures { λ r. ⌜ Filled (now (w .exit)) (S.settingsOf (now (s .entry))) r × (length (now (w .exit)) ≡ 164) ⌝ }
+{
+    let FieldRead::Taken {
+        tag,
+        length: _,
+        next,
+    } = octets::field_at(s, 0)
+    else {
+        return false;
+    };
+    let v = &s[3..next];
+    if !judged::opens(tag, v) {
+        return false;
+    }
+    open(w, v);
+    fill(s, next, w)
+}
+
+// The fields from a place on, and the hints.
+fn fill(s: &[u8], from: usize, w: &mut [u64]) -> bool
+    requires { ⌜ (from ≤ length (now s)) × Roomy (now w) ⌝ }
+    ensures { λ r. ⌜ Fills (now (s .entry)) from (now (w .entry)) r (now (w .exit)) ⌝ }
+{
+    if !fill_from(s, from, w) {
+        return false;
+    }
+    hint_all(w);
+    true
+}
+
+// Writes the words at the start of a store.
+pub fn copy(store: &mut [u64], w: &[u64])
+    requires { ⌜ length (now w) ≤ length (now store) ⌝ }
+    ensures { λ _. ⌜ now (store .exit) ≡ put (now (store .entry)) 0 (now (w .entry)) ⌝ }
+{
+    let mut i = 0;
+    while i < w.len() {
+        store[i] = w[i];
+        i += 1;
+    }
+}
