@@ -13,6 +13,7 @@ pub mod FieldWalks
 pub mod ChannelLaws
 pub mod StageLaws
 pub mod StoreLaws
+pub mod WayOutLaws
 pub mod RulingLaws
 pub mod LookupLaws
 pub mod InsertLaws

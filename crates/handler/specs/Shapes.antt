@@ -15,6 +15,7 @@ use Rattle.rules.specs.Options as O
 use Rattle.rules.specs.Options.{OptionRead, Taken, Fault, Options, options, fault, some-key, hopByHopCritical, ingressToEgressCritical, keptOptions, octetsOf, stripped}
 use Rattle.rules.specs.Channel.{allEgressRBridges, ethertypeChannel, ethertypeIsIs}
 use Rattle.rules.specs.Answer as A
+use Rattle.rules.specs.WayOut as W
 use Rattle.rules.specs.declared.Ruling.{Ruling}
 use Rattle.rules.specs.declared.Ruling.the-variants.{Found, Absent}
 use Rattle.rules.specs.declared.Header.{Header}
@@ -26,6 +27,7 @@ use Rattle.handler.specs.declared.way.Own.{Own}
 use Rattle.handler.specs.declared.way.Told.{Told}
 use Rattle.handler.specs.declared.way.Way.{Way}
 use Rattle.handler.specs.declared.way.Way.the-variants.{Via, NoWay}
+use Rattle.handler.specs.declared.way.WayOut.{WayOut}
 use Rattle.handler.specs.declared.options.Cursor.{Cursor}
 use Rattle.handler.specs.declared.options.AreaRead.{AreaRead}
 use Rattle.handler.specs.declared.options.AreaRead.the-variants.{Read, Faulty}
@@ -78,6 +80,16 @@ linkBy S (Found r) = link S r
 
 abbrev pub Linked : Ways → Ruling → List ℕ → Way → List ℕ → Type 0
 Linked S R out w out1 = (w ≡ wayBy S R) × (out1 ≡ put out 0 (linkBy S R))
+
+-- the answer where no link header fits
+abbrev pub shortBy : Ruling → ℕ
+shortBy Absent = 21
+shortBy (Found r) = 2
+
+-- the answer of whoever asks for the way out, and the buffer after it
+pub record WayDone (a : W.WayOut) (r : WayOut) (out out′ : List ℕ) : Type 0 where
+  pub answer : r ≡ record { number = a .number; length = length (a .octets) }
+  pub after : out′ ≡ put out 0 (a .octets)
 
 -- the cursor behind an option that was read, or the fault
 abbrev pub readBy : Cursor → OptionRead → AreaRead

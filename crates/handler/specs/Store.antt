@@ -11,6 +11,7 @@ use Rattle.rules.specs.Fields.{Field, fieldsFrom}
 use Rattle.rules.specs.Settings as S
 use Rattle.rules.specs.Handling.{handledWith, handled}
 use Rattle.rules.specs.Answer as A
+use Rattle.rules.specs.WayOut.{WayOut, noWay, wayOutBy, wayOut}
 use Rattle.rules.specs.declared.NextHop.{NextHop}
 use Rattle.rules.specs.declared.Ruling.{Ruling}
 use Rattle.rules.specs.declared.Ruling.the-variants.{Found, Absent}
@@ -158,3 +159,7 @@ pub record Prepared (settings store store′ : List ℕ) (r : ℕ) : Type 0 wher
   pub says : (T : S.Settings) → r ≡ 0 → S.settingsOf settings ≡ some T → (storeGood store′ ≡ true) × (waysIn store′ ≡ S.waysOf T)
   pub handles : r ≡ 0 → (clock : List ℕ) (room : ℕ) (f : List ℕ) → handledIn store′ clock room f ≡ handled settings clock room f
   pub beyond : drop storeWords store′ ≡ drop storeWords store
+
+-- the way out by a store
+unfoldable pub wayOutIn : List ℕ → ℕ → ℕ → WayOut
+wayOutIn w destination room = if storeGood w then wayOutBy (waysIn w) destination room else noWay 1

@@ -13,12 +13,14 @@ mod store;
 mod treatment;
 mod way;
 
+use crate::way::WayOut;
 ghost use mathlib.Core.Path.{_≡_};
 ghost use lib.ListN.{length};
 ghost use Rattle.rules.specs.Settings.{settingsRead, waysOf};
+ghost use Rattle.rules.specs.WayOut.{wayOut};
 ghost use Rattle.rules.specs.Handling.{handled, handledWith, outputAfter, partOf};
-ghost use Rattle.handler.specs.Store.{handledIn, Prepared};
-ghost use Rattle.handler.specs.Shapes.{answerOf, routedOf, toldBy};
+ghost use Rattle.handler.specs.Store.{handledIn, wayOutIn, Prepared};
+ghost use Rattle.handler.specs.Shapes.{answerOf, routedOf, toldBy, WayDone};
 
 // What the C driver is answered.
 #[repr(C)]
@@ -130,4 +132,27 @@ pub extern "C" fn trill_handle_prepared(
         × (now (out .exit) ≡ outputAfter (now (out .entry)) (handledIn (now (store .entry)) (now (clock .entry)) (length (now (out .entry))) (now (frame .entry)))) ⌝ }
 {
     handle_prepared(frame, store, clock, out).answer
+}
+
+// T-11: the link header towards a destination; 1, 21 or 2 where there is none.
+#[no_mangle]
+pub extern "C" fn trill_way_out(settings: &[u8], destination: u16, out: &mut [u8]) -> WayOut
+    ensures { λ r. ⌜ WayDone (wayOut (now (settings .entry)) destination (length (now (out .entry)))) r (now (out .entry)) (now (out .exit)) ⌝ }
+{
+    if !judged::settings_good(settings) {
+        return way::no_way(1);
+    }
+    let own = settings::own_of(settings);
+    way::way_out(settings::told(settings, own, destination), out)
+}
+
+#[no_mangle]
+pub extern "C" fn trill_way_out_prepared(store: &[u64], destination: u16, out: &mut [u8]) -> WayOut
+    ensures { λ r. ⌜ WayDone (wayOutIn (now (store .entry)) destination (length (now (out .entry)))) r (now (out .entry)) (now (out .exit)) ⌝ }
+{
+    if !store::good(store) {
+        return way::no_way(1);
+    }
+    let own = store::own_of(store);
+    way::way_out(store::told(store, own, destination), out)
 }

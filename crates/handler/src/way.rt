@@ -4,7 +4,8 @@ ghost use mathlib.Core.Path.{_≡_};
 ghost use Prim.Native.Nat.{_≤_};
 ghost use lib.ListN.{length};
 ghost use Rattle.rules.specs.Channel.{returnPath};
-ghost use Rattle.handler.specs.Shapes.{linkOctets, waysBy, Linked};
+ghost use Rattle.rules.specs.WayOut.{wayOutBy};
+ghost use Rattle.handler.specs.Shapes.{linkOctets, waysBy, Linked, shortBy, WayDone};
 
 // Own nickname and MAC.
 pub struct Own {
@@ -74,4 +75,51 @@ pub fn write_return(t: Told, ingress: u16, out: &mut [u8]) -> Way
         return Way::NoWay;
     }
     write_link(t, out)
+}
+
+// What a caller who asks for the way out is answered.
+#[repr(C)]
+pub struct WayOut {
+    pub number: u32,
+    pub length: u32,
+}
+
+pub fn no_way(number: u32) -> WayOut
+    ensures { λ r. ⌜ r ≡ record { number = number; length = 0 } ⌝ }
+{
+    WayOut {
+        number: number,
+        length: 0,
+    }
+}
+
+// 21 comes before 2.
+fn too_short(t: Told) -> WayOut
+    ensures { λ r. ⌜ r ≡ record { number = shortBy (t .hop); length = 0 } ⌝ }
+{
+    let hop = t.hop;
+    match hop {
+        Ruling::Found(_) => no_way(2),
+        Ruling::Absent => no_way(21),
+    }
+}
+
+// The link header of the record that rules, written where it fits.
+pub fn way_out(t: Told, out: &mut [u8]) -> WayOut
+    ensures { λ r. ⌜ WayDone (wayOutBy (waysBy t) 0 (length (now (out .entry)))) r (now (out .entry)) (now (out .exit)) ⌝ }
+{
+    if out.len() < 14 {
+        return too_short(t);
+    }
+    let Way::Via {
+        neighbour: _,
+        length,
+    } = write_link(t, out)
+    else {
+        return no_way(21);
+    };
+    WayOut {
+        number: 0,
+        length: length as u32,
+    }
 }

@@ -8,6 +8,7 @@ pub mod Options
 pub mod Answer
 pub mod Channel
 pub mod Handling
+pub mod WayOut
 pub mod Campus
 pub mod Demand
 pub mod Text

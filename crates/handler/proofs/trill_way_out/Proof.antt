@@ -1,0 +1,17 @@
+-- `handler::trill_way_out` meets its contract: bad settings are 1, and good ones tell the way out.
+use Rattle.handler.proofs.WayOutLaws.{trill-way-out-laws as laws}
+use Rattle.handler.proofs.trill_way_out.Statement.{statement}
+use Rattle.handler.proofs.trill_way_out.Tie as tie
+
+pub trill-way-out-spec : {M : Type 1} → statement M
+trill-way-out-spec =
+    tie.close
+    (tie.spec
+    (λ c κs. search laws)
+    (λ c κs. search laws)
+    (λ c. search laws)
+    (λ c κs. search laws)
+    (λ c κs. search laws)
+    (λ c κs. search laws)
+    (λ c. search laws)
+    (λ c. search laws))
