@@ -1,7 +1,10 @@
 /*
  * Staffripple: one proved TRILL frame handler, and a campus of such switches, for C11 and C++.
  *
- * "Document 01" is the paper of rules that the library is proved to follow. What holds of every call:
+ * For unicast TRILL Data frames on Ethernet links: RFC 6325, header options by draft-ietf-trill-rbridge-options-03,
+ * RBridge Channel by RFC 7178, and echo by draft-yizhou-trill-multi-destination-ping-00, as the customer's "document
+ * 01" condenses them. No ingress encapsulation, no multi-destination frames, no PPP links, no IS-IS, no learning of
+ * addresses; the tag of a link header is read and not kept. What holds of every call:
  *
  *   - It takes every octet string of every length, ends, and gives one of the answers named here.
  *   - It keeps nothing between calls: no state, no heap, no input or output. So it is reentrant, and any
@@ -19,6 +22,9 @@
 
 #include <stddef.h>
 #include <stdint.h>
+
+#define STAFFRIPPLE_VERSION "0.1.0"
+#define STAFFRIPPLE_KIT "rattle-kit-5b logic 064da1ca440f63e7" /* the Rattle kit that it was made with */
 
 #ifdef __cplusplus
 extern "C" {
@@ -70,7 +76,7 @@ extern "C" {
     ANSWER(TRILL_FORWARDED, 50, "forwarded")                                                               \
     /* The inner frame is delivered: start and length say where it is in the frame. Nothing is written. */ \
     ANSWER(TRILL_DELIVERED, 51, "delivered")                                                               \
-    ANSWER(TRILL_HANDED_UP, 52, "handed up: inner Ethertype 0x22F4")                                       \
+    ANSWER(TRILL_HANDED_UP, 52, "handed up: inner DA All-Egress-RBridges, Ethertype 0x22F4")               \
     /* A reply to the ingress is written. */                                                               \
     ANSWER(TRILL_ERROR_REPLY, 53, "channel fault: error reply")                                            \
     ANSWER(TRILL_ECHO_REPLY, 54, "echo request: echo reply")                                               \
@@ -119,8 +125,9 @@ struct trill_answer {
  *               tag 3, length 1    strip flag, 0 or 1: the last one counts, 0 if there is none. With 1 a forwarded
  *                                  frame loses its unknown mutable hop-by-hop options (IE 0, NC 1, MT 1; not a
  *                                  pad, nor a Flow ID of Length 2)
- *             Anything else is bad settings; document 01 has the rules of the values. Of a destination's
- *             records the one with the greatest serial rules.
+ *             Nicknames are 0x0001 to 0xFFBF. MACs are individual (the low bit of the first octet is 0) and not
+ *             all zero, in a withdrawal too. Of a destination's records the one with the greatest serial rules;
+ *             no two of them have the same. A neighbour may be the switch itself. Anything else is bad settings.
  *   clock     TRILL_CLOCK octets, put into the time received of an echo reply
  *   out       at least TRILL_OUTPUT_LEAST octets
  *

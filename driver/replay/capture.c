@@ -4,6 +4,7 @@
 #include <inttypes.h>
 #include <stdarg.h>
 #include <string.h>
+#include <unistd.h>
 
 #include "staffripple.h"
 
@@ -146,9 +147,50 @@ enum capture_status capture_next(struct capture_input *input, struct capture_rec
     return CAPTURE_READ;
 }
 
-bool capture_create(struct capture_output *output, FILE *file, const struct capture_format *format)
+/* Writes octets and answers how many were written: fewer if writing failed, and errno says why. */
+static size_t write_octets(int file, const uint8_t *octets, size_t length)
 {
-    *output = (struct capture_output){.file = file, .format = *format};
+    size_t done = 0;
+    while (done < length) {
+        ssize_t written = write(file, octets + done, length - done);
+        if (written < 0 && errno != EINTR)
+            break;
+        done += written > 0 ? (size_t)written : 0;
+    }
+    return done;
+}
+
+/* Counts the whole records among the octets written, and takes a part of one off the file's end. */
+static void count_records(struct capture_output *output, size_t written)
+{
+    size_t place = 0;
+    while (place + RECORD_HEADER <= written) {
+        uint32_t length = get32(&output->format, output->records + place + 8);
+        if (length > written - place - RECORD_HEADER)
+            break;
+        output->frames++;
+        output->octets += length;
+        place += RECORD_HEADER + length;
+    }
+    int cause = errno;
+    off_t end = place < written ? lseek(output->file, 0, SEEK_CUR) : -1;
+    if (end >= 0 && ftruncate(output->file, end - (off_t)(written - place)) != 0)
+        end = -1; /* the part stays, and a reader finds it cut short */
+    errno = cause;
+}
+
+bool capture_flush(struct capture_output *output)
+{
+    size_t held = output->held, written = write_octets(output->file, output->records, held);
+    output->held = 0;
+    count_records(output, written);
+    return written == held;
+}
+
+bool capture_create(struct capture_output *output, int file, const struct capture_format *format)
+{
+    output->file = file;
+    output->format = *format;
     uint8_t header[FILE_HEADER];
     uint32_t version = format->big_endian ? VERSION_MAJOR << 16 | VERSION_MINOR : VERSION_MINOR << 16 | VERSION_MAJOR;
     put32(format, header, format->nanoseconds ? MAGIC_NANOSECONDS : MAGIC_MICROSECONDS);
@@ -157,20 +199,20 @@ bool capture_create(struct capture_output *output, FILE *file, const struct capt
     put32(format, header + 12, format->accuracy);
     put32(format, header + 16, TRILL_FRAME_MOST);
     put32(format, header + 20, LINKTYPE_ETHERNET);
-    return fwrite(header, sizeof header, 1, file) == 1;
+    return write_octets(file, header, sizeof header) == sizeof header;
 }
 
 bool capture_write(struct capture_output *output, const struct capture_record *stamp, const uint8_t *frame,
                    uint32_t length)
 {
-    uint8_t header[RECORD_HEADER];
-    put32(&output->format, header, stamp->seconds);
-    put32(&output->format, header + 4, stamp->fraction);
-    put32(&output->format, header + 8, length);
-    put32(&output->format, header + 12, length);
-    if (fwrite(header, sizeof header, 1, output->file) != 1 || fwrite(frame, 1, length, output->file) != length)
+    if (sizeof output->records - output->held < RECORD_HEADER + length && !capture_flush(output))
         return false;
-    output->frames++;
-    output->octets += length;
+    uint8_t *record = output->records + output->held;
+    put32(&output->format, record, stamp->seconds);
+    put32(&output->format, record + 4, stamp->fraction);
+    put32(&output->format, record + 8, length);
+    put32(&output->format, record + 12, length);
+    memcpy(record + RECORD_HEADER, frame, length);
+    output->held += RECORD_HEADER + length;
     return true;
 }

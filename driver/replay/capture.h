@@ -9,6 +9,7 @@
 
 enum {
     CAPTURE_FRAME_MOST = 262144, /* the longest captured frame that other tools write, too */
+    CAPTURE_HELD = 262144,       /* octets that wait to be written together */
     CAPTURE_ERROR = 200
 };
 
@@ -37,9 +38,11 @@ struct capture_record {
 enum capture_status { CAPTURE_READ, CAPTURE_END, CAPTURE_DAMAGED };
 
 struct capture_output {
-    FILE *file;
+    int file;
     struct capture_format format;
-    uint64_t frames, octets; /* written so far, record headers not counted */
+    uint64_t frames, octets; /* in whole records that are written; record headers are not counted */
+    size_t held;
+    uint8_t records[CAPTURE_HELD];
 };
 
 /* Reads the file header; false, with an error, if it is not one of a capture that can be read. */
@@ -48,9 +51,13 @@ bool capture_begin(struct capture_input *input, FILE *file);
 /* Reads the next record, CAPTURE_END if there is none, CAPTURE_DAMAGED with an error if it is not whole. */
 enum capture_status capture_next(struct capture_input *input, struct capture_record *record);
 
-/* Writes a file header, a record with the time stamp of another; false if writing failed, errno says why. */
-bool capture_create(struct capture_output *output, FILE *file, const struct capture_format *format);
+/*
+ * Write a file header, a record with the time stamp of another, and what is held; false if writing failed, and errno
+ * says why. Then nothing is held any more, and a file has no part of a record at its end.
+ */
+bool capture_create(struct capture_output *output, int file, const struct capture_format *format);
 bool capture_write(struct capture_output *output, const struct capture_record *stamp, const uint8_t *frame,
                    uint32_t length);
+bool capture_flush(struct capture_output *output);
 
 #endif

@@ -1,8 +1,9 @@
 #!/bin/sh
-# Tests of the replay tool given: captures are made from hex text and its output is compared octet by octet.
+# Tests of the replay tool given, of the version given: captures are made from hex text and its output is compared octet by octet.
 # Prints `ok NAME` or `not ok NAME: WHY` for each.
 set -u
 tool=$(cd "$(dirname "$1")" && pwd)/$(basename "$1")
+version=$2
 dir=$(mktemp -d) || exit 1
 trap 'rm -rf "$dir"' EXIT
 cd "$dir" || exit 1
@@ -263,33 +264,75 @@ judge 'the output is the settings file' complained 'trill-replay: ./strip.txt: i
 
 # ---- Settings and words that are refused ----
 
-# settings NAME MESSAGE TEXT
+# settings NAME STATUS MESSAGE TEXT
 settings() {
-    printf '%b' "$3" > wrong
-    run 1 wrong in-micro-le.pcap kept
-    judge "settings, $1" kept older complained "trill-replay: wrong: $2" said ''
+    printf '%b' "$4" > wrong
+    run "$2" wrong in-micro-le.pcap kept
+    judge "settings, $1" kept older complained "$3" said ''
 }
-settings 'no hex digit' 'line 2, column 4: octet 47 is no hex digit (and raw settings begin with octet 01)' '# 0G\n01 G'
-settings 'half an octet' 'line 1, column 7: an octet of one digit' '01 00 8\n'
-settings 'half an octet at a comment' 'line 1, column 4: an octet of one digit' '01 0# a\n'
-settings 'half an octet at the end' 'line 2, column 1: an octet of one digit' '01\n0'
-settings 'nothing' 'no settings in it' '# nothing\n'
-settings 'a bad field' 'line 3: field 2, at octet 11, with tag 2: bad settings by document 01' \
+bad='(1: settings bad, or clock not six octets)'
+settings 'no hex digit' 2 "wrong:2: 'G' is not a hex digit" '# 0G\n01 G'
+settings 'half an octet' 2 "wrong:1: odd number of hex digits in '8'" '01 00 8\n'
+settings 'half an octet at a comment' 2 "wrong:1: odd number of hex digits in '0'" '01 0# a\n'
+settings 'half an octet at the end' 2 "wrong:2: odd number of hex digits in '0'" '01\n0'
+settings 'nothing' 3 "wrong:1: no switch (tag 1) $bad" '# nothing\n'
+settings 'a destination 0' 3 "wrong:3: field 2 (tag 2): destination 0000; wanted: 0001 to FFBF $bad" \
     "# a\n$switch\n02 000E 0000 0005 020000000005 00000001\n"
-settings 'a field cut short' 'line 2: field 2, at octet 11, with tag 3: bad settings by document 01' "$switch\n03 00"
-settings 'a bad switch' 'line 1: field 1, at octet 0, with tag 1: bad settings by document 01' '01 0008 FFC0 020000000001'
+settings 'a neighbour out of range' 3 "wrong:2: field 2 (tag 2): neighbour FFC0; wanted: 0000 to FFBF $bad" \
+    "$switch\n02 000E 0009 FFC0 020000000005 00000001\n"
+settings 'a group MAC' 3 "wrong:2: field 2 (tag 2): neighbour's MAC 030000000005 is a group address; wanted: individual, not all zero $bad" \
+    "$switch\n02 000E 0009 0005 030000000005 00000001\n"
+settings 'a MAC of zero' 3 "wrong:1: field 1 (tag 1): MAC 000000000000; wanted: individual, not all zero $bad" '01 0008 0001 000000000000'
+settings 'a nickname out of range' 3 "wrong:1: field 1 (tag 1): nickname FFC0; wanted: 0001 to FFBF $bad" '01 0008 FFC0 020000000001'
+settings 'a header cut short' 3 "wrong:2: field 2 (tag 3): 2 octets there; wanted: 3 for a tag and a length $bad" "$switch\n03 00"
+settings 'a value cut short' 3 "wrong:2: field 2 (tag 2): 14 octets announced, 12 there $bad" "$switch\n02 000E 0009 0005 020000000005 0000"
+settings 'a flag of 2' 3 "wrong:2: field 2 (tag 3): strip flag 02; wanted: 00 or 01 $bad" "$switch\n03 0001 02"
+settings 'a length' 3 "wrong:2: field 2 (tag 3): strip flag of 2 octets; wanted: 1 $bad" "$switch\n03 0002 0101"
+settings 'no such tag' 3 "wrong:1: field 2 (tag 9): no such tag; wanted: 1 to 5 $bad" "$switch 09 0000"
+settings 'a clock' 3 "wrong:2: field 2 (tag 4): clock, which is no part of settings $bad" "$switch\n04 0006 000000000000"
+settings 'a second switch' 3 "wrong:2: field 2 (tag 1): second switch; wanted: one $bad" "$switch\n$switch"
+settings 'a flag first' 3 "wrong:1: field 1 (tag 3): strip flag before any switch (tag 1) $bad" "03 0001 01 $switch"
+settings 'a serial twice' 3 "wrong:3: field 3 (tag 2): serial 00000001 for destination 0009, as the next hop in field 2, line 2; wanted: another $bad" \
+    "$switch\n$hop\n02 000E 0009 0000 020000000005 00000001"
+many=$(for serial in 0 1 2 3 4 5 6; do for low in 0 1 2 3 4 5 6 7 8 9; do echo "02 000E 0009 0005 020000000005 000000$serial$low"; done; done)
+settings '65 next hops' 3 "wrong:66: field 66 (tag 2): 65 next hops of one switch; wanted: at most 64 $bad" "$switch\n$many"
 octets "$switch $hop $hop" > wrong
-run 1 wrong in-micro-le.pcap kept
-judge 'settings, a serial twice' complained 'trill-replay: wrong: field 3, at octet 28, with tag 2: bad settings by document 01'
+run 3 wrong in-micro-le.pcap kept
+judge 'settings, a serial twice in raw octets' complained \
+    "wrong: octet 28: field 3 (tag 2): serial 00000001 for destination 0009, as the next hop in field 2; wanted: another $bad"
+printf '30\000' > wrong
+run 3 wrong in-micro-le.pcap kept
+judge 'settings, raw by a later octet' complained "wrong: octet 0: field 1 (tag 51): 12288 octets announced, 0 there $bad
+wrong: read as raw octets, since octet 2 is the control character 00"
+run 2 /dev/zero in-micro-le.pcap kept
+judge 'settings without end' complained 'trill-replay: /dev/zero: over 32,768 octets, so it was not read to its end'
+run 1 . in-micro-le.pcap kept
+judge 'settings, a folder' complained 'trill-replay: .: Is a directory'
+run 0 - in-micro-le.pcap out.pcap < strip.txt
+judge 'settings on standard input' out.pcap "$expected" said "$summary"
 
+more='; trill-replay --help says more'
 run 2 strip in-micro-le.pcap
-judge 'too few words' said ''
+judge 'too few words' said '' complained "trill-replay: settings, input and output are wanted$more"
+run 2 strip in-micro-le.pcap kept -v more
+judge 'too many words' kept older complained "trill-replay: settings, input and output are wanted, and not also more$more"
+run 2 - - kept
+judge 'standard input twice' kept older complained "trill-replay: settings and input cannot both be standard input$more"
+run 2 strip in-micro-le.pcap kept --raw
+judge 'no such option' kept older complained "trill-replay: no such option: --raw$more"
+run 2 strip in-micro-le.pcap kept -c
+judge 'an option without its word' kept older complained "trill-replay: a word is missing after -c$more"
 run 2 -c 00000100000 strip in-micro-le.pcap kept
-judge 'a clock of 11 digits' kept older complained 'trill-replay: 00000100000: a clock has 12 hex digits'
-run 2 -c 00000100000G strip in-micro-le.pcap kept
-judge 'a clock that is not hex' kept older complained 'trill-replay: 00000100000G: a clock has 12 hex digits'
-run 0 -h
+judge 'a clock of 11 digits' kept older complained "trill-replay: a clock has 12 hex digits, and this is none: 00000100000$more"
+run 2 --clock 00000100000G strip in-micro-le.pcap kept
+judge 'a clock that is not hex' kept older complained "trill-replay: a clock has 12 hex digits, and this is none: 00000100000G$more"
+run 0 --help
 judge 'help' complained ''
+mv said help
+run 0 -h
+judge 'help by its letter' said "$(cat help)" complained ''
+run 0 --version
+judge 'version' said "trill-replay $version" complained ''
 
 # ---- A longer capture, and writing that fails ----
 
@@ -307,7 +350,29 @@ judge '16,384 frames' complained '' said '    frames
      16384    50 forwarded
      16384  written, 655360 octets'
 run 1 strip long.pcap /dev/full
-judge 'no room on the device' complained 'trill-replay: /dev/full: No space left on device'
+judge 'no room on the device' complained 'trill-replay: /dev/full: No space left on device' said ''
+
+# A disk that fills: the summary counts what is in the file, and the file ends with a whole record.
+(ulimit -f 100 && exec "$tool" strip long.pcap out.pcap) > said 2> complained
+status=$? wanted=1
+size=$(wc -c < out.pcap)
+tail -n 1 said > last
+judge 'no more room after a while' complained 'trill-replay: out.pcap: File too large' \
+    last "$(printf '%10d  written, %d octets' $(((size - 24) / 56)) $(((size - 24) / 56 * 40)))"
+wanted=0 status=$(((size - 24) % 56))
+judge 'a whole record last' complained 'trill-replay: out.pcap: File too large'
+[ "$size" -gt 24 ]
+status=$?
+judge 'what was written stays'
+wanted=1
+
+# Closed streams do not lend their numbers to the captures.
+"$tool" strip in-micro-le.pcap out.pcap <&- >&- 2> complained
+status=$?
+judge 'closed streams' out.pcap "$expected" complained 'trill-replay: summary: Bad file descriptor'
+"$tool" strip - out.pcap <&- > said 2> complained
+status=$?
+judge 'closed standard input' complained 'trill-replay: -: Bad file descriptor'
 { "$tool" strip long.pcap - 2> complained; echo $? > ended; } | :
 status=$(cat ended) wanted=1
 head -n 1 complained > first
