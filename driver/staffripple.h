@@ -138,6 +138,57 @@ struct trill_answer {
 struct trill_answer trill_handle(const uint8_t *frame, size_t frame_len, const uint8_t *settings, size_t settings_len,
                                  const uint8_t *clock, size_t clock_len, uint8_t *out, size_t out_len);
 
+/* ---- Settings prepared once ---- */
+
+#define TRILL_PREPARED_WORDS 164 /* words of a store */
+
+/*
+ * Judges settings and writes them into a store, by which any number of frames is handled: a frame costs the same
+ * with 1 record and with 64. A driver's loop:
+ *
+ *     uint64_t store[TRILL_PREPARED_WORDS];
+ *     if (trill_prepare(settings, settings_len, store, TRILL_PREPARED_WORDS) != 0)
+ *         return bad_settings();
+ *     while (receive(frame, &frame_len, clock))
+ *         send(trill_handle_prepared(frame, frame_len, store, TRILL_PREPARED_WORDS, clock, TRILL_CLOCK, out, sizeof out), out);
+ *
+ * Answers 0; 1 for bad settings; else 2 for fewer than TRILL_PREPARED_WORDS words. A refusal leaves the words as they
+ * were; words after the first TRILL_PREPARED_WORDS stay. Settings of any length fit.
+ */
+uint32_t trill_prepare(const uint8_t *settings, size_t settings_len, uint64_t *store, size_t words);
+
+/*
+ * Handles one received frame by a store, as trill_handle does by the settings that it was prepared from: the same
+ * answer, the same octets. What is in a store is the library's affair, but any words may be lent: too few or bad ones
+ * are answered TRILL_REFUSED_SETTINGS.
+ */
+struct trill_answer trill_handle_prepared(const uint8_t *frame, size_t frame_len, const uint64_t *store, size_t words,
+                                          const uint8_t *clock, size_t clock_len, uint8_t *out, size_t out_len);
+
+/* ---- The way out ---- */
+
+#define TRILL_LINK_MOST 14 /* octets of the longest link header */
+
+struct trill_way {
+    uint32_t number; /* 0; else 1 bad settings, else 21 no next hop, else 2 buffer too short for the header */
+    uint32_t length; /* octets of the link header written, 0 where none is */
+};
+
+/*
+ * Writes the link header of the record that rules for a destination: neighbour MAC, own MAC, 0x22F3. Looking the record
+ * up and writing are one call, so that no stale record is used:
+ *
+ *     uint8_t header[TRILL_LINK_MOST];
+ *     struct trill_way way = trill_way_out(settings, settings_len, 0x0009, header, sizeof header);
+ *     if (way.number == 0)
+ *         send(header, way.length);
+ *
+ * Any destination may be asked for; 0 and 0xFFC0 on have no record. Octets after the header stay, and a refusal leaves
+ * all of out as it was. The second call is the same by a store; any words may be lent, bad ones are answered 1.
+ */
+struct trill_way trill_way_out(const uint8_t *settings, size_t settings_len, uint16_t destination, uint8_t *out, size_t out_len);
+struct trill_way trill_way_out_prepared(const uint64_t *store, size_t words, uint16_t destination, uint8_t *out, size_t out_len);
+
 /* ---- A campus of switches over one frame ---- */
 
 #define CAMPUS_DESCRIPTION_MOST 32768 /* octets of a description: a longer one is refused */

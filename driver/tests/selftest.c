@@ -266,6 +266,115 @@ static void try_handling(const char *name, const struct octets *settings, const 
                "an input is changed");
 }
 
+/* ---- Settings prepared once ---- */
+
+#define STORE_PATTERN UINT64_C(0xA5A5A5A5A5A5A5A5)
+
+/* A store with a word more than it needs, every word set. */
+static uint64_t store[TRILL_PREPARED_WORDS + 1];
+
+static bool store_untouched(size_t from)
+{
+    for (size_t i = from; i < sizeof store / sizeof *store; i++)
+        if (store[i] != STORE_PATTERN)
+            return false;
+    return true;
+}
+
+/* Prepares settings in so many words. */
+static uint32_t prepare(const struct octets *settings, size_t words)
+{
+    for (size_t i = 0; i < sizeof store / sizeof *store; i++)
+        store[i] = STORE_PATTERN;
+    return trill_prepare(settings->at, settings->length, store, words);
+}
+
+/* Handles a frame by a store, and expects what the settings octets give; of bad settings that none is prepared. */
+static void try_prepared(const char *name, const struct octets *settings, const struct octets *frame,
+                         struct trill_answer expected, const struct octets *written)
+{
+    char prepared[128];
+    snprintf(prepared, sizeof prepared, "%s, prepared", name);
+    uint32_t refusal = prepare(settings, TRILL_PREPARED_WORDS);
+    bool bad = expected.number == TRILL_REFUSED_SETTINGS;
+    if (bad || refusal != 0 || !store_untouched(TRILL_PREPARED_WORDS)) {
+        result(prepared, bad && refusal == 1 && store_untouched(0), "prepare answers %u, or a word is changed", refusal);
+        return;
+    }
+    struct octets clock = from_hex(CLOCK);
+    expected.written = (uint32_t)written->length;
+    uint8_t *out = lend();
+    struct trill_answer got = trill_handle_prepared(frame->at, frame->length, store, TRILL_PREPARED_WORDS, clock.at,
+                                                    clock.length, out, TRILL_OUTPUT_LEAST);
+    long where = 0;
+    result(prepared, same_answer(got, expected) && lent_good(written->at, written->length, &where),
+           "answer %u, written %u, start %u, length %u", got.number, got.written, got.start, got.length);
+}
+
+/* Few words, and stores that nothing prepared. */
+static void try_stores(void)
+{
+    static struct octets settings, frame, clock;
+    settings = from_hex(PLAIN);
+    frame = from_hex(FRAME_C12);
+    clock = from_hex(CLOCK);
+    result("a word too few", prepare(&settings, TRILL_PREPARED_WORDS - 1) == 2 && store_untouched(0), "not 2, or a word is changed");
+    for (int words = 0; words < 8; words++) {
+        long where = 0;
+        uint8_t *out = lend();
+        struct trill_answer got = trill_handle_prepared(frame.at, frame.length, store, (size_t)words, clock.at, clock.length,
+                                                        out, TRILL_OUTPUT_LEAST);
+        result("a store of a pattern", got.number == TRILL_REFUSED_SETTINGS && lent_good(NULL, 0, &where), "answer %u", got.number);
+    }
+}
+
+/* ---- The way out ---- */
+
+static const struct {
+    const char *name, *settings;
+    uint16_t destination;
+    size_t room;
+    struct trill_way answer;
+    const char *written;
+} ways[] = {
+    {"way out: bad settings, no room", "01", 9, 0, {1, 0}, ""},
+    {"way out: unknown, no room", PLAIN, 8, 0, {21, 0}, ""},
+    {"way out: withdrawn", SWITCH LIVE_7 WITHDRAWN_8, 9, 14, {21, 0}, ""},
+    {"way out: room for 13", PLAIN, 9, 13, {2, 0}, ""},
+    {"way out: room for 14", PLAIN, 9, 14, {0, 14}, "020000000005 020000000001 22F3"},
+    {"way out: serials 7 and 8", SWITCH LIVE_7 LIVE_8, 9, 14, {0, 14}, "020000000008 020000000001 22F3"},
+    {"way out: serials 8 and 7", SWITCH LIVE_8 LIVE_7, 9, 14, {0, 14}, "020000000008 020000000001 22F3"},
+    {"way out: destination 0", PLAIN, 0, 14, {21, 0}, ""},
+    {"way out: destination 0xFFC0", PLAIN, 0xFFC0, 14, {21, 0}, ""},
+    {"way out: room for 100", PLAIN, 9, 100, {0, 14}, "020000000005 020000000001 22F3"},
+    {"way out: equal serials", SWITCH LIVE_8 WITHDRAWN_8, 9, 14, {1, 0}, ""},
+    {"way out: own nickname", SWITCH "02 000E 0001 0007 020000000007 00000001", 1, 14, {0, 14},
+     "020000000007 020000000001 22F3"},
+};
+
+static void judge_way(const char *name, struct trill_way got, struct trill_way expected, const char *written)
+{
+    struct octets octets = from_hex(written);
+    long where = 0;
+    result(name, got.number == expected.number && got.length == expected.length && lent_good(octets.at, octets.length, &where),
+           "number %u, length %u", got.number, got.length);
+}
+
+static void try_ways(void)
+{
+    for (size_t i = 0; i < sizeof ways / sizeof *ways; i++) {
+        struct octets settings = from_hex(ways[i].settings);
+        uint8_t *out = lend();
+        judge_way(ways[i].name, trill_way_out(settings.at, settings.length, ways[i].destination, out, ways[i].room),
+                  ways[i].answer, ways[i].written);
+        prepare(&settings, TRILL_PREPARED_WORDS);
+        out = lend();
+        judge_way(ways[i].name,
+                  trill_way_out_prepared(store, TRILL_PREPARED_WORDS, ways[i].destination, out, ways[i].room),
+                  ways[i].answer, ways[i].written);
+    }
+}
+
 static void try_handlings(void)
 {
     static struct octets settings, frame, written;
@@ -275,6 +384,7 @@ static void try_handlings(void)
         frame = from_hex(handling->frame);
         written = from_hex(handling->written);
         try_handling(handling->name, &settings, &frame, TRILL_OUTPUT_LEAST, handling->answer, &written);
+        try_prepared(handling->name, &settings, &frame, handling->answer, &written);
     }
 }
 
@@ -481,6 +591,8 @@ int main(void)
     setvbuf(stdout, NULL, _IOLBF, 0); /* what passed is known even if a later case crashes */
     try_handlings();
     try_limits();
+    try_stores();
+    try_ways();
     try_campuses();
     try_texts();
     try_null();

@@ -3,7 +3,7 @@
 use crate::cause::Fault;
 use crate::handle::step;
 use crate::header::Header;
-use crate::settings::{Field, Seen, Switch, MAX_FRAME};
+use crate::settings::{Field, Seen, Station, Switch, MAX_FRAME};
 
 const MAX_FILE: usize = 32_768;
 const MAX_SWITCHES: usize = 16;
@@ -98,7 +98,7 @@ impl<'a> Campus<'a> {
             let switch = &self.switches.all()[at];
             let step = step(switch, frame, &self.clock, sent);
             let number = step.cause.number();
-            write_entry(entry, switch.nickname, reply, number, frame);
+            write_entry(entry, switch.own().nickname, reply, number, frame);
             let next = match number {
                 50 | 53 | 54 => self.switches.place(step.neighbour),
                 _ => None,
@@ -128,7 +128,7 @@ impl<'a> Switches<'a> {
     fn place(&self, nickname: u16) -> Option<usize> {
         self.all()
             .iter()
-            .position(|switch| switch.nickname == nickname)
+            .position(|switch| switch.own().nickname == nickname)
     }
 }
 
@@ -203,7 +203,7 @@ impl<'a> Reader<'a> {
         let mut switch = Switch::EMPTY;
         switch.begin(value, rest)?;
         let switches = &mut self.switches;
-        if switches.place(switch.nickname).is_some() {
+        if switches.place(switch.own().nickname).is_some() {
             return Err(Fault::NicknameMet);
         }
         let place = switches.places.get_mut(switches.count);

@@ -2,7 +2,7 @@
 
 use crate::cause::Silence;
 use crate::octets::{put_u16, u16_at, Mac};
-use crate::settings::{NextHop, Switch};
+use crate::settings::{NextHop, Own, Station};
 
 pub(crate) const ALL_EGRESS_RBRIDGES: Mac = [0x01, 0x80, 0xC2, 0x00, 0x00, 0x42];
 const CHANNEL: u16 = 0x8946;
@@ -76,8 +76,8 @@ fn silence(protocol: u16, flags: u16) -> Option<Silence> {
 }
 
 /// The next hop to the old ingress, unless that is our own nickname.
-pub(crate) fn return_path(switch: &Switch, ingress: u16) -> Result<NextHop, Silence> {
-    if ingress == switch.nickname {
+pub(crate) fn return_path(switch: &impl Station, ingress: u16) -> Result<NextHop, Silence> {
+    if ingress == switch.own().nickname {
         return Err(Silence::OwnIngress);
     }
     switch.next_hop(ingress).ok_or(Silence::NoNextHop)
@@ -105,7 +105,7 @@ pub(crate) fn write_echo(out: &mut [u8], head: &ReplyHead, body: &[u8], clock: &
 
 /// The parts of a reply's headers that differ from switch to switch.
 pub(crate) struct ReplyHead<'a> {
-    pub switch: &'a Switch<'a>,
+    pub own: &'a Own,
     pub ingress: u16,
     pub hop: NextHop,
 }
@@ -113,13 +113,11 @@ pub(crate) struct ReplyHead<'a> {
 impl ReplyHead<'_> {
     /// Link header, TRILL header, inner header and channel header.
     fn write(&self, out: &mut [u8], protocol: u16, flags: u16) {
-        let own = &self.switch.mac;
         let mut head = TEMPLATE;
-        head[..6].copy_from_slice(&self.hop.mac());
-        head[6..12].copy_from_slice(own);
+        self.own.write_link(self.hop, &mut head);
         put_u16(&mut head, 16, self.ingress);
-        put_u16(&mut head, 18, self.switch.nickname);
-        head[26..32].copy_from_slice(own);
+        put_u16(&mut head, 18, self.own.nickname);
+        head[26..32].copy_from_slice(&self.own.mac);
         put_u16(&mut head, 38, protocol);
         put_u16(&mut head, 40, flags);
         out.copy_from_slice(&head);
@@ -129,7 +127,7 @@ impl ReplyHead<'_> {
 /// The octets that all replies share.
 #[rustfmt::skip]
 const TEMPLATE: [u8; REPLY_HEADER] = [
-    0, 0, 0, 0, 0, 0,  0, 0, 0, 0, 0, 0,  0x22, 0xF3,
+    0, 0, 0, 0, 0, 0,  0, 0, 0, 0, 0, 0,  0, 0,
     0x00, 0x3F,  0, 0,  0, 0,
     0x01, 0x80, 0xC2, 0x00, 0x00, 0x42,  0, 0, 0, 0, 0, 0,
     0x81, 0x00,  0x00, 0x01,  0x89, 0x46,

@@ -15,7 +15,7 @@ use rng::Rng;
 use switches::Settings;
 
 /// An input of the handling call.
-#[derive(Clone, Debug, PartialEq, Eq)]
+#[derive(Clone, Debug, PartialEq, Eq, Hash)]
 pub struct HandleInput {
     pub frame: Vec<u8>,
     pub settings: Vec<u8>,
@@ -25,15 +25,24 @@ pub struct HandleInput {
 }
 
 /// An input of the call that hands back a part of a frame.
-#[derive(Clone, Debug, PartialEq, Eq)]
+#[derive(Clone, Debug, PartialEq, Eq, Hash)]
 pub struct PartInput {
     pub frame: Vec<u8>,
     pub start: u64,
     pub length: u64,
 }
 
+/// An input of the way-out call.
+#[derive(Clone, Debug, PartialEq, Eq, Hash)]
+pub struct WayInput {
+    pub settings: Vec<u8>,
+    pub destination: u16,
+    /// Octets of the lent output.
+    pub room: usize,
+}
+
 /// An input of the campus call.
-#[derive(Clone, Debug, PartialEq, Eq)]
+#[derive(Clone, Debug, PartialEq, Eq, Hash)]
 pub struct CampusInput {
     pub description: Vec<u8>,
     /// Octets of the lent trace.
@@ -50,20 +59,26 @@ pub fn handle_input(seed: u64, index: u64) -> HandleInput {
         live: settings.live.clone(),
         dead: settings.dead.clone(),
     };
-    let mut fields = settings.fields(&mut rng);
-    if rng.one_in(10) {
-        switches::spoil(&mut rng, &mut fields);
-    }
-    let mut octets = fields.concat();
-    if rng.one_in(100) {
-        octets.pop();
-    }
+    let octets = settings_octets(&mut rng, &settings);
     HandleInput {
         frame: frames::frame(&mut rng, &site),
         settings: octets,
         clock: clock(&mut rng),
         room: room(&mut rng, 2048),
     }
+}
+
+/// The fields of a switch, sometimes bad.
+fn settings_octets(rng: &mut Rng, settings: &Settings) -> Vec<u8> {
+    let mut fields = settings.fields(rng);
+    if rng.one_in(10) {
+        switches::spoil(rng, &mut fields);
+    }
+    let mut octets = fields.concat();
+    if rng.one_in(100) {
+        octets.pop();
+    }
+    octets
 }
 
 /// Mostly six octets.
@@ -121,6 +136,24 @@ fn edge(rng: &mut Rng, size: u64) -> u64 {
         5 => rng.pick(&[1 << 31, 1 << 32, 1 << 63, (1 << 32) - 1]),
         6 => rng.next(),
         _ => rng.below(size as usize + 1) as u64,
+    }
+}
+
+/// Settings, a destination among theirs or not, and room near a link header's.
+pub fn way_input(seed: u64, index: u64) -> WayInput {
+    let mut rng = Rng::new(seed, 4, index);
+    let mut settings = Settings::new(&mut rng);
+    if rng.one_in(4) {
+        settings.add_own(&mut rng);
+    }
+    WayInput {
+        destination: settings.destination(&mut rng),
+        settings: settings_octets(&mut rng, &settings),
+        room: match rng.below(6) {
+            0 => rng.pick(&[13, 14]),
+            1 => rng.pick(&[100, 2048]),
+            _ => rng.below(21),
+        },
     }
 }
 

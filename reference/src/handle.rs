@@ -5,10 +5,10 @@ use crate::channel::{
     return_path, write_echo, write_error, Message, ReplyHead, ALL_EGRESS_RBRIDGES, ECHO_MAX,
     ECHO_MIN, INNER_HEADER,
 };
-use crate::header::{Header, ANY_RBRIDGE, TRILL, VLAN_TAG};
+use crate::header::{Header, ANY_RBRIDGE, VLAN_TAG};
 use crate::octets::{put_u16, u16_at};
 use crate::options::{self, IllFormed};
-use crate::settings::{NextHop, Switch, MAX_FRAME};
+use crate::settings::{NextHop, Own, Station, Switch, MAX_FRAME};
 
 /// Inner Ethertype of frames that are handed up.
 const HANDED_UP: u16 = 0x22F4;
@@ -65,7 +65,7 @@ impl Step {
         }
     }
 
-    fn answer(&self) -> Answer {
+    pub(crate) fn answer(&self) -> Answer {
         Answer {
             number: self.cause.number(),
             written: u32::from(self.written),
@@ -84,23 +84,25 @@ pub fn handle(frame: &[u8], settings: &[u8], clock: &[u8], out: &mut [u8]) -> An
 /// [`handle`], with the condition that settled the answer.
 pub fn explain(frame: &[u8], settings: &[u8], clock: &[u8], out: &mut [u8]) -> (Answer, Cause) {
     let mut switch = Switch::EMPTY;
-    let step = match admit(&mut switch, frame, settings, clock, out) {
-        Ok(clock) => step(&switch, frame, clock, out),
-        Err(cause) => Step::bare(cause),
+    let step = match switch.read(settings) {
+        Ok(()) => admitted(&switch, frame, clock, out),
+        Err(fault) => Step::bare(Cause::Settings(fault)),
     };
     (step.answer(), step.cause)
 }
 
-/// Answers 1, 2 and 3.
+/// [`handle`] for settings that are good.
 #[inline]
-fn admit<'a>(
-    switch: &mut Switch<'a>,
-    frame: &[u8],
-    settings: &'a [u8],
-    clock: &'a [u8],
-    out: &[u8],
-) -> Result<&'a [u8; 6], Cause> {
-    switch.read(settings).map_err(Cause::Settings)?;
+pub(crate) fn admitted(switch: &impl Station, frame: &[u8], clock: &[u8], out: &mut [u8]) -> Step {
+    match admit(frame, clock, out) {
+        Ok(clock) => step(switch, frame, clock, out),
+        Err(cause) => Step::bare(cause),
+    }
+}
+
+/// Answers 1, 2 and 3 for settings that are good.
+#[inline]
+fn admit<'a>(frame: &[u8], clock: &'a [u8], out: &[u8]) -> Result<&'a [u8; 6], Cause> {
     let clock = clock.try_into().map_err(|_| Cause::ClockLength)?;
     if out.len() < MAX_FRAME {
         return Err(Cause::OutputRoom);
@@ -122,17 +124,23 @@ pub fn part(frame: &[u8], start: usize, length: usize) -> &[u8] {
 
 /// One handling of a frame of at most 2,048 octets. The output has room for the
 /// frame and for the longest reply.
-pub(crate) fn step(switch: &Switch, frame: &[u8], clock: &[u8; 6], out: &mut [u8]) -> Step {
+pub(crate) fn step(switch: &impl Station, frame: &[u8], clock: &[u8; 6], out: &mut [u8]) -> Step {
     receive(switch, frame, clock, out).unwrap_or_else(Step::bare)
 }
 
 /// From the link header to the decision between transit and egress.
-fn receive(switch: &Switch, frame: &[u8], clock: &[u8; 6], out: &mut [u8]) -> Result<Step, Cause> {
+fn receive(
+    switch: &impl Station,
+    frame: &[u8],
+    clock: &[u8; 6],
+    out: &mut [u8],
+) -> Result<Step, Cause> {
+    let own = switch.own();
     let header = Header::read(frame)?;
-    check_header(&header, switch, frame)?;
+    check_header(&header, own, frame)?;
     let area = frame.get(header.area_at()..header.inner_at());
     let area = area.ok_or(Cause::AreaPastFrame)?;
-    let role = role(&header, switch);
+    let role = role(&header, own);
     let summary = match options::check(area) {
         Ok(summary) => summary,
         Err(ill_formed) => return Ok(Step::ill_formed(ill_formed, role)),
@@ -147,12 +155,12 @@ fn receive(switch: &Switch, frame: &[u8], clock: &[u8; 6], out: &mut [u8]) -> Re
         return deliver(switch, &header, frame, clock, out);
     }
     let hop = switch.next_hop(header.egress).ok_or(Cause::NoNextHop)?;
-    let strip = switch.strip && summary.removable;
-    Ok(forward(switch, &header, hop, strip, frame, out))
+    let strip = own.strip && summary.removable;
+    Ok(forward(own, &header, hop, strip, frame, out))
 }
 
-fn role(header: &Header, switch: &Switch) -> Role {
-    if header.egress == switch.nickname || header.egress == ANY_RBRIDGE {
+fn role(header: &Header, own: &Own) -> Role {
+    if header.egress == own.nickname || header.egress == ANY_RBRIDGE {
         Role::Egress
     } else {
         Role::Transit
@@ -160,8 +168,8 @@ fn role(header: &Header, switch: &Switch) -> Role {
 }
 
 /// Answers 12 to 17.
-fn check_header(header: &Header, switch: &Switch, frame: &[u8]) -> Result<(), Cause> {
-    if frame[..6] != switch.mac {
+fn check_header(header: &Header, own: &Own, frame: &[u8]) -> Result<(), Cause> {
+    if frame[..6] != own.mac {
         return Err(Cause::OuterDestination);
     }
     if header.version() != 0 {
@@ -186,7 +194,7 @@ fn check_header(header: &Header, switch: &Switch, frame: &[u8]) -> Result<(), Ca
 /// Answer 50: new link header without a tag, hop count one less, area with or
 /// without its removable options, inner frame unchanged.
 fn forward(
-    switch: &Switch,
+    own: &Own,
     header: &Header,
     hop: NextHop,
     strip: bool,
@@ -204,9 +212,7 @@ fn forward(
     let copied = &frame[from..];
     let to = if strip { area_octets } else { 0 };
     rest[to..to + copied.len()].copy_from_slice(copied);
-    head[..6].copy_from_slice(&hop.mac());
-    head[6..12].copy_from_slice(&switch.mac);
-    put_u16(head, 12, TRILL);
+    own.write_link(hop, head);
     put_u16(head, 14, header.forwarded_word(area_octets));
     put_u16(head, 16, header.egress);
     put_u16(head, 18, header.ingress);
@@ -215,7 +221,7 @@ fn forward(
 
 /// Answers from 22 on: we are the egress.
 fn deliver(
-    switch: &Switch,
+    switch: &impl Station,
     header: &Header,
     frame: &[u8],
     clock: &[u8; 6],
@@ -256,7 +262,7 @@ fn deliver(
 
 /// Answers 53 and 25.
 fn fault(
-    switch: &Switch,
+    switch: &impl Station,
     header: &Header,
     code: u8,
     silence: Option<Silence>,
@@ -269,7 +275,7 @@ fn fault(
     }
     let hop = return_path(switch, header.ingress).map_err(unsent)?;
     let head = ReplyHead {
-        switch,
+        own: switch.own(),
         ingress: header.ingress,
         hop,
     };
@@ -279,7 +285,7 @@ fn fault(
 
 /// Answers 27, 56, 54 and 28.
 fn echo(
-    switch: &Switch,
+    switch: &impl Station,
     header: &Header,
     body: &[u8],
     clock: &[u8; 6],
@@ -301,7 +307,7 @@ fn echo(
     }
     let hop = return_path(switch, header.ingress).map_err(Cause::EchoUnsent)?;
     let head = ReplyHead {
-        switch,
+        own: switch.own(),
         ingress: header.ingress,
         hop,
     };

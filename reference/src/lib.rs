@@ -1,8 +1,9 @@
 //! Independent reference of the Staffripple TRILL frame handler.
 //!
 //! Written from documents 01 and 02 alone. [`handle`] answers one received frame,
-//! [`part`] hands back a delivered part of it, [`run`] runs a campus of
-//! switches over one frame and [`text`] prints that run.
+//! [`handle_prepared`] does so with settings that were read before, and [`part`]
+//! hands back a delivered part of it. [`way_out`] writes a link header, [`run`]
+//! runs a campus of switches over one frame and [`text`] prints that run.
 //!
 //! [`explain`] and [`explain_run`] also say which condition led to the
 //! answer; [`generate`] makes inputs for comparisons.
@@ -18,10 +19,14 @@ mod header;
 pub mod hits;
 mod octets;
 mod options;
+mod prepared;
 mod settings;
 mod text;
+mod way;
 
 pub use campus::{explain_run, run, Outcome};
 pub use cause::{Cause, Fault, OptionFault, Role, Silence};
 pub use handle::{explain, handle, part, Answer};
+pub use prepared::{handle_prepared, Prepared};
 pub use text::text;
+pub use way::{way_out, Way};

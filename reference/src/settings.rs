@@ -1,7 +1,8 @@
 //! Fields of settings and descriptions, the settings rules, next-hop records.
 
 use crate::cause::Fault;
-use crate::octets::{u16_at, Mac};
+use crate::header::TRILL;
+use crate::octets::{put_u16, u16_at, Mac};
 
 /// Greatest valid nickname of a switch; the least is 1.
 const LAST_NICKNAME: u16 = 0xFFBF;
@@ -71,22 +72,49 @@ impl NextHop {
         (self.0 >> 48) as u16
     }
 
-    pub(crate) fn mac(self) -> Mac {
+    fn mac(self) -> Mac {
         let [_, _, mac @ ..] = self.0.to_be_bytes();
         mac
     }
 }
 
+/// Octets of the link header written: neighbour MAC, own MAC, 0x22F3.
+pub(crate) const LINK_HEADER: usize = 14;
+
 /// Octets of a tag 2 field.
 const RECORD_FIELD: usize = 17;
+
+/// What a switch is, without its records.
+#[derive(Clone, Copy)]
+pub(crate) struct Own {
+    pub nickname: u16,
+    pub mac: Mac,
+    pub strip: bool,
+}
+
+impl Own {
+    /// Writes the link header of frames to a next hop.
+    #[inline]
+    pub(crate) fn write_link(&self, hop: NextHop, header: &mut [u8]) {
+        header[..6].copy_from_slice(&hop.mac());
+        header[6..12].copy_from_slice(&self.mac);
+        put_u16(header, 12, TRILL);
+    }
+}
+
+/// A switch that can handle frames.
+pub(crate) trait Station {
+    fn own(&self) -> &Own;
+
+    /// The record with the greatest serial rules, a withdrawal included.
+    fn next_hop(&self, destination: u16) -> Option<NextHop>;
+}
 
 /// Settings of one switch, tested. Its records stay where they were read: a
 /// handling asks for one destination, and copying all costs more than that.
 #[derive(Clone, Copy)]
 pub(crate) struct Switch<'a> {
-    pub nickname: u16,
-    pub mac: Mac,
-    pub strip: bool,
+    own: Own,
     /// Number of records.
     count: usize,
     /// The octets after its tag 1 field, its records among them.
@@ -95,9 +123,11 @@ pub(crate) struct Switch<'a> {
 
 impl<'a> Switch<'a> {
     pub(crate) const EMPTY: Switch<'static> = Switch {
-        nickname: 0,
-        mac: [0; 6],
-        strip: false,
+        own: Own {
+            nickname: 0,
+            mac: [0; 6],
+            strip: false,
+        },
         count: 0,
         fields: &[],
     };
@@ -126,14 +156,14 @@ impl<'a> Switch<'a> {
     #[inline]
     pub(crate) fn begin(&mut self, value: &[u8; 8], fields: &'a [u8]) -> Result<(), Fault> {
         let both = u64::from_be_bytes(*value);
-        self.nickname = (both >> 48) as u16;
-        if !(1..=LAST_NICKNAME).contains(&self.nickname) {
+        self.own.nickname = (both >> 48) as u16;
+        if !(1..=LAST_NICKNAME).contains(&self.own.nickname) {
             return Err(Fault::OwnNickname);
         }
         if !is_station(both) {
             return Err(Fault::OwnMac);
         }
-        self.mac.copy_from_slice(&value[2..]);
+        self.own.mac.copy_from_slice(&value[2..]);
         self.fields = fields;
         Ok(())
     }
@@ -169,33 +199,17 @@ impl<'a> Switch<'a> {
         if flag > 1 {
             return Err(Fault::StripFlag);
         }
-        self.strip = flag == 1;
+        self.own.strip = flag == 1;
         Ok(())
     }
 
     /// The records taken so far, in their order.
     #[inline]
-    fn records(&self) -> Records<'a> {
+    pub(crate) fn records(&self) -> Records<'a> {
         Records {
             left: self.count,
             rest: self.fields,
         }
-    }
-
-    /// The record with the greatest serial rules, a withdrawal included.
-    #[inline]
-    pub(crate) fn next_hop(&self, destination: u16) -> Option<NextHop> {
-        let mut ruling: Option<Record> = None;
-        for value in self.records() {
-            if u16_at(value, 0) == destination {
-                let record = Record::read(value);
-                if ruling.is_none_or(|ruling| ruling.serial < record.serial) {
-                    ruling = Some(record);
-                }
-            }
-        }
-        let hop = NextHop(ruling?.hop);
-        (hop.neighbour() != 0).then_some(hop)
     }
 
     /// Whether a record has this destination and serial.
@@ -205,8 +219,29 @@ impl<'a> Switch<'a> {
     }
 }
 
+impl Station for Switch<'_> {
+    #[inline]
+    fn own(&self) -> &Own {
+        &self.own
+    }
+
+    #[inline]
+    fn next_hop(&self, destination: u16) -> Option<NextHop> {
+        let mut ruling: Option<Record> = None;
+        for value in self.records() {
+            if u16_at(value, 0) == destination {
+                let record = Record::read(value);
+                if ruling.is_none_or(|ruling| ruling.serial < record.serial) {
+                    ruling = Some(record);
+                }
+            }
+        }
+        ruling?.next_hop()
+    }
+}
+
 /// Goes over the records among fields that are known to be good.
-struct Records<'a> {
+pub(crate) struct Records<'a> {
     /// Records still to come.
     left: usize,
     rest: &'a [u8],
@@ -233,22 +268,36 @@ impl<'a> Iterator for Records<'a> {
 
 /// A next-hop record.
 #[derive(Clone, Copy)]
-struct Record {
-    destination: u16,
+pub(crate) struct Record {
+    pub destination: u16,
     /// Neighbour above MAC.
     hop: u64,
-    serial: u32,
+    pub serial: u32,
 }
 
 impl Record {
+    /// No record: no destination is 0.
+    pub(crate) const EMPTY: Record = Record {
+        destination: 0,
+        hop: 0,
+        serial: 0,
+    };
+
     #[inline]
-    fn read(value: &[u8; 14]) -> Self {
+    pub(crate) fn read(value: &[u8; 14]) -> Self {
         let [d0, d1, hop @ .., s0, s1, s2, s3] = *value;
         Record {
             destination: u16::from_be_bytes([d0, d1]),
             hop: u64::from_be_bytes(hop),
             serial: u32::from_be_bytes([s0, s1, s2, s3]),
         }
+    }
+
+    /// None if the record is a withdrawal, or empty.
+    #[inline]
+    pub(crate) fn next_hop(&self) -> Option<NextHop> {
+        let hop = NextHop(self.hop);
+        (hop.neighbour() != 0).then_some(hop)
     }
 
     /// What no two records of a switch share.

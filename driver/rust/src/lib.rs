@@ -8,6 +8,10 @@ pub const TRILL_FRAME_MOST: usize = 2048;
 pub const TRILL_OUTPUT_LEAST: usize = 2048;
 /// Octets of a clock: 3 for seconds, 3 for microseconds.
 pub const TRILL_CLOCK: usize = 6;
+/// Words of a store of prepared settings.
+pub const TRILL_PREPARED_WORDS: usize = 164;
+/// Octets of the longest link header that the way out writes.
+pub const TRILL_LINK_MOST: usize = 14;
 /// Octets of a description: a longer one is refused.
 pub const CAMPUS_DESCRIPTION_MOST: usize = 32768;
 /// Octets that the trace buffer must have.
@@ -118,6 +122,16 @@ impl Answer {
     }
 }
 
+/// What the way out is answered.
+#[repr(C)]
+#[derive(Clone, Copy, Debug, PartialEq, Eq)]
+pub struct WayOut {
+    /// 0, or 1 for bad settings, 21 for no next hop, 2 for a buffer too short.
+    pub number: u32,
+    /// Octets of the link header written, 0 where none is.
+    pub length: u32,
+}
+
 /// What a campus run answers.
 #[repr(C)]
 #[derive(Clone, Copy, Debug, PartialEq, Eq)]
@@ -146,7 +160,7 @@ pub struct Printed {
 }
 
 mod symbols {
-    use super::{Answer, Outcome, Printed};
+    use super::{Answer, Outcome, Printed, WayOut};
 
     extern "C" {
         pub fn trill_handle(
@@ -159,6 +173,40 @@ mod symbols {
             out: *mut u8,
             out_len: usize,
         ) -> Answer;
+
+        pub fn trill_prepare(
+            settings: *const u8,
+            settings_len: usize,
+            store: *mut u64,
+            words: usize,
+        ) -> u32;
+
+        pub fn trill_handle_prepared(
+            frame: *const u8,
+            frame_len: usize,
+            store: *const u64,
+            words: usize,
+            clock: *const u8,
+            clock_len: usize,
+            out: *mut u8,
+            out_len: usize,
+        ) -> Answer;
+
+        pub fn trill_way_out(
+            settings: *const u8,
+            settings_len: usize,
+            destination: u16,
+            out: *mut u8,
+            out_len: usize,
+        ) -> WayOut;
+
+        pub fn trill_way_out_prepared(
+            store: *const u64,
+            words: usize,
+            destination: u16,
+            out: *mut u8,
+            out_len: usize,
+        ) -> WayOut;
 
         pub fn campus_run(
             description: *const u8,
@@ -190,6 +238,75 @@ pub fn handle(frame: &[u8], settings: &[u8], clock: &[u8], out: &mut [u8]) -> An
             settings.len(),
             clock.as_ptr(),
             clock.len(),
+            out.as_mut_ptr(),
+            out.len(),
+        )
+    }
+}
+
+/// Judges settings and writes them into a store of [`TRILL_PREPARED_WORDS`]
+/// words: 0, or 1 for bad settings, 2 for too few words, which leave the store
+/// as it was; `trill_prepare` in C.
+#[inline]
+pub fn prepare(settings: &[u8], store: &mut [u64]) -> u32 {
+    // SAFETY: the call takes any lengths. Both slices are valid for theirs, and
+    // `store`, which alone is written, does not overlap the settings.
+    unsafe {
+        symbols::trill_prepare(
+            settings.as_ptr(),
+            settings.len(),
+            store.as_mut_ptr(),
+            store.len(),
+        )
+    }
+}
+
+/// Handles one received frame at the switch of a store, which may hold any
+/// words; `trill_handle_prepared` in C.
+#[inline]
+pub fn handle_prepared(frame: &[u8], store: &[u64], clock: &[u8], out: &mut [u8]) -> Answer {
+    // SAFETY: the call takes any lengths and any words. The slices are valid for
+    // theirs, and `out`, which alone is written, overlaps none of the others.
+    unsafe {
+        symbols::trill_handle_prepared(
+            frame.as_ptr(),
+            frame.len(),
+            store.as_ptr(),
+            store.len(),
+            clock.as_ptr(),
+            clock.len(),
+            out.as_mut_ptr(),
+            out.len(),
+        )
+    }
+}
+
+/// Writes the link header towards a destination; `trill_way_out` in C.
+#[inline]
+pub fn way_out(settings: &[u8], destination: u16, out: &mut [u8]) -> WayOut {
+    // SAFETY: the call takes any lengths. Both slices are valid for theirs, and
+    // `out`, which alone is written, does not overlap the settings.
+    unsafe {
+        symbols::trill_way_out(
+            settings.as_ptr(),
+            settings.len(),
+            destination,
+            out.as_mut_ptr(),
+            out.len(),
+        )
+    }
+}
+
+/// The same by a store, which may hold any words; `trill_way_out_prepared` in C.
+#[inline]
+pub fn way_out_prepared(store: &[u64], destination: u16, out: &mut [u8]) -> WayOut {
+    // SAFETY: the call takes any lengths and any words. Both slices are valid for
+    // theirs, and `out`, which alone is written, does not overlap the store.
+    unsafe {
+        symbols::trill_way_out_prepared(
+            store.as_ptr(),
+            store.len(),
+            destination,
             out.as_mut_ptr(),
             out.len(),
         )

@@ -25,6 +25,10 @@ pub fn read(digits: &str) -> Result<Vec<u8>, String> {
         .collect()
 }
 
+pub fn write_number(number: usize) -> String {
+    format!("{number:#x}")
+}
+
 /// A number, with or without `0x` before it.
 pub fn read_number(digits: &str) -> Result<usize, String> {
     let bad = |_| format!("{digits} is not in hex");

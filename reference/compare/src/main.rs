@@ -6,23 +6,35 @@
 #![forbid(unsafe_code)]
 
 mod buffers;
+mod call;
 mod campus;
 mod handling;
 mod hex;
+mod prepared;
 mod program;
 mod run;
 mod tally;
 mod text;
+mod way;
 
 use std::env;
 use std::path::PathBuf;
 use std::process::ExitCode;
 
+use call::Call;
+use campus::CampusRun;
+use handling::Handling;
+use prepared::{HandlePrepared, Prepare};
 use tally::Tally;
+use text::Text;
+use way::WayOut;
 
 const USAGE: &str = "\
 usage: compare [--seed S] [--count N] [--campus-count N] [--program PATH]
        compare --replay SETTINGS CLOCK ROOM FRAME    (all in hex)
+       compare --replay-prepare SETTINGS WORDS
+       compare --replay-prepared SETTINGS CLOCK ROOM FRAME
+       compare --replay-way SETTINGS DESTINATION ROOM
        compare --replay-campus ROOM DESCRIPTION
        compare --replay-text ROOM DESCRIPTION";
 
@@ -38,16 +50,38 @@ struct Plan {
 /// Compares a call on the inputs of a plan, or says on which it differs.
 type Comparison = fn(&Plan) -> Result<Tally, String>;
 
-const COMPARISONS: [(&str, Comparison); 3] = [
-    ("handling", |plan| handling::compare(plan.seed, plan.count)),
-    ("campus", |plan| {
-        campus::compare(plan.seed, plan.campus_count)
+const COMPARISONS: [(&str, Comparison); 6] = [
+    ("handling", |plan| {
+        call::compare::<Handling>(plan.seed, plan.count)
     }),
-    ("text", |plan| text::compare(plan.seed, plan.campus_count)),
+    ("preparing", |plan| {
+        call::compare::<Prepare>(plan.seed, plan.count)
+    }),
+    ("handling with prepared settings", |plan| {
+        call::compare::<HandlePrepared>(plan.seed, plan.count)
+    }),
+    ("way out", |plan| {
+        call::compare::<WayOut>(plan.seed, plan.count)
+    }),
+    ("campus", |plan| {
+        call::compare::<CampusRun>(plan.seed, plan.campus_count)
+    }),
+    ("text", |plan| {
+        call::compare::<Text>(plan.seed, plan.campus_count)
+    }),
 ];
 
 /// Runs one input given in hex; whether both programs agree.
 type Replay = fn(&[String]) -> Result<bool, String>;
+
+const REPLAYS: [(&str, Replay); 6] = [
+    (Handling::REPLAY, call::replay::<Handling>),
+    (Prepare::REPLAY, call::replay::<Prepare>),
+    (HandlePrepared::REPLAY, call::replay::<HandlePrepared>),
+    (WayOut::REPLAY, call::replay::<WayOut>),
+    (CampusRun::REPLAY, call::replay::<CampusRun>),
+    (Text::REPLAY, call::replay::<Text>),
+];
 
 enum Task {
     Compare(Plan),
@@ -85,10 +119,11 @@ fn task(mut words: impl Iterator<Item = String>) -> Result<Task, String> {
                 let path = words.next().ok_or("--program lacks its path")?;
                 plan.program = Some(path.into());
             }
-            "--replay" => return Ok(Task::Replay(handling::replay, words.collect())),
-            "--replay-campus" => return Ok(Task::Replay(campus::replay, words.collect())),
-            "--replay-text" => return Ok(Task::Replay(text::replay, words.collect())),
-            _ => return Err(format!("unknown option {word}")),
+            _ => {
+                let found = REPLAYS.iter().find(|(option, _)| *option == word);
+                let (_, replay) = found.ok_or_else(|| format!("unknown option {word}"))?;
+                return Ok(Task::Replay(*replay, words.collect()));
+            }
         }
     }
     Ok(Task::Compare(plan))

@@ -125,6 +125,37 @@ impl Settings {
         add_older(rng, &mut self.records, ruling);
     }
 
+    /// A record for the own nickname, if there is room for it.
+    pub(super) fn add_own(&mut self, rng: &mut Rng) {
+        let destination = self.nickname;
+        let known = |record: &Record| record.destination == destination;
+        if self.records.len() < 64 && !self.records.iter().any(known) {
+            let place = rng.below(self.records.len() + 1);
+            let record = Record {
+                destination,
+                ..Record::any(rng)
+            };
+            self.records.insert(place, record);
+        }
+    }
+
+    /// A destination with a next hop, withdrawn, the switch itself, any other
+    /// or none.
+    pub(super) fn destination(&self, rng: &mut Rng) -> u16 {
+        let known = match rng.below(8) {
+            0 => return rng.nickname(),
+            1 => return rng.bad_nickname(),
+            2 | 3 => return self.nickname,
+            4 => &self.dead,
+            _ => &self.live,
+        };
+        if known.is_empty() {
+            rng.nickname()
+        } else {
+            rng.pick(known)
+        }
+    }
+
     /// Tag 1, then records and strip flags in any mixture.
     pub(super) fn fields(&self, rng: &mut Rng) -> Vec<Vec<u8>> {
         let mut fields = vec![switch_field(self.nickname, self.mac)];

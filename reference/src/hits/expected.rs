@@ -132,12 +132,15 @@ pub(super) fn places() -> impl Iterator<Item = u32> {
     (4..124).step_by(4)
 }
 
+/// Answers of the way-out call.
+pub(super) const WAYS: [u32; 4] = [0, 1, 2, 21];
+
 /// Codes of a campus call, 0 for an accepted description.
 pub(super) fn codes() -> impl Iterator<Item = u32> {
     std::iter::once(0).chain(40..=49)
 }
 
-pub(super) const FEATURES: [Feature; 17] = [
+pub(super) const FEATURES: [Feature; 22] = [
     Feature::FlowIdStays,
     Feature::ShorterFlowIdGoes,
     Feature::LongerFlowIdGoes,
@@ -150,6 +153,11 @@ pub(super) const FEATURES: [Feature; 17] = [
     Feature::PartEmpty,
     Feature::PartOutside,
     Feature::PartWraps,
+    Feature::WayOfOwnNickname,
+    Feature::WayWithdrawn,
+    Feature::WayFitsExactly,
+    Feature::WayOneShort,
+    Feature::WayWithMoreRoom,
     Feature::LeftCampus,
     Feature::ReplyTravels,
     Feature::Handled64OrMore,

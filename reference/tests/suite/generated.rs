@@ -2,7 +2,7 @@
 //! keeps the promises that hold for all.
 
 use crate::support::ask;
-use reference::generate::{campus_input, handle_input, part_input};
+use reference::generate::{campus_input, handle_input, part_input, way_input};
 use reference::hits::Hits;
 use reference::{handle, part, run, text};
 
@@ -32,6 +32,7 @@ fn inputs_depend_on_seed_and_index_alone() {
     for index in 0..100 {
         assert_eq!(handle_input(7, index), handle_input(7, index));
         assert_eq!(part_input(7, index), part_input(7, index));
+        assert_eq!(way_input(7, index), way_input(7, index));
         assert_eq!(campus_input(7, index), campus_input(7, index));
     }
     let differs = |index| handle_input(7, index) != handle_input(8, index);
