@@ -1,9 +1,9 @@
-pub mod TraceLaws
 pub mod PartLaws
 pub mod RecordLaws
 pub mod SwitchLaws
 pub mod ReadLaws
-pub mod FlightLaws
+pub mod StepLaws
+pub mod LoopLaws
 pub mod DoneLaws
 pub mod PrintLaws
 pub mod TextLaws

@@ -7,6 +7,10 @@ mod running;
 mod switches;
 mod tally;
 
+ghost use Prim.Native.Nat.{_≤_};
+ghost use lib.ListN.{length};
+ghost use Rattle.rules.specs.Text.{printed};
+ghost use Rattle.campus.specs.Print.{PutAt};
 ghost use Rattle.campus.specs.Done.{CampusDone, TextDone};
 
 // What the caller is answered: 0 or the code that refuses, and the number of trace entries.
@@ -38,6 +42,16 @@ pub extern "C" fn campus_run(description: &[u8], trace: &mut [u8]) -> Outcome
     }
 }
 
+// Runs a description and writes what is printed of it, and answers how long that is.
+fn text_of(description: &[u8], out: &mut [u8]) -> usize
+    requires { ⌜ 1532 ≤ length (now out) ⌝ }
+    ensures { λ r. ⌜ PutAt (now (out .entry)) (now (out .exit)) 0 r 1532 (printed (now (description .entry))) ⌝ }
+{
+    let mut trace = [0u8; 640];
+    let o = campus_run(description, &mut trace);
+    printing::put_text(out, o.code, o.count, &trace)
+}
+
 // What is written, 0 where the text does not fit, and how long the text is.
 #[repr(C)]
 pub struct Printed {
@@ -50,17 +64,15 @@ pub struct Printed {
 pub extern "C" fn campus_text(description: &[u8], text: &mut [u8]) -> Printed
     ensures { λ r. ⌜ TextDone (now (description .entry)) (now (text .entry)) (now (text .exit)) (r .written) (r .needed) ⌝ }
 {
-    let mut trace = [0u8; 640];
-    let o = campus_run(description, &mut trace);
     let mut out = [0u8; 1532];
-    let size = printing::put_text(&mut out, o.code, o.count, &trace);
-    octets::copy(text, 0, &out[..size]);
+    let size = text_of(description, &mut out);
     if text.len() < size {
         return Printed {
             written: 0,
             needed: size as u32,
         };
     }
+    octets::copy(text, 0, &out[..size]);
     Printed {
         written: size as u32,
         needed: size as u32,

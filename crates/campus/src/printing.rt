@@ -77,7 +77,8 @@ fn put_decimal(out: &mut [u8], at: usize, n: u8) -> usize
 // Writes a number between two texts.
 fn put_number(out: &mut [u8], at: usize, before: &[u8], n: u8, after: &[u8]) -> usize
     requires { ⌜ at + (length (now before) + 3 + length (now after)) ≤ length (now out) ⌝ }
-    ensures { λ r. ⌜ PutAt (now (out .entry)) (now (out .exit)) at r (length (now (before .entry)) + 3 + length (now (after .entry))) (now (before .entry) ++ decimal n ++ now (after .entry)) ⌝ }
+    ensures { λ r. ⌜ PutAt (now (out .entry)) (now (out .exit)) at r (length (now (before .entry)) + 3 + length (now (after .entry)))
+        (now (before .entry) ++ decimal n ++ now (after .entry)) ⌝ }
 {
     octets::copy(out, at, before);
     let end = put_decimal(out, at + before.len(), n);

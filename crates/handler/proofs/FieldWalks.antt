@@ -51,7 +51,7 @@ module _ (d : ℕ) (best : Ruling) where
   ruled-cut = refl
 
   module _ (tag : ℕ) (v : List ℕ) where
-    ruled-hop : tag ≡ 2 → newer d best (hopOf v) ≡ ruledBy d best (field tag v)
+    pub ruled-hop : tag ≡ 2 → newer d best (hopOf v) ≡ ruledBy d best (field tag v)
     unfolding ruledBy
     ruled-hop e = rw e
 
@@ -274,7 +274,7 @@ module _ (s : List ℕ) {tag size next : ℕ} (e : fieldAt s 0 ≡ Taken tag siz
       ∙ sym (ap (λ (S : Settings). S .strip) (read-on s e) ∙ strip-fold (switchOf (part s 3 (next - 3))) (fieldsFrom (length s) s next))
 
   module _ (d : ℕ) (b : Ruling) (f : FoldedFrom (ruledBy d) Absent s next b) where
-    rules : ruling (settingsRead s .hops) d ≡ b
+    pub rules : ruling (settingsRead s .hops) d ≡ b
     rules =
         ap (λ (S : Settings). ruling (S .hops) d) (read-on s e)
         ∙ ruling-fold d (switchOf (part s 3 (next - 3))) (fieldsFrom (length s) s next)

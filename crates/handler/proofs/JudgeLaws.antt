@@ -200,7 +200,7 @@ module _ {s : List ℕ} {from : ℕ} {keys seen : List ℕ} {n at : ℕ} (j : Ju
         pub hop-stops : 64 < r → Verdict s from false
         hop-stops = stops (taking-hop (take n keys) n tag v two t)
 
-        hop-next : r ≤ 64 → at + 17 ≡ next
+        pub hop-next : r ≤ 64 → at + 17 ≡ next
         hop-next b =
             let fourteen = hop-long (take n keys) n v (t .judged ∙ le-leb r 64 b) in
             omega (arith, fourteen, long, field-read s at tag size next f)

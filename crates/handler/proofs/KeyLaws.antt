@@ -178,6 +178,10 @@ module _ (tag : ℕ) (v : List ℕ) where
   unfolding flagTaken
   flag-so b c = rw (b, c)
 
+  pub flag-tag : flagTaken tag v ≡ true → tag ≡ 3
+  unfolding flagTaken
+  flag-tag t = eqb-true tag 3 (and-true (eqb tag 3) (eqb (length v) 1 && stripGood v) t .0)
+
   pub flag-length : flagTaken tag v ≡ true → length v ≡ 1
   unfolding flagTaken
   flag-length t =

@@ -18,3 +18,4 @@ pub mod RulingLaws
 pub mod LookupLaws
 pub mod InsertLaws
 pub mod PrepareLaws
+pub mod ScanLaws

@@ -8,20 +8,16 @@ use native.Mathlib.Nat.{zero-add}
 use lib.Dec.{eqb, leb, ltb}
 use borrow.Author.Tests.{eqb-true, eqb-false, leb-true, leb-false, ltb-true, ltb-false, not-true, eq-eqb, ne-eqb, lt-ltb, le-ltb}
 use Rattle.rules.proofs.TestLaws.{by-test, and-true, and-no}
-use Rattle.rules.specs.Octets.{if_then_else_}
 use Rattle.rules.specs.declared.NextHop.{NextHop}
 use Rattle.rules.specs.declared.Ruling.{Ruling}
 use Rattle.rules.specs.declared.Ruling.the-variants.{Found, Absent}
 use Rattle.rules.specs.Settings as S
 use Rattle.handler.specs.Store.{valueAt, destAt, hopAt, hopsFrom, stepped, searched, lastAt, hintAt, placeIn, hopFor, Ordered, StandsFor}
+use Rattle.handler.specs.Shapes.{unlessWithdrawn}
 use Rattle.handler.proofs.StoreLaws.{step-past, step-up, step-stay, place-hinted, place-searched, for-past, for-other}
 use Rattle.handler.proofs.RulingLaws.{Below, newer-rules, row-others, row-below, hops-split, fold-append}
 
--- "if it is a withdrawal, there is no next hop"
-unfoldable pub unlessWithdrawn : Ruling → Ruling
-unlessWithdrawn Absent = Absent
-unlessWithdrawn (Found r) = if eqb (r .neighbour) 0 then Absent else Found r
-
+-- the next hop is the record that rules unless it is withdrawn
 pub next-hop : (T : S.Settings) (d : ℕ) → S.nextHop T d ≡ unlessWithdrawn (S.ruling (T .hops) d)
 unfolding S.nextHop unlessWithdrawn
 next-hop T d = go (S.ruling (T .hops) d) refl

@@ -33,8 +33,8 @@ use Rattle.handler.specs.declared.way.Own.{Own}
 use Rattle.handler.specs.Keys.{flagTaken}
 use Rattle.handler.specs.Store.{nicknameIn, countIn, rankAt, hopsFrom, placeIn, hopFor, waysIn, storeGood, handledIn, StandsFor, Stands, Roomy, Takes, Filled, Fills, Hinted, preparing, Prepared}
 use Rattle.handler.specs.Insert.{storeKey, storeValue, metAt, PlaceFor, Shifted, PutIn, Inserted}
-use Rattle.handler.proofs.Taken.{its, taken}
-use Rattle.handler.proofs.KeyLaws.{field-flag}
+use Rattle.handler.proofs.Taken.{taken, taken-first}
+use Rattle.handler.proofs.KeyLaws.{field-flag, flag-tag}
 use Rattle.handler.proofs.JudgeLaws.{continues-flag, continues-other, continues-cut, first, settings-open, settings-shut, settings-bad, settings-cut}
 use Rattle.handler.proofs.FieldWalks.{own-fold, opened-field}
 use Rattle.handler.proofs.InsertLaws.{met-past, met-there, above-one-more, below-it, Shifting, shifting-begin, shifting-on, shifting-end, insert-refused, insert-done, put-done, fitting, met-refused, unmet-put, stands-more, stands-same}
@@ -216,10 +216,6 @@ module _ (w : List ℕ) (tag : ℕ) (v : List ℕ) (two : tag ≡ 2 → ⊥) whe
       by-test (eqb tag 3) (λ e. rw (eqb-true tag 3 e) (continues-flag T v [] 0)) (λ e. continues-other T v [] 0 tag two (eqb-false tag 3 e))
       ∙ field-flag [] 0 tag v two
 
-  flag-three : flagTaken tag v ≡ true → tag ≡ 3
-  unfolding flagTaken
-  flag-three t = eqb-true tag 3 (and-true (eqb tag 3) (eqb (length v) 1 && S.stripGood v) t .0)
-
   with-flag : (T : Settings) → tag ≡ 3 → withField T (field tag v) ≡ S.withStrip T (not (eqb (octet v 0) 0))
   unfolding withField
   with-flag T e = rw e
@@ -241,7 +237,7 @@ module _ (w : List ℕ) (tag : ℕ) (v : List ℕ) (two : tag ≡ 2 → ⊥) whe
 
         stands-flag : (T : Settings) → Stands w T → Stands (set w 2 b) (withField T (field tag v))
         stands-flag T s =
-            rw (with-flag T (flag-three (sym is ∙ not-false ok n)))
+            rw (with-flag T (flag-tag tag v (sym is ∙ not-false ok n)))
             (record {
               nickname = other 0 (omega arith) ∙ s .nickname;
               mac = ap (λ (y : ℕ). y / 65536) (other 1 (omega arith)) ∙ s .mac;
@@ -498,10 +494,7 @@ module _ (s : List ℕ) (read : FieldRead) (q : read ≡ fieldAt s 0) where
         ∙ ap (λ (T : Settings). settingsFrom T (fieldsFrom (length s) s next)) (opened-field tag (part s 3 (next - 3)) ∙ ap switchOf (sym held)) in
         rw is-from (rw less at (fills .filled (switchOf v) (length s - 1) stands (omega (arith, i))))
 
-pub first-from : (s : List ℕ) (read : FieldRead) (tag size next : ℕ) → read ≡ fieldAt s 0 → read ≡ Taken tag size next → 3 ≤ next
-first-from s read tag size next q t = omega (arith, field-read s 0 tag size next (sym q ∙ t))
-
-pub ruleset prepare-laws = (needs, taken, first-from, prepare-cut, prepare-shut, prepare-filled)
+pub ruleset prepare-laws = (needs, taken, taken-first, prepare-cut, prepare-shut, prepare-filled)
 
 -- a store that stands for good settings says what they say
 settings-named : (s : List ℕ) (T : Settings) → settingsOf s ≡ some T → nicknameValid (T .nickname) ≡ true

@@ -36,8 +36,7 @@ use Rattle.rules.proofs.FrameLaws.{frame-read, header-passed, link-length, leng
 use Rattle.rules.proofs.ReplyLaws.{echo-body-length}
 use Rattle.rules.proofs.HandlingLaws.{transit-none, transit-over, faulted-silent, faulted-none, faulted-over, echoed-mode, echoed-none, echoed-over, echo-ranged, channel-echo}
 use Rattle.rules.proofs.HandlingLaws.{inner-short, inner-untagged, inner-any, inner-delivered, inner-up, inner-channel, routed-faulty, routed-stopped, routed-egress, routed-transit}
-use Rattle.rules.proofs.HandlingLaws.{handling-unread, handling-refused, handling-routed, clock-bad, room-short, frame-long, frame-handled, settings-bad, settings-good}
-use Rattle.rules.proofs.SettingsLaws.{settings-read}
+use Rattle.rules.proofs.HandlingLaws.{handling-unread, handling-refused, handling-routed, clock-bad, room-short, frame-long, frame-handled}
 use Rattle.rules.proofs.HandledLaws.{forwarded-fits}
 use Rattle.handler.specs.declared.answers.Handled.{Handled}
 use Rattle.handler.specs.declared.Routed.{Routed}
@@ -555,30 +554,17 @@ module _ (S : Ways) (clock f out : List ℕ) (own : Own) (e : Examined) (t : Tol
   pub told-after : out′ ≡ outputAfter out (handledWith S clock (length out) f)
   told-after = rw handled-so (done .after)
 
+-- a frame that is answered before a next hop is asked for
+module _ (S : Ways) (clock f out : List ℕ) (own : Own) (e : Examined) (a : Handled) (t : e .task ≡ Answered a) (x : Examining own clock f (length out) e) (o : own ≡ ownOf S) where
+  early-so : handledWith S clock (length out) f ≡ answerBy a
+  early-so = x .same S o ∙ rw t
+
+  pub answered-told : (told : Routed) → told ≡ toldBy a → told ≡ routedOf (handledWith S clock (length out) f)
+  answered-told told is =
+      let none : a .written ≡ 0 = (rw t at (x .held)) .0 in
+      is ∙ rw early-so (ap (λ (w : ℕ). toldBy (record { number = a .number; written = w; start = a .start; length = a .length; via = a .via })) none)
+
+  pub answered-after : out ≡ outputAfter out (handledWith S clock (length out) f)
+  answered-after = rw early-so (sym (put-none out 0))
+
 pub ruleset handle-fields-laws = (needs, told-answer, told-after)
-
-pub told-dropped : (a : A.Handled) (n : ℕ) (r : Handled) (t : Routed) (out : List ℕ) → a ≡ A.dropped n → r ≡ numbersOf (A.dropped n) → t ≡ toldBy r → (t ≡ routedOf a) × (out ≡ put out 0 (a .octets))
-told-dropped a n r t out e is told = rw e (told ∙ rw is, sym (put-none out 0))
-
--- the call with settings judged first
-module _ (settings clock frame out : List ℕ) where
-  pub answer-bad : known (settingsOf settings) ≡ false → (r : Handled) (t : Routed) → r ≡ numbersOf (A.dropped 1) → t ≡ toldBy r
-      → (t .answer ≡ answerOf (handled settings clock (length out) frame)) × (out ≡ outputAfter out (handled settings clock (length out) frame))
-  answer-bad bad r t is told = go (settingsOf settings) refl
-    where
-      go : (w : Option Settings) → settingsOf settings ≡ w → (t .answer ≡ answerOf (handled settings clock (length out) frame)) × (out ≡ outputAfter out (handled settings clock (length out) frame))
-      go none e =
-          let d = told-dropped (handled settings clock (length out) frame) 1 r t out (settings-bad settings clock (length out) frame e) is told in
-          (ap (λ (x : Routed). x .answer) (d .0), d .1)
-      go (some S) e = let z : true ≡ false = ap known (sym e) ∙ bad in absurd (true≢false z)
-
-  pub answer-good : known (settingsOf settings) ≡ true → (t : Routed) (out′ : List ℕ) → t ≡ routedOf (handledWith (waysOf (settingsRead settings)) clock (length out) frame)
-      → out′ ≡ outputAfter out (handledWith (waysOf (settingsRead settings)) clock (length out) frame)
-      → (t .answer ≡ answerOf (handled settings clock (length out) frame)) × (out′ ≡ outputAfter out (handled settings clock (length out) frame))
-  answer-good good t out′ is w = go (settingsOf settings) refl
-    where
-      go : (o : Option Settings) → settingsOf settings ≡ o → (t .answer ≡ answerOf (handled settings clock (length out) frame)) × (out′ ≡ outputAfter out (handled settings clock (length out) frame))
-      go none e = let z : false ≡ true = ap known (sym e) ∙ good in absurd (false≢true z)
-      go (some S) e =
-          let same : handledWith (waysOf (settingsRead settings)) clock (length out) frame ≡ handled settings clock (length out) frame = ap (λ (x : Settings). handledWith (waysOf x) clock (length out) frame) (settings-read settings S e) ∙ sym (settings-good settings clock (length out) frame S e) in
-          rw (← same) (ap (λ (x : Routed). x .answer) is, w)

@@ -20,10 +20,11 @@ use Rattle.handler.specs.declared.answers.Handled.{Handled}
 use Rattle.handler.specs.declared.Routed.{Routed}
 use Rattle.handler.specs.declared.way.Own.{Own}
 use Rattle.handler.specs.declared.way.Told.{Told}
+use Rattle.handler.specs.declared.handling.Task.the-variants.{Answered}
 use Rattle.handler.specs.declared.handling.Examined.{Examined}
 use Rattle.handler.specs.Shapes.{numbersOf, answerOf, routedOf, toldBy, ownOf, onlyFor, waysBy, Done}
 use Rattle.handler.specs.Tasks.{doneBy, askedBy, Examining}
-use Rattle.handler.proofs.StageLaws.{told-answer, told-after, tells}
+use Rattle.handler.proofs.StageLaws.{told-answer, told-after, answered-told, answered-after, tells}
 use Rattle.handler.specs.Store.{nicknameIn, countIn, valueAt, destAt, hopOf, hopAt, stepped, searched, lastAt, hintAt, placeIn, hopFor, waysIn, storeGood, handledIn, Whole, destOf}
 
 -- which words are good
@@ -202,6 +203,13 @@ module _ (w clock f out : List ℕ) (ok : Bool) (is : ok ≡ storeGood w) where
     pub good-store : Whole w
     good-store = good-whole w (sym is ∙ not-false ok n)
 
+    module _ (own : Own) (e : Examined) (a : Handled) (t : e .task ≡ Answered a) (x : Examining own clock f (length out) e) (o : own ≡ ownOf (waysIn w)) where
+      pub early-answer : (told : Routed) → told ≡ toldBy a → told ≡ routedOf (handledIn w clock (length out) f)
+      early-answer told from = answered-told (waysIn w) clock f out own e a t x o told from ∙ sym (ap routedOf good-is)
+
+      pub early-after : out ≡ outputAfter out (handledIn w clock (length out) f)
+      early-after = answered-after (waysIn w) clock f out own e a t x o ∙ sym (ap (outputAfter out) good-is)
+
     module _ (own : Own) (e : Examined) (t : Told) (d : ℕ) (r : Handled) (out′ : List ℕ) (done : Done (doneBy (waysBy t) clock f (e .header) (e .task)) r out out′)
         (x : Examining own clock f (length out) e) (said : waysBy t ≡ onlyFor d (waysIn w)) (asks : d ≡ askedBy (e .header) (e .task)) (o : own ≡ ownOf (waysIn w)) where
       pub good-answer : (told : Routed) → told ≡ toldBy r → told ≡ routedOf (handledIn w clock (length out) f)
@@ -210,7 +218,7 @@ module _ (w clock f out : List ℕ) (ok : Bool) (is : ok ≡ storeGood w) where
       pub good-after : out′ ≡ outputAfter out (handledIn w clock (length out) f)
       good-after = told-after (waysIn w) clock f out own e t d r out′ done x said asks o ∙ sym (ap (outputAfter out) good-is)
 
-pub ruleset handle-prepared-laws = (needs, good-store, bad-answer, bad-after, good-answer, good-after)
+pub ruleset handle-prepared-laws = (needs, good-store, bad-answer, bad-after, early-answer, early-after, good-answer, good-after)
 
 pub answer-only : (w clock f out : List ℕ) (told : Routed) → told ≡ routedOf (handledIn w clock (length out) f) → told .answer ≡ answerOf (handledIn w clock (length out) f)
 answer-only w clock f out told e = ap (λ (x : Routed). x .answer) e

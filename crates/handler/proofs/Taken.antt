@@ -26,3 +26,7 @@ module _ (s : List ℕ) (at tag size next : ℕ) (read : FieldRead) (t : read �
   taken-less = omega (arith, its)
 
 pub ruleset taken = (taken-whole, taken-from, taken-to, taken-less)
+
+-- the first field
+pub taken-first : (s : List ℕ) (read : FieldRead) (tag size next : ℕ) → read ≡ fieldAt s 0 → read ≡ Taken tag size next → 3 ≤ next
+taken-first s read tag size next e t = omega (arith, its s 0 tag size next read t e)

@@ -21,11 +21,13 @@ use Rattle.rules.specs.declared.Ruling.the-variants.{Found, Absent}
 use Rattle.rules.proofs.OctetLaws.{put-none}
 use Rattle.rules.proofs.FrameLaws.{length-link}
 use Rattle.rules.proofs.SettingsLaws.{settings-read}
+use Rattle.handler.specs.declared.judged.Judged.{Judged}
 use Rattle.handler.specs.declared.way.Told.{Told}
 use Rattle.handler.specs.declared.way.Way.{Way}
 use Rattle.handler.specs.declared.way.Way.the-variants.{Via, NoWay}
 use Rattle.handler.specs.declared.way.WayOut.{WayOut}
 use Rattle.handler.specs.Shapes.{Linked, wayBy, linkBy, waysBy, onlyFor, shortBy, WayDone}
+use Rattle.handler.specs.Keys.{JudgedBy}
 use Rattle.handler.specs.Store as St
 use Rattle.handler.specs.Store.{storeGood, waysIn, wayOutIn, Whole}
 use Rattle.handler.proofs.StoreLaws.{good-whole}
@@ -101,23 +103,25 @@ module _ (t : Told) (d : ℕ) (S : Ways) (said : waysBy t ≡ onlyFor d S) (out 
   told-way : WayDone (wayOutBy (waysBy t) 0 (length out)) r out out′ → WayDone (wayOutBy S d (length out)) r out out′
   told-way w = rw (said, one-asked S d (length out)) at w
 
-module _ (settings : List ℕ) (d : ℕ) (out : List ℕ) {ok : Bool} (is : ok ≡ known (settingsOf settings)) (r : WayOut) where
-  pub settings-no-way : not ok ≡ true → r ≡ record { number = 1; length = 0 } → WayDone (wayOut settings d (length out)) r out out
+module _ (settings : List ℕ) (d : ℕ) (out : List ℕ) (j : Judged) (is : JudgedBy settings d j) (r : WayOut) where
+  pub settings-no-way : not (j .good) ≡ true → r ≡ record { number = 1; length = 0 } → WayDone (wayOut settings d (length out)) r out out
   unfolding W.wayOut
   settings-no-way n e = go (settingsOf settings) refl
     where
       go : (o : Option Settings) → settingsOf settings ≡ o → WayDone (wayOut settings d (length out)) r out out
       go none s = rw (W.wayOut, s) (record { answer = e; after = sym (put-none out 0) })
-      go (some T) s = let z : true ≡ false = ap known (sym s) ∙ sym is ∙ not-true ok n in absurd (true≢false z)
+      go (some T) s = let z : true ≡ false = ap known (sym s) ∙ sym (is .judged) ∙ not-true (j .good) n in absurd (true≢false z)
 
-  pub settings-way : not ok ≡ false → (t : Told) (out′ : List ℕ) → WayDone (wayOutBy (waysBy t) 0 (length out)) r out out′
-      → waysBy t ≡ onlyFor d (waysOf (settingsRead settings)) → WayDone (wayOut settings d (length out)) r out out′
+  pub settings-way : not (j .good) ≡ false → (out′ : List ℕ) → WayDone (wayOutBy (waysBy (j .told)) 0 (length out)) r out out′
+      → WayDone (wayOut settings d (length out)) r out out′
   unfolding W.wayOut
-  settings-way n t out′ w said = go (settingsOf settings) refl
+  settings-way n out′ w = go (settingsOf settings) refl
     where
       go : (o : Option Settings) → settingsOf settings ≡ o → WayDone (wayOut settings d (length out)) r out out′
-      go none s = let z : false ≡ true = ap known (sym s) ∙ sym is ∙ not-false ok n in absurd (false≢true z)
-      go (some T) s = rw (W.wayOut, s) (rw (settings-read settings T s) at (told-way t d (waysOf (settingsRead settings)) said out r out′ w))
+      go none s = let z : false ≡ true = ap known (sym s) ∙ sym (is .judged) ∙ not-false (j .good) n in absurd (false≢true z)
+      go (some T) s =
+          let said = is .tells (not-false (j .good) n) in
+          rw (W.wayOut, s) (rw (settings-read settings T s) at (told-way (j .told) d (waysOf (settingsRead settings)) said out r out′ w))
 
 pub store-whole : (store : List ℕ) {ok : Bool} → ok ≡ storeGood store → not ok ≡ false → Whole store
 store-whole store {ok} is n = good-whole store (sym is ∙ not-false ok n)

@@ -7,9 +7,13 @@ use lib.ListN.{length, getD, take}
 use lib.Dec.{ltb, leb, eqb}
 use Rattle.rules.specs.Octets.{if_then_else_}
 use Rattle.rules.specs.Fields.{fieldsFrom}
-use Rattle.rules.specs.Settings.{Settings, hopGood, hopOf, hopsMost, stripGood, settingsFrom}
+use Rattle.rules.specs.Settings.{Settings, hopGood, hopOf, hopsMost, stripGood, settingsFrom, settingsOf, settingsRead, waysOf}
 use Rattle.rules.specs.Campus.{known}
 use Rattle.rules.specs.declared.NextHop.{NextHop}
+use Rattle.rules.specs.declared.Ruling.the-variants.{Absent}
+use Rattle.handler.specs.declared.judged.Scan.{Scan}
+use Rattle.handler.specs.declared.judged.Judged.{Judged}
+use Rattle.handler.specs.Shapes.{ruledBy, flaggedBy, FoldedFrom, waysBy, onlyFor}
 
 -- destination above serial: two records of one destination with equal serials have one key
 abbrev pub keyOf : NextHop → ℕ
@@ -72,3 +76,14 @@ pub record Taking (good : Bool) (met : List ℕ) (r : ℕ) (keys seen : List ℕ
 -- r: whether the fields from a place on go with settings that have no records yet, by any fuel that reaches the end
 abbrev pub Verdict : List ℕ → ℕ → Bool → Type 0
 Verdict s from r = (T : Settings) (g : ℕ) → T .hops ≡ [] → length s ≤ from + g → r ≡ known (settingsFrom T (fieldsFrom (suc g) s from))
+
+-- one pass over the fields from a place on: the verdict, and what the fields say if they are good
+pub record Scanned (s : List ℕ) (from d : ℕ) (r : Scan) : Type 0 where
+  pub verdict : Verdict s from (r .good)
+  pub ruled : r .good ≡ true → FoldedFrom (ruledBy d) Absent s from (r .best)
+  pub flagged : r .good ≡ true → FoldedFrom flaggedBy false s from (r .strip)
+
+-- settings octets judged, and what they say of one destination if they are good
+pub record JudgedBy (s : List ℕ) (d : ℕ) (r : Judged) : Type 0 where
+  pub judged : r .good ≡ known (settingsOf s)
+  pub tells : r .good ≡ true → waysBy (r .told) ≡ onlyFor d (waysOf (settingsRead s))

@@ -65,6 +65,11 @@ unfoldable pub flaggedBy : Bool → Field → Bool
 flaggedBy strip cut = strip
 flaggedBy strip (field tag v) = if eqb tag 3 then not (eqb (octet v 0) 0) else strip
 
+-- "if it is a withdrawal, there is no next hop"
+unfoldable pub unlessWithdrawn : Ruling → Ruling
+unlessWithdrawn Absent = Absent
+unlessWithdrawn (Found r) = if eqb (r .neighbour) 0 then Absent else Found r
+
 -- what the fields from a place on give, folded with any fuel that is enough for them
 abbrev pub FoldedFrom : {A : Type 0} → (A → Field → A) → A → List ℕ → ℕ → A → Type 0
 FoldedFrom step start s from r = (g : ℕ) → length s ≤ from + g → r ≡ foldl step start (fieldsFrom (suc g) s from)

@@ -1,13 +1,17 @@
 // Whether settings octets are good (document 01, "Settings"): one tag 1 field, then tag 2 and 3 fields; anything else is bad.
+use crate::settings;
+use crate::way::Own;
+use crate::way::Told;
 use rules::FieldRead;
+use rules::Ruling;
 ghost use mathlib.Core.Path.{_≡_};
 ghost use mathlib.Core.Bool.{false, _||_, not};
 ghost use Prim.Native.Nat.{_<_, _≤_};
 ghost use lib.ListN.{length, take};
 ghost use Rattle.rules.specs.Fields.{field};
 ghost use Rattle.rules.specs.Settings as S;
-ghost use Rattle.rules.specs.Campus.{known};
-ghost use Rattle.handler.specs.Keys.{keyOf, mixOf, slotBy, markBy, coversBy, markedBy, keyMet, Kept, hopTaken, withKey, flagTaken, Taking, Verdict};
+ghost use Rattle.handler.specs.Keys.{keyOf, mixOf, slotBy, markBy, coversBy, markedBy, keyMet, Kept, hopTaken, withKey, flagTaken, Taking, Scanned, JudgedBy};
+ghost use Rattle.handler.specs.Shapes.{ownOf, unlessWithdrawn};
 
 pub fn opens(tag: u8, v: &[u8]) -> bool
     ensures { λ r. ⌜ r ≡ S.opens (field tag (now (v .entry))) ⌝ }
@@ -129,14 +133,23 @@ pub fn flag_good(tag: u8, v: &[u8]) -> bool
     octets::octet(v, 0) <= 1
 }
 
+// What one pass over the fields tells: whether they are good, and then the strip flag and the record that rules for a destination.
+pub struct Scan {
+    pub good: bool,
+    pub strip: bool,
+    pub best: Ruling,
+}
+
 // A good record has 17 octets and a good flag 4: steps that do not wait for the length read.
-fn fields_good(s: &[u8], from: usize) -> bool
+fn scan_from(s: &[u8], from: usize, d: u16) -> Scan
     requires { ⌜ from ≤ length (now s) ⌝ }
-    ensures { λ r. ⌜ Verdict (now (s .entry)) from r ⌝ }
+    ensures { λ r. ⌜ Scanned (now (s .entry)) from d r ⌝ }
 {
     let mut keys = [0u64; 64];
     let mut seen = [0u8; 256];
     let mut n = 0;
+    let mut best = Ruling::Absent;
+    let mut strip = false;
     let mut at = from;
     while at < s.len() {
         let FieldRead::Taken {
@@ -145,27 +158,76 @@ fn fields_good(s: &[u8], from: usize) -> bool
             next,
         } = octets::field_at(s, at)
         else {
-            return false;
+            return bad_scan();
         };
         let v = &s[at + 3..next];
         if tag == 2 {
             n = admit(&mut keys, &mut seen, n, v);
             if 64 < n {
-                return false;
+                return bad_scan();
             }
+            best = settings::newer(d, best, v);
             at += 17;
         } else {
             if !flag_good(tag, v) {
-                return false;
+                return bad_scan();
             }
+            strip = octets::octet(v, 0) != 0;
             at += 4;
         }
     }
-    true
+    Scan {
+        good: true,
+        strip: strip,
+        best: best,
+    }
 }
 
-pub fn settings_good(s: &[u8]) -> bool
-    ensures { λ r. ⌜ r ≡ known (S.settingsOf (now (s .entry))) ⌝ }
+fn bad_scan() -> Scan
+    ensures { λ r. ⌜ r .good ≡ false ⌝ }
+{
+    Scan {
+        good: false,
+        strip: false,
+        best: Ruling::Absent,
+    }
+}
+
+// "if it is a withdrawal, there is no next hop"
+fn unless_withdrawn(best: Ruling) -> Ruling
+    ensures { λ r. ⌜ r ≡ unlessWithdrawn best ⌝ }
+{
+    let Ruling::Found(r) = best else {
+        return Ruling::Absent;
+    };
+    if r.neighbour == 0 {
+        return Ruling::Absent;
+    }
+    Ruling::Found(r)
+}
+
+// The settings judged, and what a handling is told that asks for the next hop of `d`.
+pub struct Judged {
+    pub good: bool,
+    pub told: Told,
+}
+
+fn bad(own: Own) -> Judged
+    ensures { λ r. ⌜ r .good ≡ false ⌝ }
+{
+    Judged {
+        good: false,
+        told: Told {
+            own: own,
+            strip: false,
+            hop: Ruling::Absent,
+        },
+    }
+}
+
+pub fn judge(s: &[u8], own: Own, d: u16) -> Judged
+    requires { ⌜ own ≡ ownOf (S.waysOf (S.settingsRead (now s))) ⌝ }
+    ensures { λ r. ⌜ JudgedBy (now (s .entry)) d r ⌝ }
 {
     let FieldRead::Taken {
         tag,
@@ -173,10 +235,19 @@ pub fn settings_good(s: &[u8]) -> bool
         next,
     } = octets::field_at(s, 0)
     else {
-        return false;
+        return bad(own);
     };
     if !opens(tag, &s[3..next]) {
-        return false;
+        return bad(own);
     }
-    fields_good(s, next)
+    let r = scan_from(s, next, d);
+    let best = r.best;
+    Judged {
+        good: r.good,
+        told: Told {
+            own: own,
+            strip: r.strip,
+            hop: unless_withdrawn(best),
+        },
+    }
 }

@@ -58,6 +58,10 @@ pub fn handle_prepared(frame: &[u8], store: &[u64], clock: &[u8], out: &mut [u8]
     }
     let own = store::own_of(store);
     let e = handling::examine(own, clock, frame, out.len());
+    let task = e.task;
+    if let handling::Task::Answered(a) = task {
+        return told(a);
+    }
     let t = store::told(store, own, handling::asked(e));
     told(handling::carry_out(t, e, clock, frame, out))
 }
@@ -99,10 +103,14 @@ pub extern "C" fn trill_handle(
     ensures { λ r. ⌜ (r ≡ answerOf (handled (now (settings .entry)) (now (clock .entry)) (length (now (out .entry))) (now (frame .entry))))
         × (now (out .exit) ≡ outputAfter (now (out .entry)) (handled (now (settings .entry)) (now (clock .entry)) (length (now (out .entry))) (now (frame .entry)))) ⌝ }
 {
-    if !judged::settings_good(settings) {
+    let own = settings::own_of(settings);
+    let e = handling::examine(own, clock, frame, out.len());
+    let j = judged::judge(settings, own, handling::asked(e));
+    if !j.good {
         return told(answers::dropped(1)).answer;
     }
-    handle_fields(frame, settings, clock, out).answer
+    let t = j.told;
+    told(handling::carry_out(t, e, clock, frame, out)).answer
 }
 
 // Settings octets into a store of 164 words or more, once for all frames: 0, 1 for bad settings, 2 for too few words.
@@ -139,11 +147,13 @@ pub extern "C" fn trill_handle_prepared(
 pub extern "C" fn trill_way_out(settings: &[u8], destination: u16, out: &mut [u8]) -> WayOut
     ensures { λ r. ⌜ WayDone (wayOut (now (settings .entry)) destination (length (now (out .entry)))) r (now (out .entry)) (now (out .exit)) ⌝ }
 {
-    if !judged::settings_good(settings) {
+    let own = settings::own_of(settings);
+    let j = judged::judge(settings, own, destination);
+    if !j.good {
         return way::no_way(1);
     }
-    let own = settings::own_of(settings);
-    way::way_out(settings::told(settings, own, destination), out)
+    let t = j.told;
+    way::way_out(t, out)
 }
 
 #[no_mangle]

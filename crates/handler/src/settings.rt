@@ -36,7 +36,7 @@ pub fn own_of(s: &[u8]) -> Own
 }
 
 // The record that rules once the one in `v` is seen too.
-fn newer(d: u16, best: Ruling, v: &[u8]) -> Ruling
+pub fn newer(d: u16, best: Ruling, v: &[u8]) -> Ruling
     ensures { λ r. ⌜ r ≡ S.newer d best (S.hopOf (now (v .entry))) ⌝ }
 {
     if octets::be16(v, 0) != d {

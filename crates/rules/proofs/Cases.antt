@@ -1,8 +1,7 @@
 -- C1 to C12, one claim over the table of specs/Cases.antt, by computation. Assumes nothing.
 use mathlib.Core.Path.{_≡_, refl}
-use mathlib.Core.List.{[]}
-use Rattle.rules.specs.Cases.{failing, cases}
+use Rattle.rules.specs.Cases.{cases, computedIn, expectedIn}
 
-pub cases-hold : failing cases ≡ []
-unfolding failing cases
+pub cases-hold : computedIn cases ≡ expectedIn cases
+unfolding cases computedIn
 cases-hold = refl

@@ -1,17 +1,18 @@
--- Laws of fields: one for each outcome of reading a field, what is known of a field that was taken, and the fields from a place on by what
--- stands there. Assumes nothing.
-use mathlib.Core.Path.{_≡_, refl}
+-- Laws of fields: one for each outcome of reading a field, what is known of a field that was taken, the fields from a place on by what
+-- stands there, and that more fuel changes none of them. By the tests, and by induction on the fuel. Assumes nothing.
+use mathlib.Core.Path.{_≡_, refl, sym, ap, _∙_}
 use mathlib.Core.List.{List, [], _∷_}
 use mathlib.Core.Bool.{Bool, true, false, cond}
-use Prim.Native.Nat.{ℕ, suc, _+_, _<_, _≤_}
+use Prim.Native.Nat.{ℕ, zero, suc, _+_, _<_, _≤_}
 use native.Mathlib.Omega.{arith}
-use borrow.Author.Tests.{lt-ltb, le-ltb, ltb-false}
+use borrow.Author.Tests.{lt-ltb, le-ltb, ltb-true, ltb-false}
 use lib.Dec.{ltb}
 use lib.ListN.{length}
 use Rattle.rules.specs.Octets.{octet, be16, part}
-use Rattle.rules.specs.Fields.{field, cut, fieldAt, fieldsFrom}
+use Rattle.rules.specs.Fields.{Field, field, cut, fieldAt, fieldsFrom, fieldsAt}
 use Rattle.rules.specs.declared.FieldRead.{FieldRead}
 use Rattle.rules.specs.declared.FieldRead.the-variants.{Taken, Cut}
+use Rattle.rules.proofs.TestLaws.{by-test}
 
 module _ (s : List ℕ) (at : ℕ) where
   pub field-short : length s < at + 3 → Cut ≡ fieldAt s at
@@ -63,3 +64,39 @@ module _ (fuel : ℕ) (s : List ℕ) (at : ℕ) where
       → fieldsFrom (suc fuel) s at ≡ field tag (part s (at + 3) size) ∷ fieldsFrom fuel s next
   unfolding fieldsFrom
   fields-on tag size next h e = rw (fieldsFrom, lt-ltb at (length s) h, e)
+
+-- a fuel that reaches the end of the octets is as good as any other that does
+module _ (s : List ℕ) where
+  pub fields-fuel : (g g′ at : ℕ) → length s ≤ at + g → length s ≤ at + g′ → fieldsFrom (suc g) s at ≡ fieldsFrom (suc g′) s at
+  fields-fuel zero g′ at h h′ = fields-end 0 s at (omega arith) ∙ sym (fields-end g′ s at (omega arith))
+  fields-fuel (suc g) zero at h h′ = fields-end (suc g) s at (omega arith) ∙ sym (fields-end 0 s at (omega arith))
+  fields-fuel (suc g) (suc g′) at h h′ =
+      by-test (ltb at (length s))
+      (λ b. inside (ltb-true at (length s) b) (fieldAt s at) refl (λ next k. fields-fuel g g′ next (omega (arith, k)) (omega (arith, k))))
+      (λ b. let e = ltb-false at (length s) b in fields-end (suc g) s at e ∙ sym (fields-end (suc g′) s at e))
+    where
+      inside : at < length s → (w : FieldRead) → fieldAt s at ≡ w → ((next : ℕ) → at + 3 ≤ next → fieldsFrom (suc g) s next ≡ fieldsFrom (suc g′) s next)
+          → fieldsFrom (suc (suc g)) s at ≡ fieldsFrom (suc (suc g′)) s at
+      inside l Cut e ih = fields-cut (suc g) s at l e ∙ sym (fields-cut (suc g′) s at l e)
+      inside l (Taken tag size next) e ih =
+          let i = field-read s at tag size next e in
+          fields-on (suc g) s at tag size next l e
+          ∙ ap (λ (fs : List Field). field tag (part s (at + 3) size) ∷ fs) (ih next (omega (arith, i .ends)))
+          ∙ sym (fields-on (suc g′) s at tag size next l e)
+
+  pub fields-whole : (at g : ℕ) → length s ≤ at + g → fieldsFrom (suc g) s at ≡ fieldsAt s at
+  fields-whole at g h = fields-fuel g (length s) at h (omega arith)
+
+  -- so the fields from a place on, without a fuel
+  module _ (at : ℕ) where
+    pub fields-at-end : length s ≤ at → fieldsAt s at ≡ []
+    fields-at-end h = fields-end (length s) s at h
+
+    pub fields-at-cut : at < length s → fieldAt s at ≡ Cut → fieldsAt s at ≡ cut ∷ []
+    fields-at-cut h e = fields-cut (length s) s at h e
+
+    pub fields-at-on : (tag size next : ℕ) → at < length s → fieldAt s at ≡ Taken tag size next
+        → fieldsAt s at ≡ field tag (part s (at + 3) size) ∷ fieldsAt s next
+    fields-at-on tag size next h e =
+        let i = field-read s at tag size next e in
+        sym (fields-whole at (suc (length s)) (omega arith)) ∙ fields-on (suc (length s)) s at tag size next h e

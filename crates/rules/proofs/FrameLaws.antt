@@ -134,33 +134,33 @@ frame-read f h e =
     }
 
 -- a frame of a link header, a TRILL header of a word and two nicknames, and a rest
-abbrev pub headed : ℕ → ℕ → ℕ → List ℕ → List ℕ
-headed w e i rest = octets16 w ++ octets16 e ++ octets16 i ++ rest
+abbrev pub withHeader : ℕ → ℕ → ℕ → List ℕ → List ℕ
+withHeader w e i rest = octets16 w ++ octets16 e ++ octets16 i ++ rest
 
 module _ (l : List ℕ) (is : IsLink l) (w e i : ℕ) (hw : w < 65536) (he : e < 65536) (hi : i < 65536) where
-  pub read-headed : (rest : List ℕ) → readFrame (l ++ headed w e i rest) ≡ Trill (record { place = length l; word = w; egress = e; ingress = i })
-  read-headed rest =
-      let f : List ℕ = l ++ headed w e i rest in
-      let k : linkLength f ≡ length l = link-kept l (headed w e i rest) is ∙ sym (is .long) in
-      let n : length f ≡ length l + (6 + length rest) = length-append l (headed w e i rest) ∙ omega arith in
+  pub read-with-header : (rest : List ℕ) → readFrame (l ++ withHeader w e i rest) ≡ Trill (record { place = length l; word = w; egress = e; ingress = i })
+  read-with-header rest =
+      let f : List ℕ = l ++ withHeader w e i rest in
+      let k : linkLength f ≡ length l = link-kept l (withHeader w e i rest) is ∙ sym (is .long) in
+      let n : length f ≡ length l + (6 + length rest) = length-append l (withHeader w e i rest) ∙ omega arith in
       let g : 14 ≤ length l = omega (arith, is .long, link-length l) in
-      let r0 : be16 f (length l + 0) ≡ w = be16-after l (headed w e i rest) 0 ∙ omega arith in
-      let r2 : be16 f (length l + 2) ≡ e = be16-after l (headed w e i rest) 2 ∙ omega arith in
-      let r4 : be16 f (length l + 4) ≡ i = be16-after l (headed w e i rest) 4 ∙ omega arith in
-      sym (read-trill f (omega (arith, n)) (omega (arith, n, k)) (ethertype-kept l (headed w e i rest) is) (omega (arith, n, k)))
+      let r0 : be16 f (length l + 0) ≡ w = be16-after l (withHeader w e i rest) 0 ∙ omega arith in
+      let r2 : be16 f (length l + 2) ≡ e = be16-after l (withHeader w e i rest) 2 ∙ omega arith in
+      let r4 : be16 f (length l + 4) ≡ i = be16-after l (withHeader w e i rest) 4 ∙ omega arith in
+      sym (read-trill f (omega (arith, n)) (omega (arith, n, k)) (ethertype-kept l (withHeader w e i rest) is) (omega (arith, n, k)))
       ∙ (rw (k, rw add-zero at r0, r2, r4))
 
 -- options area and inner frame of such a frame
-pub after-header : (l : List ℕ) (w e i : ℕ) (rest : List ℕ) → drop (length l + 6) (l ++ headed w e i rest) ≡ rest
-after-header l w e i rest = drop-append-add l (headed w e i rest) 6
+pub after-header : (l : List ℕ) (w e i : ℕ) (rest : List ℕ) → drop (length l + 6) (l ++ withHeader w e i rest) ≡ rest
+after-header l w e i rest = drop-append-add l (withHeader w e i rest) 6
 
 module _ (l : List ℕ) (h : Header) (area inner : List ℕ) (place : h .place ≡ length l) (whole : length area ≡ 4 * opLength (h .word)) where
-  pub area-headed : areaOf (l ++ headed (h .word) (h .egress) (h .ingress) (area ++ inner)) h ≡ area
-  area-headed = rw (place, after-header l (h .word) (h .egress) (h .ingress) (area ++ inner)) (take-at area inner (4 * opLength (h .word)) whole)
+  pub area-with-header : areaOf (l ++ withHeader (h .word) (h .egress) (h .ingress) (area ++ inner)) h ≡ area
+  area-with-header = rw (place, after-header l (h .word) (h .egress) (h .ingress) (area ++ inner)) (take-at area inner (4 * opLength (h .word)) whole)
 
-  pub inner-headed : innerOf (l ++ headed (h .word) (h .egress) (h .ingress) (area ++ inner)) h ≡ inner
-  inner-headed =
-      rw (← drop-drop (4 * opLength (h .word)) (h .place + 6) (l ++ headed (h .word) (h .egress) (h .ingress) (area ++ inner)), place, after-header l (h .word) (h .egress) (h .ingress) (area ++ inner))
+  pub inner-with-header : innerOf (l ++ withHeader (h .word) (h .egress) (h .ingress) (area ++ inner)) h ≡ inner
+  inner-with-header =
+      rw (← drop-drop (4 * opLength (h .word)) (h .place + 6) (l ++ withHeader (h .word) (h .egress) (h .ingress) (area ++ inner)), place, after-header l (h .word) (h .egress) (h .ingress) (area ++ inner))
       (drop-at area inner (4 * opLength (h .word)) whole)
 
 -- a received frame of which none of 12 to 18 is given
@@ -247,12 +247,12 @@ module _ (S : Ways) (f : List ℕ) (h : Header) (read : readFrame f ≡ Trill h)
 
     pub forwarded-read : readFrame (l ++ forwardedRest S f h) ≡ Trill sentHeader
     unfolding forwardedRest
-    forwarded-read = read-headed l is sentWord (h .egress) (h .ingress) (sent-split .fits) (frame-read f h read .egress-fits) (frame-read f h read .ingress-fits) (sentArea ++ innerOf f h)
+    forwarded-read = read-with-header l is sentWord (h .egress) (h .ingress) (sent-split .fits) (frame-read f h read .egress-fits) (frame-read f h read .ingress-fits) (sentArea ++ innerOf f h)
 
     pub forwarded-area : areaOf (l ++ forwardedRest S f h) sentHeader ≡ sentArea
     unfolding forwardedRest
-    forwarded-area = area-headed l sentHeader sentArea (innerOf f h) refl sent-whole
+    forwarded-area = area-with-header l sentHeader sentArea (innerOf f h) refl sent-whole
 
     pub forwarded-inner : innerOf (l ++ forwardedRest S f h) sentHeader ≡ innerOf f h
     unfolding forwardedRest
-    forwarded-inner = inner-headed l sentHeader sentArea (innerOf f h) refl sent-whole
+    forwarded-inner = inner-with-header l sentHeader sentArea (innerOf f h) refl sent-whole

@@ -8,9 +8,11 @@ pub mod FrameLaws
 pub mod ReplyLaws
 pub mod HandlingLaws
 pub mod HandledLaws
-pub mod FlightLaws
+pub mod StepLaws
 pub mod WalkLaws
 pub mod RunLaws
 pub mod DescriptionLaws
+pub mod OutcomeLaws
 pub mod DemandLaws
+pub mod TextLaws
 pub mod Cases

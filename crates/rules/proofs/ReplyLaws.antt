@@ -18,7 +18,7 @@ use Rattle.rules.specs.declared.Header.{Header}
 use Rattle.rules.specs.declared.FrameRead.the-variants.{Trill}
 use Rattle.rules.specs.declared.ChannelRead.the-variants.{ErrorHeard, EchoHeard}
 use Rattle.rules.proofs.TestLaws.{by-test, or-yes}
-use Rattle.rules.proofs.FrameLaws.{IsLink, read-headed, inner-headed, length-link}
+use Rattle.rules.proofs.FrameLaws.{IsLink, read-with-header, inner-with-header, length-link}
 
 module _ (S : Ways) (own : S .nickname < 65536) (ingress : ℕ) (hi : ingress < 65536) (number code : ℕ) (body : List ℕ) (l : List ℕ) (is : IsLink l) where
   abbrev pub replyHeader : Header
@@ -26,11 +26,11 @@ module _ (S : Ways) (own : S .nickname < 65536) (ingress : ℕ) (hi : ingress < 
 
   pub reply-read : readFrame (l ++ replyRest S ingress number code body) ≡ Trill replyHeader
   unfolding replyRest
-  reply-read = read-headed l is 0x003F ingress (S .nickname) (omega arith) hi own (replyInner S number code body)
+  reply-read = read-with-header l is 0x003F ingress (S .nickname) (omega arith) hi own (replyInner S number code body)
 
   pub reply-inner : innerOf (l ++ replyRest S ingress number code body) replyHeader ≡ replyInner S number code body
   unfolding replyRest
-  reply-inner = inner-headed l replyHeader [] (replyInner S number code body) refl refl
+  reply-inner = inner-with-header l replyHeader [] (replyInner S number code body) refl refl
 
 -- an error that was written is heard as an error
 pub error-heard : (S : Ways) (code : ℕ) (body : List ℕ) → code < 16 → channelRead (replyInner S protocolError code body) ≡ ErrorHeard

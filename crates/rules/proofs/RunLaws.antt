@@ -16,7 +16,7 @@ use Rattle.rules.specs.Campus.{switchNamed, Kind, reply, State, kindAfte
 use Rattle.rules.specs.Demand.{writesReply, repliesIn}
 use Rattle.rules.proofs.TestLaws.{by-test}
 use Rattle.rules.proofs.HandledLaws.{handling-bounded}
-use Rattle.rules.proofs.FlightLaws.{hop-most, ours, towards, IsReply, Forwarded, Replied, Does, does}
+use Rattle.rules.proofs.StepLaws.{hop-most, ours, towards, IsReply, Forwarded, Replied, Does, does}
 use Rattle.rules.proofs.WalkLaws.{Arrives, here, on, arrives-le}
 
 -- a switch found by its nickname is one of the campus
@@ -63,6 +63,10 @@ module _ (switches : List Settings) (clock : List ℕ) where
   unfolding runFrom
   run-none S kind f = refl
 
+  pub run-some : (m : ℕ) (S : Settings) (kind : Kind) (f : List ℕ) → 1 ≤ length (runFrom (suc m) switches clock S kind f)
+  unfolding runFrom
+  run-some m S kind f = omega arith
+
   module _ (m : ℕ) (S : Settings) (kind : Kind) (f : List ℕ) where
     pub run-over : kindAfter kind ((handling (waysOf S) clock f) .number) ≡ none → run (suc m) S kind f ≡ state S kind f ∷ []
     unfolding runFrom
@@ -99,7 +103,7 @@ module _ (switches : List Settings) (clock : List ℕ) where
         forwarded o (some T) n = forwards T n o (λ m. run-on m S kind f kind (o .stays kind) T n)
 
         replied : Replied S f (handling (waysOf S) clock f) → (w : Option Settings) → neighbour S f ≡ w → Turn S kind f
-        replied o none n = stops (λ y. absurd (o .mute y)) (λ m. run-left m S kind f reply (o .turns kind) n)
+        replied o none n = stops (λ y. absurd (o .not-a-reply y)) (λ m. run-left m S kind f reply (o .turns kind) n)
         replied o (some T) n = replies T n o (λ m. run-on m S kind f reply (o .turns kind) T n)
 
         go : Does S f (handling (waysOf S) clock f) → Turn S kind f
@@ -119,14 +123,16 @@ module _ (switches : List Settings) (clock : List ℕ) where
             → length (run (suc m) S kind f) ≤ suc (hopReceived f)
         go (stops w e) ih = omega (arith, ap length (e m))
         go (forwards T n o e) ih = omega (arith, ap length (e m), ih T (member S f T n) (o .reply-kept y), o .one-less)
-        go (replies T n o e) ih = absurd (o .mute y)
+        go (replies T n o e) ih = absurd (o .not-a-reply y)
 
     way : (m : ℕ) (S : Settings) (kind : Kind) (f : List ℕ) → List·Memᴰ S switches → Way (egressReceived f) S (hopReceived f) (length (run m S kind f))
     way zero S kind f i = rw (run-none S kind f) (unanswered (omega arith))
     way (suc m) S kind f i = go (turn S i kind f) (λ T j. way m T kind (sent S f) j)
       where
-        further : (T : Settings) → neighbour S f ≡ some T → Forwarded S f (handling (waysOf S) clock f) → length (run (suc m) S kind f) ≡ suc (length (run m T kind (sent S f)))
-            → Way (egressReceived (sent S f)) T (hopReceived (sent S f)) (length (run m T kind (sent S f))) → Way (egressReceived f) S (hopReceived f) (length (run (suc m) S kind f))
+        further : (T : Settings) → neighbour S f ≡ some T → Forwarded S f (handling (waysOf S) clock f)
+            → length (run (suc m) S kind f) ≡ suc (length (run m T kind (sent S f)))
+            → Way (egressReceived (sent S f)) T (hopReceived (sent S f)) (length (run m T kind (sent S f)))
+            → Way (egressReceived f) S (hopReceived f) (length (run (suc m) S kind f))
         further T n o e (unanswered q) = unanswered (omega (arith, e, q, o .one-less))
         further T n o e (answered k a q c) =
             answered (suc k)
@@ -134,7 +140,8 @@ module _ (switches : List Settings) (clock : List ℕ) where
             (omega (arith, q, o .one-less))
             (omega (arith, c, e))
 
-        go : Turn S kind f → ((T : Settings) → List·Memᴰ T switches → Way (egressReceived (sent S f)) T (hopReceived (sent S f)) (length (run m T kind (sent S f))))
+        go : Turn S kind f
+            → ((T : Settings) → List·Memᴰ T switches → Way (egressReceived (sent S f)) T (hopReceived (sent S f)) (length (run m T kind (sent S f))))
             → Way (egressReceived f) S (hopReceived f) (length (run (suc m) S kind f))
         go (stops w e) ih = unanswered (omega (arith, ap length (e m)))
         go (forwards T n o e) ih = further T n o (ap length (e m)) (ih T (member S f T n))
@@ -143,7 +150,8 @@ module _ (switches : List Settings) (clock : List ℕ) where
             (omega (arith, ap length (e m), reply-way m T reply (sent S f) (member S f T n) (o .is-reply), o .full))
 
     -- the number of handlings, however many are looked at
-    pub run-count : (m : ℕ) (S : Settings) (kind : Kind) (f : List ℕ) → List·Memᴰ S switches → length (runFrom m switches clock S kind f) ≤ 64 + min (length switches) (hopReceived f)
+    pub run-count : (m : ℕ) (S : Settings) (kind : Kind) (f : List ℕ) → List·Memᴰ S switches
+        → length (runFrom m switches clock S kind f) ≤ 64 + min (length switches) (hopReceived f)
     run-count m S kind f i = go (way m S kind f i)
       where
         go : Way (egressReceived f) S (hopReceived f) (length (run m S kind f)) → length (run m S kind f) ≤ 64 + min (length switches) (hopReceived f)
@@ -151,7 +159,8 @@ module _ (switches : List Settings) (clock : List ℕ) where
         go (answered k a q c) = omega (arith, c, q, arrives-le switches (ours (egressReceived f)) (towards switches (egressReceived f)) a)
 
     -- a frame that is unreadable or has no hop left is handled once
-    pub run-single : (m : ℕ) (S : Settings) (kind : Kind) (f : List ℕ) → List·Memᴰ S switches → hopReceived f ≡ 0 → length (runFrom (suc m) switches clock S kind f) ≡ 1
+    pub run-single : (m : ℕ) (S : Settings) (kind : Kind) (f : List ℕ) → List·Memᴰ S switches → hopReceived f ≡ 0
+        → length (runFrom (suc m) switches clock S kind f) ≡ 1
     run-single m S kind f i z = go (turn S i kind f)
       where
         go : Turn S kind f → length (run (suc m) S kind f) ≡ 1
@@ -160,7 +169,8 @@ module _ (switches : List Settings) (clock : List ℕ) where
         go (replies T n o e) = absurd (omega (arith, z, o .hops-left))
 
     -- a run of fewer handlings than were looked at has ended: looking at more changes nothing
-    run-ended : (m more : ℕ) (S : Settings) (kind : Kind) (f : List ℕ) → List·Memᴰ S switches → length (run m S kind f) < m → run (m + more) S kind f ≡ run m S kind f
+    run-ended : (m more : ℕ) (S : Settings) (kind : Kind) (f : List ℕ) → List·Memᴰ S switches → length (run m S kind f) < m
+        → run (m + more) S kind f ≡ run m S kind f
     run-ended zero more S kind f i lt = absurd (not-suc-le-zero lt)
     run-ended (suc m) more S kind f i lt = go (turn S i kind f) (λ T k j q. run-ended m more T k (sent S f) j q)
       where
@@ -172,7 +182,8 @@ module _ (switches : List Settings) (clock : List ℕ) where
         onward T k n e ih =
             rw (suc-add, e (m + more), e m) (ap (λ (r : List State). state S kind f ∷ r) (ih (omega (arith, lt, ap length (e m)))))
 
-        go : Turn S kind f → ((T : Settings) (k : Kind) → List·Memᴰ T switches → length (run m T k (sent S f)) < m → run (m + more) T k (sent S f) ≡ run m T k (sent S f))
+        go : Turn S kind f
+            → ((T : Settings) (k : Kind) → List·Memᴰ T switches → length (run m T k (sent S f)) < m → run (m + more) T k (sent S f) ≡ run m T k (sent S f))
             → run (suc m + more) S kind f ≡ run (suc m) S kind f
         go (stops w e) ih = rw (suc-add, e (m + more), e m)
         go (forwards T n o e) ih = onward T kind n e (ih T kind (member S f T n))
@@ -187,10 +198,11 @@ module _ (switches : List Settings) (clock : List ℕ) where
     reply-count zero S kind f i y = rw (run-none S kind f) no-replies
     reply-count (suc m) S kind f i y = go (turn S i kind f) (λ T j. reply-count m T kind (sent S f) j)
       where
-        go : Turn S kind f → ((T : Settings) → List·Memᴰ T switches → IsReply (sent S f) → repliesIn (run m T kind (sent S f)) ≡ 0) → repliesIn (run (suc m) S kind f) ≡ 0
+        go : Turn S kind f → ((T : Settings) → List·Memᴰ T switches → IsReply (sent S f) → repliesIn (run m T kind (sent S f)) ≡ 0)
+            → repliesIn (run (suc m) S kind f) ≡ 0
         go (stops w e) ih = rw (e m) (replies-none (state S kind f) [] (w y) ∙ no-replies)
         go (forwards T n o e) ih = rw (e m) (replies-none (state S kind f) (run m T kind (sent S f)) (o .no-reply) ∙ ih T (member S f T n) (o .reply-kept y))
-        go (replies T n o e) ih = absurd (o .mute y)
+        go (replies T n o e) ih = absurd (o .not-a-reply y)
 
     pub one-reply : (m : ℕ) (S : Settings) (kind : Kind) (f : List ℕ) → List·Memᴰ S switches → repliesIn (runFrom m switches clock S kind f) ≤ 1
     one-reply zero S kind f i = rw (run-none S kind f) (omega (arith, no-replies))
@@ -199,7 +211,9 @@ module _ (switches : List Settings) (clock : List ℕ) where
         go : Turn S kind f → ((T : Settings) → List·Memᴰ T switches → repliesIn (run m T kind (sent S f)) ≤ 1) → repliesIn (run (suc m) S kind f) ≤ 1
         go (stops w e) ih = rw (e m) (omega (arith, replies-most (state S kind f) [], no-replies))
         go (forwards T n o e) ih = rw (e m, replies-none (state S kind f) (run m T kind (sent S f)) (o .no-reply)) (ih T (member S f T n))
-        go (replies T n o e) ih = rw (e m) (omega (arith, replies-most (state S kind f) (run m T reply (sent S f)), reply-count m T reply (sent S f) (member S f T n) (o .is-reply)))
+        go (replies T n o e) ih =
+            let none-after = reply-count m T reply (sent S f) (member S f T n) (o .is-reply) in
+            rw (e m) (omega (arith, replies-most (state S kind f) (run m T reply (sent S f)), none-after))
 
     -- of every state: what holds at a handling under an invariant that forwarding and replying keep
     module _ (P : State → Type 0) (Q : Kind → List ℕ → Type 0)
@@ -227,18 +241,28 @@ module _ (switches : List Settings) (clock : List ℕ) where
     pub unanswered-replies : (m : ℕ) (S : Settings) (kind : Kind) (f : List ℕ) → List·Memᴰ S switches → (kind ≡ reply → IsReply f)
         → (s : State) → List·Memᴰ s (runFrom m switches clock S kind f) → s .kind ≡ reply → writesReply (s .answer .number) ≡ false
     unanswered-replies =
-        every (λ s. s .kind ≡ reply → writesReply (s .answer .number) ≡ false) (λ kind f. kind ≡ reply → IsReply f) heard (λ S kind f o q k. o .reply-kept (q k)) (λ S kind f o q k. o .is-reply)
+        every (λ s. s .kind ≡ reply → writesReply (s .answer .number) ≡ false) (λ kind f. kind ≡ reply → IsReply f) heard
+        (λ S kind f o q k. o .reply-kept (q k)) (λ S kind f o q k. o .is-reply)
       where
-        heard : (S : Settings) (kind : Kind) (f : List ℕ) → Does S f (handling (waysOf S) clock f) → (kind ≡ reply → IsReply f) → kind ≡ reply → writesReply ((handling (waysOf S) clock f) .number) ≡ false
+        heard : (S : Settings) (kind : Kind) (f : List ℕ) → Does S f (handling (waysOf S) clock f) → (kind ≡ reply → IsReply f) → kind ≡ reply
+            → writesReply ((handling (waysOf S) clock f) .number) ≡ false
         heard S kind f (Does.ends o) q k = o .no-reply
         heard S kind f (Does.forwards o) q k = o .no-reply
-        heard S kind f (Does.replies o) q k = absurd (o .mute (q k))
+        heard S kind f (Does.replies o) q k = absurd (o .not-a-reply (q k))
 
-    -- every frame in flight fits
+    -- every frame of a run fits
     pub frames-fit : (m : ℕ) (S : Settings) (kind : Kind) (f : List ℕ) → List·Memᴰ S switches → length f ≤ frameMost
         → (s : State) → List·Memᴰ s (runFrom m switches clock S kind f) → length (s .frame) ≤ frameMost
     frames-fit =
         every (λ s. length (s .frame) ≤ frameMost) (λ kind f. length f ≤ frameMost) (λ S kind f o q. q)
+        (λ S kind f o q. handling-bounded (waysOf S) clock f six q .fits)
+        (λ S kind f o q. handling-bounded (waysOf S) clock f six q .fits)
+
+    -- every answer has two digits at most
+    pub numbers-small : (m : ℕ) (S : Settings) (kind : Kind) (f : List ℕ) → List·Memᴰ S switches → length f ≤ frameMost
+        → (s : State) → List·Memᴰ s (runFrom m switches clock S kind f) → s .answer .number < 64
+    numbers-small =
+        every (λ s. s .answer .number < 64) (λ kind f. length f ≤ frameMost) (λ S kind f o q. handling-bounded (waysOf S) clock f six q .number-small)
         (λ S kind f o q. handling-bounded (waysOf S) clock f six q .fits)
         (λ S kind f o q. handling-bounded (waysOf S) clock f six q .fits)
 

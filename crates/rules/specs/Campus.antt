@@ -113,7 +113,7 @@ fileMost = 32768
 abbrev pub traceLeast : ℕ
 traceLeast = 640
 
--- "40 file over 32,768 octets", then the fields
+-- 40: "file over 32,768 octets"; then the fields
 unfoldable pub described : List ℕ → Description
 described file = if ltb fileMost (length file) then refused 40 else describedFrom nothingYet (fields file)
 

@@ -26,7 +26,7 @@ ethertypeIsIs = 0x22F4
 abbrev pub allEgressRBridges : ℕ
 allEgressRBridges = 0x0180C2000042
 
--- RFC 7178: Channel Error; "Echo is our private protocol 0xFF8 (house)"
+-- RFC 7178: Channel Error; "Echo is our private protocol 0xFF8"
 abbrev pub protocolError : ℕ
 protocolError = 0x001
 

@@ -20,7 +20,7 @@ fieldAt s at =
     if ltb (length s) (at + 3 + be16 s (at + 1)) then Cut
     else Taken (octet s at) (be16 s (at + 1)) (at + 3 + be16 s (at + 1))
 
--- the fields from a place on; a cut one is the last
+-- the fields from a place on; a cut one is the last. `fuel` bounds how many are read.
 unfoldable pub fieldsFrom : ℕ → List ℕ → ℕ → List Field
 fieldsFrom zero s at = []
 fieldsFrom (suc fuel) s at =
@@ -33,9 +33,12 @@ fieldsFrom (suc fuel) s at =
           ]
     ]
 
--- each field takes three octets or more, so a fuel above the length is never used up
+-- each field takes three octets or more, so a fuel above the length is never used up: more changes nothing (law `fields-whole`)
+abbrev pub fieldsAt : List ℕ → ℕ → List Field
+fieldsAt s at = fieldsFrom (suc (length s)) s at
+
 unfoldable pub fields : List ℕ → List Field
-fields s = fieldsFrom (suc (length s)) s 0
+fields s = fieldsAt s 0
 
 -- "Tag 1, length 8 .. Tag 2, length 14 .. Tag 3, length 1 .. Tag 4, length 6 .. Tag 5, length 2 to 2,050"
 unfoldable pub lengthGood : ℕ → ℕ → Bool

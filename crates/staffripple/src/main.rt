@@ -1,11 +1,23 @@
 // Prints the run of the description on standard input (document 01, "Campus description and run").
+ghost use Prim.Native.Nat.{_≤_};
+ghost use lib.ListN.{length};
+ghost use Rattle.campus.specs.Done.{TextWhole};
+
+// What is printed of a description; the buffer is never too small for it.
+fn text_of(description: &[u8], text: &mut [u8]) -> usize
+    requires { ⌜ 1451 ≤ length (now text) ⌝ }
+    ensures { λ r. ⌜ TextWhole (now (description .entry)) (now (text .exit)) r ⌝ }
+{
+    campus::campus_text(description, text).written as usize
+}
+
 fn main() {
     // Twice what a description may have: of a longer one this much is read, and it is refused all the same.
     let mut description = io::large_buffer();
-    let size = io::read_full(libc::STDIN_FILENO, &mut description);
-    let mut text = [0u8; 2048];
-    let printed = campus::campus_text(&description[..size], &mut text);
-    let done = io::write_all(libc::STDOUT_FILENO, &text[..printed.written as usize]);
+    let read = io::read_full(libc::STDIN_FILENO, &mut description);
+    let mut text = [0u8; 1451];
+    let size = text_of(&description[..read], &mut text);
+    let done = io::write_all(libc::STDOUT_FILENO, &text[..size]);
     if !done {
         os::fail(b"standard output");
     }

@@ -9,9 +9,8 @@ trill-way-out-spec =
     (tie.spec
     (λ c κs. search laws)
     (λ c κs. search laws)
+    (λ c κs. search laws)
     (λ c. search laws)
-    (λ c κs. search laws)
-    (λ c κs. search laws)
     (λ c κs. search laws)
     (λ c. search laws)
     (λ c. search laws))

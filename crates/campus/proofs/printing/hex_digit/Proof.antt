@@ -1,21 +1,13 @@
 -- `printing::hex_digit` meets its contract, by the law of each case. Assumes nothing.
-use Prim.Native.Nat.{_%_}
-use Rattle.campus.proofs.PrintLaws.{hex-low, hex-high}
-use borrow.Author.Needs.{needs}
+use Rattle.campus.proofs.PrintLaws.{hex-digit-laws as laws}
 use Rattle.campus.proofs.printing.hex_digit.Statement.{statement}
 use Rattle.campus.proofs.printing.hex_digit.Tie as tie
 
-add-result : tie.Need-add-result
-add-result c = search needs
-
-returns : tie.Need-returns
-returns c = hex-low (c .before .args .n % 16) (c .if1 .taken)
-
-add-result-2 : tie.Need-add-result-2
-add-result-2 c = search needs
-
-returns-2 : tie.Need-returns-2
-returns-2 c = hex-high (c .before .args .n % 16) (c .if1 .left)
-
 pub hex-digit-spec : {M : Type 1} → statement M
-hex-digit-spec = tie.close (tie.spec add-result returns add-result-2 returns-2)
+hex-digit-spec =
+    tie.close
+    (tie.spec
+    (λ c. search laws)
+    (λ c. search laws)
+    (λ c. search laws)
+    (λ c. search laws))

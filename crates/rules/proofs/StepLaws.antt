@@ -1,5 +1,6 @@
 -- What one handling does to a frame on its way: forwarding takes one from its hop count and keeps egress and inner frame, only its egress
--- replies to it, and nothing replies to a reply. By reading back what is written. Assumes nothing.
+-- replies to it, nothing replies to a reply, and the neighbour named is that of the record which rules for the written frame's egress.
+-- By reading back what is written. Assumes nothing.
 use mathlib.Core.Path.{_≡_, refl, sym, ap, _∙_}
 use mathlib.Core.List.{List, _++_}
 use mathlib.Core.Bool.{Bool, true, false, _||_}
@@ -9,17 +10,20 @@ use native.Mathlib.Omega.{arith}
 use borrow.Author.Tests.{ne-eqb}
 use lib.Dec.{eqb}
 use lib.ListN.{length}
-use Rattle.rules.specs.Settings.{Settings, nextHop, Ways, waysOf}
+use Rattle.rules.specs.Settings.{Settings, ruling, nextHop, Ways, waysOf}
 use Rattle.rules.specs.Link.{link}
 use Rattle.rules.specs.Header.{hopCount, anyRBridge, readFrame, innerOf, weAreEgress}
 use Rattle.rules.specs.Answer.{Handled, wrote}
-use Rattle.rules.specs.Channel.{protocolError, protocolEcho, bodyOf, spid, spidReply, channelRead, replyInner, replyRest, errorBody, echoBody, errorReply, echoReply}
+use Rattle.rules.specs.Channel.{protocolError, protocolEcho, bodyOf, spid, spidReply, channelRead, returnPath}
+use Rattle.rules.specs.Channel.{replyInner, replyRest, errorBody, echoBody, errorReply, echoReply}
 use Rattle.rules.specs.Handling.{forwarded, handling}
 use Rattle.rules.specs.Campus.{switchNamed, Kind, reply, kindAfter, hopReceived, egressReceived}
 use Rattle.rules.specs.Demand.{writesReply}
 use Rattle.rules.specs.declared.NextHop.{NextHop}
 use Rattle.rules.specs.declared.Header.{Header}
+use Rattle.rules.specs.declared.Ruling.{Ruling}
 use Rattle.rules.specs.declared.Ruling.the-variants.{Found, Absent}
+use Rattle.rules.proofs.TestLaws.{by-test}
 use Rattle.rules.specs.declared.FrameRead.{FrameRead}
 use Rattle.rules.specs.declared.FrameRead.the-variants.{Trill, Unreadable}
 use Rattle.rules.specs.declared.ChannelRead.the-variants.{Fault, ErrorHeard, EchoHeard, EchoRequest}
@@ -60,14 +64,16 @@ ours-role : (S : Settings) (f : List ℕ) (h : Header) → readFrame f ≡ Trill
 unfolding ours weAreEgress
 ours-role S f h e = rw (egress-read f h e)
 
-towards-found : (switches : List Settings) (egress : ℕ) (S : Settings) (r : NextHop) → nextHop S egress ≡ Found r → towards switches egress S ≡ switchNamed switches (r .neighbour)
+towards-found : (switches : List Settings) (egress : ℕ) (S : Settings) (r : NextHop) → nextHop S egress ≡ Found r
+    → towards switches egress S ≡ switchNamed switches (r .neighbour)
 unfolding towards
 towards-found switches egress S r e = rw (towards, e)
 
 -- a frame that is a reply of ours, wherever it is on its way
 pub data ReplyInner (inner : List ℕ) : Type 0 where
   error : (S : Ways) (code : ℕ) (body : List ℕ) → code < 16 → inner ≡ replyInner S protocolError code body → ReplyInner inner
-  echo : (S : Ways) (body : List ℕ) → 18 ≤ length body → length body ≤ 530 → spid body ≡ spidReply → inner ≡ replyInner S protocolEcho 0 body → ReplyInner inner
+  echo : (S : Ways) (body : List ℕ) → 18 ≤ length body → length body ≤ 530 → spid body ≡ spidReply
+      → inner ≡ replyInner S protocolEcho 0 body → ReplyInner inner
 
 pub record IsReply (f : List ℕ) : Type 0 where
   pub header : Header
@@ -92,6 +98,31 @@ reply-heard f h e y =
     let same : y .header ≡ h = cc (y .read, e) in
     rw (← same) (inner-heard (innerOf f (y .header)) (y .inner))
 
+-- "the neighbour in the writing switch's ruling record for that frame's egress", where that frame is what the answer writes
+pub record NextSwitch (S : Settings) (a : Handled) : Type 0 where
+  pub hop : NextHop
+  pub rules : ruling (S .hops) (egressReceived (a .octets)) ≡ Found hop
+  pub neighbour : a .via ≡ hop .neighbour
+
+module _ (S : Settings) (d : ℕ) (r : NextHop) where
+  hop-rules : nextHop S d ≡ Found r → ruling (S .hops) d ≡ Found r
+  unfolding nextHop
+  hop-rules e = go (ruling (S .hops) d) refl
+    where
+      go : (w : Ruling) → ruling (S .hops) d ≡ w → ruling (S .hops) d ≡ Found r
+      go Absent is = let n : Absent ≡ Found r = (rw (nextHop, is) at e) in let z : _≡_ {A = ℕ} 0 1 = cc n in absurd (omega arith)
+      go (Found q) is =
+          by-test (eqb (q .neighbour) 0)
+          (λ b. let n : Absent ≡ Found r = (rw (nextHop, is, b) at e) in let z : _≡_ {A = ℕ} 0 1 = cc n in absurd (omega arith))
+          (λ b. is ∙ (rw (nextHop, is, b) at e))
+
+  return-rules : returnPath (waysOf S) d ≡ Found r → ruling (S .hops) d ≡ Found r
+  unfolding returnPath
+  return-rules e =
+      by-test (eqb d (S .nickname))
+      (λ b. let n : Absent ≡ Found r = (rw b at e) in let z : _≡_ {A = ℕ} 0 1 = cc n in absurd (omega arith))
+      (λ b. hop-rules (rw b at e))
+
 -- what goes on after a handling that answers 50
 pub record Forwarded (S : Settings) (f : List ℕ) (a : Handled) : Type 0 where
   pub stays : (kind : Kind) → kindAfter kind (a .number) ≡ some kind
@@ -100,6 +131,7 @@ pub record Forwarded (S : Settings) (f : List ℕ) (a : Handled) : Type 0 where
   pub one-less : hopReceived f ≡ suc (hopReceived (a .octets))
   pub same-egress : egressReceived (a .octets) ≡ egressReceived f
   pub goes : (switches : List Settings) → towards switches (egressReceived f) S ≡ switchNamed switches (a .via)
+  pub next : NextSwitch S a
   pub reply-kept : IsReply f → IsReply (a .octets)
 
 module _ (S : Settings) (f : List ℕ) (h : Header) (r : NextHop) (t : Cleared (waysOf S) f h false) (found : nextHop S (h .egress) ≡ Found r) where
@@ -133,6 +165,12 @@ module _ (S : Settings) (f : List ℕ) (h : Header) (r : NextHop) (t : Cleared (
             hop-read f h (t .read) ∙ sym (sent-hop (waysOf S) f h (t .read) passed (t .well)) ∙ ap suc (sym (hop-read (forwarded (waysOf S) r f h) sent sent-read));
         same-egress = egress-read (forwarded (waysOf S) r f h) sent sent-read ∙ sym (egress-read f h (t .read));
         goes = λ switches. ap (λ (e : ℕ). towards switches e S) (egress-read f h (t .read)) ∙ towards-found switches (h .egress) S r found;
+        next =
+            record {
+              hop = r;
+              rules = rw (egress-read (forwarded (waysOf S) r f h) sent sent-read) (hop-rules S (h .egress) r found);
+              neighbour = refl;
+            };
         reply-kept = sent-reply;
       }
 
@@ -141,11 +179,13 @@ pub record Replied (S : Settings) (f : List ℕ) (a : Handled) : Type 0 where
   pub turns : (kind : Kind) → kindAfter kind (a .number) ≡ some reply
   pub egress : ours (egressReceived f) S ≡ true
   pub hops-left : 1 ≤ hopReceived f
-  pub mute : IsReply f → ⊥
+  pub not-a-reply : IsReply f → ⊥
   pub full : hopReceived (a .octets) ≡ 63
+  pub next : NextSwitch S a
   pub is-reply : IsReply (a .octets)
 
-module _ (S : Settings) (own : S .nickname < 65536) (f : List ℕ) (h : Header) (r : NextHop) (t : Cleared (waysOf S) f h true) where
+module _ (S : Settings) (own : S .nickname < 65536) (f : List ℕ) (h : Header) (r : NextHop) (t : Cleared (waysOf S) f h true)
+    (found : returnPath (waysOf S) (h .ingress) ≡ Found r) where
   hops-had : 1 ≤ hopReceived f
   hops-had = omega (arith, hop-read f h (t .read), header-passed (waysOf S) f h (t .unrefused) .hops-left)
 
@@ -163,6 +203,10 @@ module _ (S : Settings) (own : S .nickname < 65536) (f : List ℕ) (h : Header) 
     written-full : hopReceived written ≡ 63
     written-full = hop-read written header-written read-written
 
+    written-next : (answer : ℕ) → NextSwitch S (wrote answer written (r .neighbour))
+    written-next answer =
+        record { hop = r; rules = rw (egress-read written header-written read-written) (return-rules S (h .ingress) r found); neighbour = refl }
+
     written-reply : IsReply written
     written-reply =
         record {
@@ -179,12 +223,14 @@ module _ (S : Settings) (own : S .nickname < 65536) (f : List ℕ) (h : Header) 
         turns = λ kind. refl;
         egress = ours-role S f h (t .read) ∙ t .role;
         hops-left = hops-had;
-        mute = λ y. reply-heard f h (t .read) y .no-fault code c;
+        not-a-reply = λ y. reply-heard f h (t .read) y .no-fault code c;
         full = written-full protocolError code (errorBody f h) is;
+        next = written-next protocolError code (errorBody f h) is 53;
         is-reply = written-reply protocolError code (errorBody f h) is;
       }
 
-  echo-replied : (clock : List ℕ) → length clock ≡ 6 → channelRead (innerOf f h) ≡ EchoRequest → Replied S f (wrote 54 (echoReply (waysOf S) r h clock (bodyOf (innerOf f h))) (r .neighbour))
+  echo-replied : (clock : List ℕ) → length clock ≡ 6 → channelRead (innerOf f h) ≡ EchoRequest
+      → Replied S f (wrote 54 (echoReply (waysOf S) r h clock (bodyOf (innerOf f h))) (r .neighbour))
   unfolding echoReply kindAfter
   echo-replied clock six c =
       let body : List ℕ = bodyOf (innerOf f h) in
@@ -195,8 +241,9 @@ module _ (S : Settings) (own : S .nickname < 65536) (f : List ℕ) (h : Header) 
         turns = λ kind. refl;
         egress = ours-role S f h (t .read) ∙ t .role;
         hops-left = hops-had;
-        mute = λ y. reply-heard f h (t .read) y .no-request c;
+        not-a-reply = λ y. reply-heard f h (t .read) y .no-request c;
         full = written-full protocolEcho 0 (echoBody body clock) is;
+        next = written-next protocolEcho 0 (echoBody body clock) is 54;
         is-reply = written-reply protocolEcho 0 (echoBody body clock) is;
       }
 
@@ -224,5 +271,15 @@ does S clock f own six = go (handling (waysOf S) clock f) (how (waysOf S) clock 
     go : (a : Handled) → How (waysOf S) clock f a → Does S f a
     go a (How.ends n) = ends (final-ended a n)
     go a (How.forwards h r t found e) = rw e (forwards (forwarded-on S f h r t found))
-    go a (How.faults h r code t found c e) = rw e (replies (error-replied S own f h r t code c))
-    go a (How.echoes h r t found c e) = rw e (replies (echo-replied S own f h r t clock six c))
+    go a (How.faults h r code t found c e) = rw e (replies (error-replied S own f h r t found code c))
+    go a (How.echoes h r t found c e) = rw e (replies (echo-replied S own f h r t found clock six c))
+
+-- where the written frame goes next, for 50, 53 and 54: the run goes by `via`, document 01 by the ruling record
+pub next-switch : (S : Settings) (clock f : List ℕ) → S .nickname < 65536 → length clock ≡ 6 → (kind kind′ : Kind)
+    → kindAfter kind (handling (waysOf S) clock f .number) ≡ some kind′ → NextSwitch S (handling (waysOf S) clock f)
+next-switch S clock f own six kind kind′ e = go (does S clock f own six)
+  where
+    go : Does S f (handling (waysOf S) clock f) → NextSwitch S (handling (waysOf S) clock f)
+    go (ends o) = let n : none ≡ some kind′ = sym (o .over kind) ∙ e in let z : _≡_ {A = ℕ} 0 1 = cc n in absurd (omega arith)
+    go (forwards o) = o .next
+    go (replies o) = o .next

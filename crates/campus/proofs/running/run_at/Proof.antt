@@ -1,0 +1,15 @@
+-- `running::run_at` meets its contract: the loop's run from the entry switch is the plain run. Assumes nothing.
+use Rattle.campus.proofs.DoneLaws.{run-at-laws as laws}
+use Rattle.campus.proofs.running.run_at.Statement.{statement}
+use Rattle.campus.proofs.running.run_at.Tie as tie
+
+pub run-at-spec : {M : Type 1} → statement M
+run-at-spec =
+    tie.close
+    (tie.spec
+    (λ c κs. search laws)
+    (λ c κs. search laws)
+    (λ c. search laws)
+    (λ c κs. search laws)
+    (λ c. search laws)
+    (λ c. search laws))

@@ -1,0 +1,46 @@
+-- `judged::scan_from` meets its contract. The invariant: what was read is judged, and folded to the record that rules and the flag. Assumes nothing.
+use Prim.Native.Nat.{_-_}
+use lib.ListN.{length}
+use Rattle.handler.proofs.ScanLaws.{Scanning, scan-flag, scan-laws as laws}
+use Rattle.handler.proofs.judged.scan_from.Statement.{statement}
+use Rattle.handler.proofs.judged.scan_from.Tie as tie
+
+abbrev Inv-loop : tie.InvT-loop
+Inv-loop s from d keys₀ seen₀ n₀ best₀ strip₀ at₀ keys seen n best strip at = Scanning s from d keys seen n best strip at
+
+abbrev μ-loop : tie.MeasureT-loop
+μ-loop s from d keys₀ seen₀ n₀ best₀ strip₀ at₀ keys seen n best strip at = length s - at
+
+pub scan-from-spec : {M : Type 1} → statement M
+scan-from-spec =
+    tie.close
+    (tie.spec
+    Inv-loop
+    μ-loop
+    (λ c. search laws)
+    (λ c κs. search laws)
+    (λ c. search laws)
+    (λ c. search laws)
+    (λ c κs. search laws)
+    (λ c. search laws)
+    (λ c. search laws)
+    (λ c. search laws)
+    (λ c. search laws)
+    (λ c. search laws)
+    (λ c. search laws)
+    (λ c. search laws)
+    (λ c κs. search laws)
+    (λ c κs. search laws)
+    (λ c. search laws)
+    (λ c κs. search laws)
+    (λ c. search laws)
+    (λ c. search laws)
+    (λ c. search laws)
+    (λ c κs. search laws)
+    (λ c κs. search laws)
+    (λ c. search laws)
+    (λ c κs. search laws)
+    (λ c. search laws)
+    (λ c. search laws)
+    (λ c. search (scan-flag, c .before .before .before .before .before .before .before .before .before .before .loop .inv))
+    (λ c. search laws))

@@ -1,0 +1,16 @@
+-- `text_of` meets its contract: 1,451 octets are room for every text. Assumes nothing.
+use borrow.Author.Needs.{needs}
+use Rattle.campus.proofs.TextLaws.{text-whole}
+use Rattle.staffripple.proofs.text_of.Statement.{statement}
+use Rattle.staffripple.proofs.text_of.Tie as tie
+
+ruleset laws = (needs, text-whole)
+
+pub text-of-spec : {M : Type 1} → statement M
+text-of-spec =
+    tie.close
+    (tie.spec
+    (λ c κs. search laws)
+    (λ c. search laws)
+    (λ c. search laws)
+    (λ c. search laws))
