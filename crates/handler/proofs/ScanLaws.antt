@@ -10,7 +10,7 @@ use borrow.Author.Needs.{needs}
 use borrow.Author.Tests.{eq-eqb, ne-eqb, not-true, not-false}
 use lib.Dec.{eqb}
 use lib.ListN.{length, take, replicate}
-use Rattle.rules.specs.Octets.{octet, part}
+use Rattle.rules.specs.Octets.{octet, be16, part}
 use Rattle.rules.specs.Fields.{field, fieldAt}
 use Rattle.rules.specs.Settings.{Settings, newer, hopOf, opens, settingsOf, settingsRead, waysOf}
 use Rattle.rules.specs.Campus.{known}
@@ -39,7 +39,7 @@ use Rattle.handler.proofs.Taken.{taken, taken-first}
 use Rattle.handler.proofs.KeyLaws.{flag-tag, flag-length}
 use Rattle.handler.proofs.JudgeLaws as J
 use Rattle.handler.proofs.JudgeLaws.{Judging, keys-count, seen-count, hop-next}
-use Rattle.handler.proofs.FieldWalks.{Folding, fold-begin, fold-end, fold-on, ruled-hop, ruled-other, flagged-so, flagged-other, rules, strip-read}
+use Rattle.handler.proofs.FieldWalks.{Folding, fold-begin, fold-end, fold-on, newer-other, ruled-hop, ruled-other, flagged-so, flagged-other, rules, strip-read}
 use Rattle.handler.proofs.LookupLaws.{next-hop}
 use Rattle.handler.proofs.StageLaws.{told-answer, told-after, tells}
 
@@ -80,6 +80,7 @@ module _ (s : List ℕ) (from d : ℕ) (keys seen : List ℕ) (n : ℕ) (best : 
         pub scan-hop-bad : (r : Scan) → r .good ≡ false → 64 < m → Scanned s from d r
         scan-hop-bad r b x = bad-scanned s from d r b (J.hop-stops (l .judging) h q t two k x)
 
+        -- with the record, and past one of another destination
         pub scan-hop : (best′ : Ruling) → best′ ≡ newer d best (hopOf v) → m ≤ 64 → Scanning s from d keys′ seen′ m best′ strip (at + 17)
         scan-hop best′ e x =
             let on = hop-next (l .judging) h q t two k x in
@@ -88,6 +89,9 @@ module _ (s : List ℕ) (from d : ℕ) (keys seen : List ℕ) (n : ℕ) (best : 
               ruled = rw on (fold-on (ruledBy d) Absent s from at best (l .ruled) h read q tag size next t best′ (e ∙ ruled-hop d best tag v two));
               flagged = rw on (fold-on flaggedBy false s from at strip (l .flagged) h read q tag size next t strip (flagged-other strip tag v (omega arith)));
             }
+
+        pub scan-past : (word : ℕ) → word ≡ be16 v 0 → (word ≡ d → ⊥) → m ≤ 64 → Scanning s from d keys′ seen′ m best strip (at + 17)
+        scan-past word w e = scan-hop best (newer-other d (hopOf v) best (λ x. e (w ∙ x)))
 
       module _ (other : tag ≡ 2 → ⊥) (ok : Bool) (is : ok ≡ flagTaken tag v) where
         pub scan-flag-bad : (r : Scan) → r .good ≡ false → not ok ≡ true → Scanned s from d r
@@ -105,7 +109,7 @@ module _ (s : List ℕ) (from d : ℕ) (keys seen : List ℕ) (n : ℕ) (best : 
               flagged = rw on (fold-on flaggedBy false s from at strip (l .flagged) h read q tag size next t (not (eqb o 0)) (ap (λ (y : ℕ). not (eqb y 0)) e ∙ flagged-so strip tag v (flag-tag tag v so)));
             }
 
-pub ruleset scan-laws = (needs, taken, scan-begin, scan-kept, scan-64, scan-256, scan-end, scan-cut, scan-hop-bad, scan-hop, scan-flag-bad, scan-flag)
+pub ruleset scan-laws = (needs, taken, scan-begin, scan-kept, scan-64, scan-256, scan-end, scan-cut, scan-hop-bad, scan-hop, scan-past, scan-flag-bad, scan-flag)
 
 -- the record unless it is withdrawn
 module _ (best : Ruling) where

@@ -166,8 +166,12 @@ fn scan_from(s: &[u8], from: usize, d: u16) -> Scan
             if 64 < n {
                 return bad_scan();
             }
-            best = settings::newer(d, best, v);
-            at += 17;
+            if octets::be16(v, 0) != d {
+                at += 17;
+            } else {
+                best = settings::newer(d, best, v);
+                at += 17;
+            }
         } else {
             if !flag_good(tag, v) {
                 return bad_scan();

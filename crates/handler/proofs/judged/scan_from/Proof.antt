@@ -1,7 +1,7 @@
 -- `judged::scan_from` meets its contract. The invariant: what was read is judged, and folded to the record that rules and the flag. Assumes nothing.
 use Prim.Native.Nat.{_-_}
 use lib.ListN.{length}
-use Rattle.handler.proofs.ScanLaws.{Scanning, scan-flag, scan-laws as laws}
+use Rattle.handler.proofs.ScanLaws.{Scanning, scan-hop, scan-past, scan-flag, scan-laws as laws}
 use Rattle.handler.proofs.judged.scan_from.Statement.{statement}
 use Rattle.handler.proofs.judged.scan_from.Tie as tie
 
@@ -35,7 +35,11 @@ scan-from-spec =
     (λ c κs. search laws)
     (λ c. search laws)
     (λ c. search laws)
+    (λ c. search (scan-past, c .before .before .before .before .before .before .before .before .before .before .before .before .before .before .before .loop .inv))
+    (λ c κs. search laws)
     (λ c. search laws)
+    (λ c. search laws)
+    (λ c. search (scan-hop, c .before .before .before .before .before .before .before .before .before .before .before .before .before .before .before .before .loop .inv))
     (λ c κs. search laws)
     (λ c κs. search laws)
     (λ c. search laws)
