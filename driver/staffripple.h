@@ -65,6 +65,7 @@ extern "C" {
     ANSWER(TRILL_DROP_CHANNEL_ERR, 26, "channel protocol not 0x001 and ERR not 0")                         \
     ANSWER(TRILL_DROP_ECHO_BODY, 27, "echo body under 18 or over 530 octets, or SPID neither 3 nor 4")     \
     ANSWER(TRILL_DROP_ECHO_UNANSWERED, 28, "echo request, no reply is made")                               \
+    ANSWER(TRILL_DROP_FORWARDED_LONG, 29, "forwarded frame would have over 2,048 octets")                  \
     /* 30 to 33: start is the place of the option in the options area, counted from its first octet. */    \
     ANSWER(TRILL_DROP_OPTION_RESERVED, 30, "option with a reserved Length")                                \
     ANSWER(TRILL_DROP_OPTION_PAST, 31, "option past the options area")                                     \
@@ -121,7 +122,9 @@ struct trill_answer {
  *   settings  the switch: fields of a tag (1 octet), a length (2) and a value.
  *               tag 1, length 8    own nickname 2, own MAC 6: once, and first
  *               tag 2, length 14   next hop: destination nickname 2, neighbour nickname 2 (0 withdraws the
- *                                  destination), neighbour MAC 6, serial 4: up to 64
+ *                  or length 16    destination), neighbour MAC 6, serial 4: up to 64; of length 16 also an outer
+ *                                  VLAN 2, 0 for none or 1 to 4,094: the link header to that neighbour then has
+ *                                  18 octets, with the tag 0x8100 and that VLAN
  *               tag 3, length 1    strip flag, 0 or 1: the last one counts, 0 if there is none. With 1 a forwarded
  *                                  frame loses its unknown mutable hop-by-hop options (IE 0, NC 1, MT 1; not a
  *                                  pad, nor a Flow ID of Length 2)
@@ -167,7 +170,7 @@ struct trill_answer trill_handle_prepared(const uint8_t *frame, size_t frame_len
 
 /* ---- The way out ---- */
 
-#define TRILL_LINK_MOST 14 /* octets of the longest link header */
+#define TRILL_LINK_MOST 18 /* octets of the longest link header */
 
 struct trill_way {
     uint32_t number; /* 0; else 1 bad settings, else 21 no next hop, else 2 buffer too short for the header */
@@ -175,8 +178,8 @@ struct trill_way {
 };
 
 /*
- * Writes the link header of the record that rules for a destination: neighbour MAC, own MAC, 0x22F3. Looking the record
- * up and writing are one call, so that no stale record is used:
+ * Writes the link header of the record that rules for a destination: neighbour MAC, own MAC, its VLAN's tag if it has
+ * one, 0x22F3. Looking the record up and writing are one call, so that no stale record is used:
  *
  *     uint8_t header[TRILL_LINK_MOST];
  *     struct trill_way way = trill_way_out(settings, settings_len, 0x0009, header, sizeof header);

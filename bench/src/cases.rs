@@ -106,25 +106,28 @@ impl Expected {
 
 impl Kind {
     fn case(&self, size: usize, records: usize, layout: Layout) -> Case {
-        let suffix = match layout {
-            Layout::Scattered => "",
-            Layout::Rising => "-rising",
-            Layout::Crowded => "-crowded",
+        // A tag makes what is written longer.
+        let (suffix, tag) = match layout {
+            Layout::Scattered => ("", 0),
+            Layout::Rising => ("-rising", 0),
+            Layout::Crowded => ("-crowded", 0),
+            Layout::Tagged => ("-tagged", 4),
         };
+        let Expected { number, written } = (self.expected)(size);
         Case {
             name: format!("{}-{size}-{records}{suffix}", self.name),
             records,
             frame: (self.frame)(size),
             call: Call::Handling {
                 settings: octets::settings(records, layout, self.name == "strip"),
-                expected: (self.expected)(size),
+                expected: Expected::new(number, written + tag),
             },
         }
     }
 }
 
-/// Each kind, size and number of records; two other layouts of 64 records; the
-/// runs.
+/// Each kind, size and number of records; three other layouts of 64 records;
+/// the runs.
 pub fn all() -> Vec<Case> {
     let mut cases = Vec::new();
     for kind in &KINDS {
@@ -132,7 +135,7 @@ pub fn all() -> Vec<Case> {
             cases.extend(RECORDS.map(|records| kind.case(size, records, Layout::Scattered)));
         }
     }
-    for layout in [Layout::Rising, Layout::Crowded] {
+    for layout in [Layout::Rising, Layout::Crowded, Layout::Tagged] {
         cases.push(KINDS[0].case(1500, 64, layout));
     }
     cases.extend([

@@ -147,6 +147,8 @@ pub enum Layout {
     Rising,
     /// One destination, serials that go up by 256.
     Crowded,
+    /// In no order, each record with an outer VLAN.
+    Tagged,
 }
 
 /// Settings with this many records; the last one rules for [`FAR`].
@@ -154,11 +156,15 @@ pub fn settings(records: usize, layout: Layout, strip: bool) -> Vec<u8> {
     let mut fields = switch(OWN);
     for place in 1..=records {
         let (destination, serial) = match layout {
-            Layout::Scattered => scattered(records - place),
+            Layout::Scattered | Layout::Tagged => scattered(records - place),
             Layout::Rising => (FAR - (records - place) as u16, place as u32),
             Layout::Crowded => (FAR, (place as u32) << 8),
         };
-        fields.extend(record(destination, destination, serial));
+        let vlan: &[u8] = match layout {
+            Layout::Tagged => &[0, 5],
+            _ => &[],
+        };
+        fields.extend(record_with(destination, destination, serial, vlan));
     }
     fields.extend(field(3, &[u8::from(strip)]));
     fields
@@ -185,11 +191,17 @@ fn switch(nickname: u16) -> Vec<u8> {
 }
 
 fn record(destination: u16, neighbour: u16, serial: u32) -> Vec<u8> {
+    record_with(destination, neighbour, serial, &[])
+}
+
+/// A record with the octets of its VLAN, or with none.
+fn record_with(destination: u16, neighbour: u16, serial: u32, vlan: &[u8]) -> Vec<u8> {
     let value = [
         &destination.to_be_bytes()[..],
         &neighbour.to_be_bytes(),
         &mac(neighbour),
         &serial.to_be_bytes(),
+        vlan,
     ];
     field(2, &value.concat())
 }

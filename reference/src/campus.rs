@@ -7,8 +7,10 @@ use crate::settings::{Field, Seen, Station, Switch, MAX_FRAME};
 
 const MAX_FILE: usize = 32_768;
 const MAX_SWITCHES: usize = 16;
-/// Octets of the longest reply, which is an echo reply.
-const LONGEST_REPLY: usize = 572;
+/// Octets of the longest reply, which is an echo reply with a tag.
+const LONGEST_REPLY: usize = 576;
+/// Octets of an outer tag, by which a forwarded frame may be longer.
+const TAG: usize = 4;
 const ENTRY: usize = 8;
 /// At most 64 + 16 entries.
 pub(crate) const TRACE: usize = 80 * ENTRY;
@@ -72,10 +74,10 @@ impl<'a> Campus<'a> {
         })
     }
 
-    /// Runs the campus. What is written is no longer than the frame put in or
-    /// the longest reply, and small buffers are sooner zeroed.
+    /// Runs the campus. What is written is no longer than the frame put in with
+    /// a tag or the longest reply, and small buffers are sooner zeroed.
     fn run(&self, trace: &mut [u8]) -> u32 {
-        if self.frame.len() <= LONGEST_REPLY {
+        if self.frame.len() + TAG <= LONGEST_REPLY {
             self.run_within(&mut [0; LONGEST_REPLY], &mut [0; LONGEST_REPLY], trace)
         } else {
             self.run_within(&mut [0; MAX_FRAME], &mut [0; MAX_FRAME], trace)
@@ -175,9 +177,9 @@ impl<'a> Reader<'a> {
         }
         match field {
             Field::Switch(value) => self.add_switch(value, rest),
-            Field::Record(value) => {
+            Field::Record(record) => {
                 let (switch, seen) = self.latest()?;
-                switch.add_record(value, seen)
+                switch.add_record(record, seen)
             }
             Field::Strip(flag) => self.latest()?.0.set_strip(flag),
             Field::Clock(clock) => match self.clock.replace(*clock) {

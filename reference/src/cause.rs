@@ -25,6 +25,8 @@ pub enum Fault {
     Destination,
     Neighbour,
     NeighbourMac,
+    /// A record's VLAN above 4,094.
+    OuterVlan,
     StripFlag,
     /// Nickname of an earlier switch.
     NicknameMet,
@@ -56,6 +58,7 @@ impl Fault {
             | Fault::Destination
             | Fault::Neighbour
             | Fault::NeighbourMac
+            | Fault::OuterVlan
             | Fault::StripFlag => 44,
             Fault::NicknameMet => 45,
             Fault::Switches | Fault::Records => 46,
@@ -145,6 +148,8 @@ pub enum Cause {
     CriticalHopByHop,
     CriticalToEgress,
     NoNextHop,
+    /// The forwarded frame would have more than 2,048 octets.
+    ForwardedSize,
     Forwarded,
     /// Forwarded with at least one option removed.
     ForwardedStripped,
@@ -188,6 +193,7 @@ impl Cause {
             Cause::IllFormed(fault, _) => fault.number(),
             Cause::CriticalHopByHop | Cause::CriticalToEgress => 20,
             Cause::NoNextHop => 21,
+            Cause::ForwardedSize => 29,
             Cause::Forwarded | Cause::ForwardedStripped => 50,
             Cause::InnerCut => 22,
             Cause::InnerTag | Cause::Vlan => 23,

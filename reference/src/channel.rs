@@ -16,7 +16,8 @@ const ERR: u16 = 0x000F;
 
 /// Inner DA 6, SA 6, tag 4, Ethertype 2.
 pub(crate) const INNER_HEADER: usize = 18;
-const REPLY_HEADER: usize = 42;
+/// TRILL header 6, inner header, channel header 4.
+const REPLY_HEADER: usize = 6 + INNER_HEADER + 4;
 const ERROR_BODY: usize = 128;
 
 /// Smallest and greatest echo body.
@@ -86,21 +87,21 @@ pub(crate) fn return_path(switch: &impl Station, ingress: u16) -> Result<NextHop
 /// Writes an error reply; `received` is the frame from its TRILL Ethertype on.
 pub(crate) fn write_error(out: &mut [u8], head: &ReplyHead, code: u8, received: &[u8]) -> usize {
     let body = &received[..received.len().min(ERROR_BODY)];
-    let (header, rest) = out.split_at_mut(REPLY_HEADER);
-    head.write(header, ERROR_PROTOCOL, REPLY_FLAGS + u16::from(code));
-    rest[..body.len()].copy_from_slice(body);
-    REPLY_HEADER + body.len()
+    let start = head.write(out, ERROR_PROTOCOL, REPLY_FLAGS + u16::from(code));
+    let end = start + body.len();
+    out[start..end].copy_from_slice(body);
+    end
 }
 
 /// Writes an echo reply: the body with SPID 4 and the clock as time received.
 pub(crate) fn write_echo(out: &mut [u8], head: &ReplyHead, body: &[u8], clock: &[u8; 6]) -> usize {
-    let (header, rest) = out.split_at_mut(REPLY_HEADER);
-    head.write(header, ECHO_PROTOCOL, REPLY_FLAGS);
-    let copy = &mut rest[..body.len()];
+    let start = head.write(out, ECHO_PROTOCOL, REPLY_FLAGS);
+    let end = start + body.len();
+    let copy = &mut out[start..end];
     copy.copy_from_slice(body);
     copy[0] = 0x40 | body[0] & 0x0F;
     copy[TIME_RECEIVED..TIME_RECEIVED + 6].copy_from_slice(clock);
-    REPLY_HEADER + body.len()
+    end
 }
 
 /// The parts of a reply's headers that differ from switch to switch.
@@ -111,23 +112,25 @@ pub(crate) struct ReplyHead<'a> {
 }
 
 impl ReplyHead<'_> {
-    /// Link header, TRILL header, inner header and channel header.
-    fn write(&self, out: &mut [u8], protocol: u16, flags: u16) {
+    /// Writes link header, TRILL header, inner header and channel header and
+    /// gives their octets.
+    fn write(&self, out: &mut [u8], protocol: u16, flags: u16) -> usize {
         let mut head = TEMPLATE;
-        self.own.write_link(self.hop, &mut head);
-        put_u16(&mut head, 16, self.ingress);
-        put_u16(&mut head, 18, self.own.nickname);
-        head[26..32].copy_from_slice(&self.own.mac);
-        put_u16(&mut head, 38, protocol);
-        put_u16(&mut head, 40, flags);
-        out.copy_from_slice(&head);
+        put_u16(&mut head, 2, self.ingress);
+        put_u16(&mut head, 4, self.own.nickname);
+        head[12..18].copy_from_slice(&self.own.mac);
+        put_u16(&mut head, 24, protocol);
+        put_u16(&mut head, 26, flags);
+        let start = self.own.write_link(self.hop, out);
+        let end = start + REPLY_HEADER;
+        out[start..end].copy_from_slice(&head);
+        end
     }
 }
 
-/// The octets that all replies share.
+/// The octets after the link header that all replies share.
 #[rustfmt::skip]
 const TEMPLATE: [u8; REPLY_HEADER] = [
-    0, 0, 0, 0, 0, 0,  0, 0, 0, 0, 0, 0,  0, 0,
     0x00, 0x3F,  0, 0,  0, 0,
     0x01, 0x80, 0xC2, 0x00, 0x00, 0x42,  0, 0, 0, 0, 0, 0,
     0x81, 0x00,  0x00, 0x01,  0x89, 0x46,

@@ -150,9 +150,9 @@ pub fn way_input(seed: u64, index: u64) -> WayInput {
         destination: settings.destination(&mut rng),
         settings: settings_octets(&mut rng, &settings),
         room: match rng.below(6) {
-            0 => rng.pick(&[13, 14]),
+            0 => rng.pick(&[13, 14, 17, 18]),
             1 => rng.pick(&[100, 2048]),
-            _ => rng.below(21),
+            _ => rng.below(25),
         },
     }
 }

@@ -155,8 +155,8 @@ fn receive(
         return deliver(switch, &header, frame, clock, out);
     }
     let hop = switch.next_hop(header.egress).ok_or(Cause::NoNextHop)?;
-    let strip = own.strip && summary.removable;
-    Ok(forward(own, &header, hop, strip, frame, out))
+    let removed = if own.strip { summary.removable } else { 0 };
+    forward(own, &header, hop, removed, frame, out)
 }
 
 fn role(header: &Header, own: &Own) -> Role {
@@ -191,32 +191,40 @@ fn check_header(header: &Header, own: &Own, frame: &[u8]) -> Result<(), Cause> {
     Ok(())
 }
 
-/// Answer 50: new link header without a tag, hop count one less, area with or
-/// without its removable options, inner frame unchanged.
+/// Answers 29 and 50: the link header of the next hop, hop count one less, area
+/// without its removable options if they have `removed` octets, inner frame
+/// unchanged.
 fn forward(
     own: &Own,
     header: &Header,
     hop: NextHop,
-    strip: bool,
+    removed: usize,
     frame: &[u8],
     out: &mut [u8],
-) -> Step {
+) -> Result<Step, Cause> {
     let (area_at, inner_at) = (header.area_at(), header.inner_at());
-    let (head, rest) = out.split_at_mut(20);
-    let (cause, area_octets, from) = if strip {
-        let kept = options::strip(&frame[area_at..inner_at], rest);
-        (Cause::ForwardedStripped, kept, inner_at)
+    let area = &frame[area_at..inner_at];
+    let start = hop.link_header() + 6;
+    let written = start + (frame.len() - area_at) - removed;
+    // What would be written counts, not what was received.
+    if written > MAX_FRAME {
+        return Err(Cause::ForwardedSize);
+    }
+    let (head, rest) = out[..written].split_at_mut(start);
+    let area_octets = area.len() - removed;
+    let cause = if removed == 0 {
+        rest.copy_from_slice(&frame[area_at..]);
+        Cause::Forwarded
     } else {
-        (Cause::Forwarded, inner_at - area_at, area_at)
+        options::strip(area, rest);
+        rest[area_octets..].copy_from_slice(&frame[inner_at..]);
+        Cause::ForwardedStripped
     };
-    let copied = &frame[from..];
-    let to = if strip { area_octets } else { 0 };
-    rest[to..to + copied.len()].copy_from_slice(copied);
     own.write_link(hop, head);
-    put_u16(head, 14, header.forwarded_word(area_octets));
-    put_u16(head, 16, header.egress);
-    put_u16(head, 18, header.ingress);
-    Step::sent(cause, 20 + to + copied.len(), hop)
+    put_u16(head, start - 6, header.forwarded_word(area_octets));
+    put_u16(head, start - 4, header.egress);
+    put_u16(head, start - 2, header.ingress);
+    Ok(Step::sent(cause, written, hop))
 }
 
 /// Answers from 22 on: we are the egress.

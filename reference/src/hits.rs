@@ -4,6 +4,7 @@
 mod areas;
 mod expected;
 mod feature;
+mod links;
 
 pub use feature::Feature;
 
@@ -11,7 +12,6 @@ use std::collections::BTreeMap;
 use std::fmt;
 
 use crate::generate::{campus_input, handle_input, part_input, way_input};
-use crate::octets::u16_at;
 use crate::settings::Field;
 use crate::{explain, explain_run, part, way_out, Cause, Fault};
 
@@ -58,6 +58,7 @@ impl Hits {
         let mut out = vec![0; input.room];
         let (answer, cause) = explain(&input.frame, &input.settings, &input.clock, &mut out);
         add(&mut self.handle, cause);
+        self.show(links::shown(&input.frame, &out, answer));
         match answer.number {
             20 | 34 | 35 => self.show(areas::good_options(&input.frame)),
             30..34 => {
@@ -89,6 +90,11 @@ impl Hits {
         let way = way_out(&input.settings, input.destination, &mut out);
         add(&mut self.ways, way.number);
         let written = way.number == 0;
+        let header = way_out(&input.settings, input.destination, &mut [0; 18]).length;
+        let fits = |length| written && header == length && input.room == length as usize;
+        let short = |length, octets| {
+            way.number == 2 && header == length && input.room + octets == length as usize
+        };
         // Good settings begin with tag, length and the own nickname.
         let own = input.settings.get(3..5) == Some(&input.destination.to_be_bytes());
         self.show([
@@ -97,8 +103,11 @@ impl Hits {
                 Feature::WayWithdrawn,
                 way.number == 21 && has_record(&input.settings, input.destination),
             ),
-            (Feature::WayFitsExactly, written && input.room == 14),
-            (Feature::WayOneShort, way.number == 2 && input.room == 13),
+            (Feature::WayFitsExactly, fits(14)),
+            (Feature::WayOneShort, short(14, 1)),
+            (Feature::TaggedWayFitsExactly, fits(18)),
+            (Feature::TaggedWayOneShort, short(18, 1)),
+            (Feature::TaggedWayFourShort, short(18, 4)),
             (Feature::WayWithMoreRoom, written && input.room >= 100),
         ]);
     }
@@ -169,7 +178,7 @@ impl Hits {
 fn has_record(mut settings: &[u8], destination: u16) -> bool {
     let fields = std::iter::from_fn(|| Field::take(&mut settings).ok());
     let mut records = fields.filter_map(|field| match field {
-        Field::Record(value) => Some(u16_at(value, 0)),
+        Field::Record(record) => Some(record.destination),
         _ => None,
     });
     records.any(|known| known == destination)

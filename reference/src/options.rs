@@ -23,8 +23,8 @@ pub(crate) struct Summary {
     pub critical_hop_by_hop: bool,
     /// CItE.
     pub critical_to_egress: bool,
-    /// Some option goes when the strip flag is set.
-    pub removable: bool,
+    /// Octets of the options that go when the strip flag is set.
+    pub removable: usize,
 }
 
 /// Why an area is ill formed, and the place in it of the option at fault: 0 if
@@ -96,7 +96,7 @@ pub(crate) fn check(area: &[u8]) -> Result<Summary, IllFormed> {
     let mut summary = Summary {
         critical_hop_by_hop: first & 0x80 != 0,
         critical_to_egress: first & 0x40 != 0,
-        removable: false,
+        removable: 0,
     };
     let mut previous = None;
     // Kinds of critical option met.
@@ -109,7 +109,8 @@ pub(crate) fn check(area: &[u8]) -> Result<Summary, IllFormed> {
         match option.key & (IE | NC) {
             0 => hop_by_hop = true,
             IE => to_egress = true,
-            _ => summary.removable |= option.removable(),
+            _ if option.removable() => summary.removable += option.size,
+            _ => {}
         }
         previous = Some(option.key);
         rest = &rest[option.size..];
@@ -125,8 +126,8 @@ pub(crate) fn check(area: &[u8]) -> Result<Summary, IllFormed> {
 }
 
 /// Writes a well-formed area without its removable options at the start of
-/// `out` and gives the octets left. The first word always stays.
-pub(crate) fn strip(area: &[u8], out: &mut [u8]) -> usize {
+/// `out`. The first word always stays.
+pub(crate) fn strip(area: &[u8], out: &mut [u8]) {
     out[..4].copy_from_slice(&area[..4]);
     let mut written = 4;
     let mut rest = &area[4..];
@@ -139,5 +140,4 @@ pub(crate) fn strip(area: &[u8], out: &mut [u8]) -> usize {
         }
         rest = after;
     }
-    written
 }

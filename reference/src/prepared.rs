@@ -26,7 +26,7 @@ impl Prepared {
             own: *switch.own(),
             records: [Record::EMPTY; PLACES],
         };
-        for record in switch.records().map(Record::read) {
+        for record in switch.records() {
             let place = prepared.place(record.destination);
             let known = &mut prepared.records[place];
             if known.destination == 0 || known.serial < record.serial {

@@ -1,12 +1,14 @@
 //! Fields of settings and descriptions, the settings rules, next-hop records.
 
 use crate::cause::Fault;
-use crate::header::TRILL;
-use crate::octets::{put_u16, u16_at, Mac};
+use crate::header::{TRILL, VLAN_TAG};
+use crate::octets::{put_u16, Mac};
 
 /// Greatest valid nickname of a switch; the least is 1.
 const LAST_NICKNAME: u16 = 0xFFBF;
 const MAX_RECORDS: usize = 64;
+/// Greatest outer VLAN of a record; 0 is none.
+const LAST_VLAN: u16 = 4094;
 /// Greatest frame, and least output buffer.
 pub(crate) const MAX_FRAME: usize = 2048;
 const MAC_BITS: u64 = 0xFFFF_FFFF_FFFF;
@@ -15,8 +17,8 @@ const MAC_BITS: u64 = 0xFFFF_FFFF_FFFF;
 pub(crate) enum Field<'a> {
     /// Tag 1: nickname, MAC.
     Switch(&'a [u8; 8]),
-    /// Tag 2: destination, neighbour, MAC, serial.
-    Record(&'a [u8; 14]),
+    /// Tag 2: destination, neighbour, MAC, serial, and an outer VLAN or none.
+    Record(Record),
     /// Tag 3: strip flag.
     Strip(u8),
     /// Tag 4: clock.
@@ -30,12 +32,11 @@ impl<'a> Field<'a> {
     /// length.
     #[inline]
     pub(crate) fn take(rest: &mut &'a [u8]) -> Result<Self, Fault> {
-        // Most fields are records. Their length is a constant here, so that
-        // the next field's place need not wait for it to be loaded.
-        if let Some((&[2, 0, 14, ref value @ ..], after)) = rest.split_first_chunk::<RECORD_FIELD>()
-        {
+        // Most fields are records. Their lengths are constants here, so that
+        // the next field's place need not wait for one to be loaded.
+        if let Some((record, after)) = Record::take(rest) {
             *rest = after;
-            return Ok(Field::Record(value));
+            return Ok(Field::Record(record));
         }
         let [tag, high, low, after @ ..] = *rest else {
             return Err(Fault::HeadCut);
@@ -50,38 +51,49 @@ impl<'a> Field<'a> {
     fn known(tag: u8, value: &'a [u8]) -> Result<Self, Fault> {
         let field = match (tag, value) {
             (1, _) => value.try_into().ok().map(Field::Switch),
-            (2, _) => value.try_into().ok().map(Field::Record),
             (3, &[flag]) => Some(Field::Strip(flag)),
             (4, _) => value.try_into().ok().map(Field::Clock),
             (5, &[e0, e1, ref frame @ ..]) if frame.len() <= MAX_FRAME => {
                 Some(Field::Frame(u16::from_be_bytes([e0, e1]), frame))
             }
-            (3 | 5, _) => None,
+            (2 | 3 | 5, _) => None,
             _ => return Err(Fault::UnknownTag),
         };
         field.ok_or(Fault::Length)
     }
 }
 
-/// A live next hop: neighbour above MAC, so that it is passed on in a register.
+/// A live next hop, small enough to be passed on in registers.
 #[derive(Clone, Copy)]
-pub(crate) struct NextHop(u64);
+pub(crate) struct NextHop {
+    /// Neighbour above MAC.
+    hop: u64,
+    /// Outer VLAN, 0 for none.
+    vlan: u16,
+}
 
 impl NextHop {
     pub(crate) fn neighbour(self) -> u16 {
-        (self.0 >> 48) as u16
+        (self.hop >> 48) as u16
     }
 
     fn mac(self) -> Mac {
-        let [_, _, mac @ ..] = self.0.to_be_bytes();
+        let [_, _, mac @ ..] = self.hop.to_be_bytes();
         mac
+    }
+
+    /// Octets of the link header written: neighbour MAC, own MAC, a tag if
+    /// there is a VLAN, 0x22F3.
+    pub(crate) fn link_header(self) -> usize {
+        if self.vlan == 0 {
+            14
+        } else {
+            18
+        }
     }
 }
 
-/// Octets of the link header written: neighbour MAC, own MAC, 0x22F3.
-pub(crate) const LINK_HEADER: usize = 14;
-
-/// Octets of a tag 2 field.
+/// Octets of a tag 2 field without a VLAN.
 const RECORD_FIELD: usize = 17;
 
 /// What a switch is, without its records.
@@ -93,12 +105,19 @@ pub(crate) struct Own {
 }
 
 impl Own {
-    /// Writes the link header of frames to a next hop.
+    /// Writes the link header of frames to a next hop at the start of `out`
+    /// and gives its octets. A tag has zero priority.
     #[inline]
-    pub(crate) fn write_link(&self, hop: NextHop, header: &mut [u8]) {
-        header[..6].copy_from_slice(&hop.mac());
-        header[6..12].copy_from_slice(&self.mac);
-        put_u16(header, 12, TRILL);
+    pub(crate) fn write_link(&self, hop: NextHop, out: &mut [u8]) -> usize {
+        out[..6].copy_from_slice(&hop.mac());
+        out[6..12].copy_from_slice(&self.mac);
+        let length = hop.link_header();
+        if hop.vlan != 0 {
+            put_u16(out, 12, VLAN_TAG);
+            put_u16(out, 14, hop.vlan);
+        }
+        put_u16(out, length - 2, TRILL);
+        length
     }
 }
 
@@ -144,7 +163,7 @@ impl<'a> Switch<'a> {
         let mut seen = Seen::default();
         while !rest.is_empty() {
             match Field::take(&mut rest)? {
-                Field::Record(value) => self.add_record(value, &mut seen)?,
+                Field::Record(record) => self.add_record(record, &mut seen)?,
                 Field::Strip(flag) => self.set_strip(flag)?,
                 _ => return Err(Fault::NotSettings),
             }
@@ -171,17 +190,20 @@ impl<'a> Switch<'a> {
     /// Takes the next record of `fields`. Values are tested first, then the
     /// number of records, then the serial.
     #[inline(always)]
-    pub(crate) fn add_record(&mut self, value: &[u8; 14], seen: &mut Seen) -> Result<(), Fault> {
-        let record = Record::read(value);
+    pub(crate) fn add_record(&mut self, record: Record, seen: &mut Seen) -> Result<(), Fault> {
         if !(1..=LAST_NICKNAME).contains(&record.destination) {
             return Err(Fault::Destination);
         }
-        // Neighbour 0 is a withdrawal; its MAC is tested all the same.
+        // Neighbour 0 is a withdrawal; the rest is tested all the same.
         if (record.hop >> 48) as u16 > LAST_NICKNAME {
             return Err(Fault::Neighbour);
         }
         if !is_station(record.hop) {
             return Err(Fault::NeighbourMac);
+        }
+        // All 16 bits count: a priority is no VLAN.
+        if record.vlan > LAST_VLAN {
+            return Err(Fault::OuterVlan);
         }
         if self.count == MAX_RECORDS {
             return Err(Fault::Records);
@@ -215,7 +237,7 @@ impl<'a> Switch<'a> {
     /// Whether a record has this destination and serial.
     #[cold]
     fn met(&self, key: u64) -> bool {
-        self.records().any(|value| Record::read(value).key() == key)
+        self.records().any(|record| record.key() == key)
     }
 }
 
@@ -228,12 +250,10 @@ impl Station for Switch<'_> {
     #[inline]
     fn next_hop(&self, destination: u16) -> Option<NextHop> {
         let mut ruling: Option<Record> = None;
-        for value in self.records() {
-            if u16_at(value, 0) == destination {
-                let record = Record::read(value);
-                if ruling.is_none_or(|ruling| ruling.serial < record.serial) {
-                    ruling = Some(record);
-                }
+        for record in self.records() {
+            let newer = ruling.is_none_or(|ruling| ruling.serial < record.serial);
+            if record.destination == destination && newer {
+                ruling = Some(record);
             }
         }
         ruling?.next_hop()
@@ -247,21 +267,19 @@ pub(crate) struct Records<'a> {
     rest: &'a [u8],
 }
 
-impl<'a> Iterator for Records<'a> {
-    type Item = &'a [u8; 14];
+impl Iterator for Records<'_> {
+    type Item = Record;
 
     #[inline]
-    fn next(&mut self) -> Option<Self::Item> {
+    fn next(&mut self) -> Option<Record> {
         self.left = self.left.checked_sub(1)?;
         loop {
-            // A record is still to come, so that there are enough octets.
-            let ([tag, _, length, value @ ..], after) =
-                self.rest.split_first_chunk::<RECORD_FIELD>()?;
-            if *tag == 2 {
+            if let Some((record, after)) = Record::take(self.rest) {
                 self.rest = after;
-                return Some(value);
+                return Some(record);
             }
-            self.rest = &self.rest[3 + usize::from(*length)..];
+            // A record is still to come, so that there are enough octets.
+            self.rest = &self.rest[3 + usize::from(self.rest[2])..];
         }
     }
 }
@@ -273,6 +291,8 @@ pub(crate) struct Record {
     /// Neighbour above MAC.
     hop: u64,
     pub serial: u32,
+    /// Outer VLAN, 0 for none.
+    vlan: u16,
 }
 
 impl Record {
@@ -281,22 +301,39 @@ impl Record {
         destination: 0,
         hop: 0,
         serial: 0,
+        vlan: 0,
     };
 
+    /// The record of a tag 2 field at the start of `rest`, and what is after
+    /// it: of length 14 without a VLAN, of length 16 with one.
     #[inline]
-    pub(crate) fn read(value: &[u8; 14]) -> Self {
-        let [d0, d1, hop @ .., s0, s1, s2, s3] = *value;
-        Record {
+    fn take(rest: &[u8]) -> Option<(Self, &[u8])> {
+        let (field, after) = rest.split_first_chunk::<RECORD_FIELD>()?;
+        let (vlan, after) = match field {
+            [2, 0, 14, ..] => (0, after),
+            [2, 0, 16, ..] => {
+                let (vlan, after) = after.split_first_chunk()?;
+                (u16::from_be_bytes(*vlan), after)
+            }
+            _ => return None,
+        };
+        let [_, _, _, d0, d1, hop @ .., s0, s1, s2, s3] = *field;
+        let record = Record {
             destination: u16::from_be_bytes([d0, d1]),
             hop: u64::from_be_bytes(hop),
             serial: u32::from_be_bytes([s0, s1, s2, s3]),
-        }
+            vlan,
+        };
+        Some((record, after))
     }
 
     /// None if the record is a withdrawal, or empty.
     #[inline]
     pub(crate) fn next_hop(&self) -> Option<NextHop> {
-        let hop = NextHop(self.hop);
+        let hop = NextHop {
+            hop: self.hop,
+            vlan: self.vlan,
+        };
         (hop.neighbour() != 0).then_some(hop)
     }
 

@@ -1,7 +1,7 @@
 //! The way out: the link header of a destination's ruling record.
 
 use crate::cause::Cause;
-use crate::settings::{Station, Switch, LINK_HEADER};
+use crate::settings::{Station, Switch};
 
 /// The answer of the way-out call.
 #[repr(C)]
@@ -29,7 +29,9 @@ fn write(settings: &[u8], destination: u16, out: &mut [u8]) -> Result<u32, Cause
     let mut switch = Switch::EMPTY;
     switch.read(settings).map_err(Cause::Settings)?;
     let hop = switch.next_hop(destination).ok_or(Cause::NoNextHop)?;
-    let header = out.get_mut(..LINK_HEADER).ok_or(Cause::OutputRoom)?;
-    switch.own().write_link(hop, header);
-    Ok(header.len() as u32)
+    let header = out.get_mut(..hop.link_header());
+    let written = switch
+        .own()
+        .write_link(hop, header.ok_or(Cause::OutputRoom)?);
+    Ok(written as u32)
 }

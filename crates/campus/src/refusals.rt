@@ -19,7 +19,7 @@ pub fn length_good(tag: u8, size: usize) -> bool
         return size == 8;
     }
     if tag == 2 {
-        return size == 14;
+        return octets::hop_size(size);
     }
     if tag == 3 {
         return size == 1;

@@ -24,9 +24,10 @@ use Rattle.handler.proofs.RulingLaws.{row-slide, hops-split, fold-appen
 pub record Fitting (r : NextHop) : Type 0 where
   pub serial-fits : r .serial < 4294967296
   pub neighbour-fits : r .neighbour < 65536
+  pub vlan-fits : r .vlan < 65536
 
 pub fitting : (v : List ℕ) → Fitting (S.hopOf v)
-fitting v = record { serial-fits = omega arith; neighbour-fits = omega arith }
+fitting v = record { serial-fits = omega arith; neighbour-fits = omega arith; vlan-fits = omega arith }
 
 module _ (w : List ℕ) (n rank p : ℕ) where
   pub met-past : n ≤ p → false ≡ metAt w n rank p
@@ -252,20 +253,21 @@ module _ (w : List ℕ) (n key value p : ℕ) (v : List ℕ) (o : Ordered w n) (
 
 hop-back : (r : NextHop) → Fitting r → hopOf (storeKey r) (storeValue r) ≡ r
 hop-back r f =
-    let a : storeKey r / 281474976710656 ≡ r .destination = omega (arith, f .serial-fits) in
+    let a : storeKey r / 281474976710656 ≡ r .destination = omega (arith, f .serial-fits, f .vlan-fits) in
     let b : storeValue r % 65536 ≡ r .neighbour = omega (arith, f .neighbour-fits) in
     let c : storeValue r / 65536 ≡ r .mac = omega (arith, f .neighbour-fits) in
-    let e : storeKey r / 65536 % 4294967296 ≡ r .serial = omega (arith, f .serial-fits) in
-    rw (a, b, c, e)
+    let e : storeKey r / 65536 % 4294967296 ≡ r .serial = omega (arith, f .serial-fits, f .vlan-fits) in
+    let g : storeKey r % 65536 ≡ r .vlan = omega (arith, f .vlan-fits) in
+    rw (a, b, c, e, g)
 
 -- rank and record: one of the other's
 rank-of : (w : List ℕ) (j : ℕ) (r : NextHop) → Fitting r → hopAt w j .destination ≡ r .destination → hopAt w j .serial ≡ r .serial → rankAt w j ≡ storeKey r / 65536
 unfolding hopAt
-rank-of w j r f x y = omega (arith, f .serial-fits)
+rank-of w j r f x y = omega (arith, f .serial-fits, f .vlan-fits)
 
 of-rank : (w : List ℕ) (j : ℕ) (r : NextHop) → Fitting r → rankAt w j ≡ storeKey r / 65536 → (hopAt w j .destination ≡ r .destination) × (hopAt w j .serial ≡ r .serial)
 unfolding hopAt
-of-rank w j r f e = (omega (arith, f .serial-fits), omega (arith, f .serial-fits))
+of-rank w j r f e = (omega (arith, f .serial-fits, f .vlan-fits), omega (arith, f .serial-fits, f .vlan-fits))
 
 row-met : (w : List ℕ) (r : NextHop) (k i j : ℕ) → i ≤ j → j < i + k → hopAt w j .destination ≡ r .destination → hopAt w j .serial ≡ r .serial → S.serialMet r (hopsFrom w i k) ≡ true
 unfolding hopsFrom S.serialMet

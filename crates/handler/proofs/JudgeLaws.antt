@@ -12,7 +12,7 @@ use lib.Dec.{ltb, eqb}
 use lib.ListN.{length, take, replicate, length-replicate, length-append}
 use lib.Seq.{length-take-le}
 use Rattle.rules.specs.Octets.{part}
-use Rattle.rules.specs.Fields.{Field, field, cut, fieldAt, fieldsFrom, fields, lengthGood}
+use Rattle.rules.specs.Fields.{Field, field, cut, fieldAt, fieldsFrom, fields, hopSize, lengthGood}
 use Rattle.rules.specs.Settings.{Settings, hopOf, serialMet, withField, opens, opened, continues, settingsFrom, settingsOf}
 use Rattle.rules.specs.Campus.{known}
 use Rattle.rules.specs.declared.NextHop.{NextHop}
@@ -192,21 +192,13 @@ module _ {s : List ℕ} {from : ℕ} {keys seen : List ℕ} {n at : ℕ} (j : Ju
       abbrev v : List ℕ
       v = part s (at + 3) (next - (at + 3))
 
-      long : length v ≡ next - (at + 3)
-      long = length-part s (at + 3) (next - (at + 3)) (omega (arith, field-read s at tag size next f))
-
       -- a record
       module _ (two : tag ≡ 2) {r : ℕ} {keys′ seen′ : List ℕ} (t : Taking (hopTaken (take n keys) n v) (withKey (take n keys) v) r keys′ seen′) where
         pub hop-stops : 64 < r → Verdict s from false
         hop-stops = stops (taking-hop (take n keys) n tag v two t)
 
-        pub hop-next : r ≤ 64 → at + 17 ≡ next
-        hop-next b =
-            let fourteen = hop-long (take n keys) n v (t .judged ∙ le-leb r 64 b) in
-            omega (arith, fourteen, long, field-read s at tag size next f)
-
-        pub hop-on : r ≤ 64 → Judging s from keys′ seen′ r (at + 17)
-        hop-on b = rw (hop-next b) (goes-on (taking-hop (take n keys) n tag v two t) b)
+        pub hop-on : r ≤ 64 → Judging s from keys′ seen′ r next
+        hop-on = goes-on (taking-hop (take n keys) n tag v two t)
 
       -- a flag
       module _ (other : tag ≡ 2 → ⊥) where
@@ -217,11 +209,8 @@ module _ {s : List ℕ} {from : ℕ} {keys seen : List ℕ} {n at : ℕ} (j : Ju
           pub flag-stops : not good ≡ true → Verdict s from false
           flag-stops n = stops (refused {keys = keys} {seen = seen} (as-flag (sym is ∙ not-true good n))) (omega arith)
 
-          pub flag-on : not good ≡ false → Judging s from keys seen n (at + 4)
-          flag-on b =
-              let e = sym is ∙ not-false good b in
-              let ends : at + 4 ≡ next = omega (arith, flag-length tag v e, long, field-read s at tag size next f) in
-              rw ends (goes-on (unchanged (j .kept) (as-flag e) (keys-other (take n keys) tag v other)) (j .kept .few))
+          pub flag-on : not good ≡ false → Judging s from keys seen n next
+          flag-on b = goes-on (unchanged (j .kept) (as-flag (sym is ∙ not-false good b)) (keys-other (take n keys) tag v other)) (j .kept .few)
 
 -- what is lent of the keys is whole
 pub keys-count : {keys seen : List ℕ} {n : ℕ} → Kept keys seen n → 64 ≡ length keys

@@ -6,10 +6,12 @@ use mathlib.Core.Bool.{Bool, true, false, not, _&&_, _||_, or-assoc, true≢fals
 use Prim.Native.Nat.{ℕ, zero, suc, _+_, _*_, _<_, _≤_}
 use native.Mathlib.Omega.{arith}
 use native.Mathlib.Numerals.{add-one}
-use borrow.Author.Tests.{eqb-true, eqb-false, eq-eqb, ne-eqb, lt-ltb, le-leb}
+use borrow.Author.Needs.{needs}
+use borrow.Author.Tests.{eqb-true, eqb-false, eq-eqb, ne-eqb, lt-ltb, le-leb, not-true, not-false}
 use lib.Dec.{ltb, eqb}
 use lib.ListN.{length, getD, take, set, length-set}
 use lib.Seq.{slice, slice-cons, slice-empty, getD-set-same, getD-set-other, take-suc-set}
+use Rattle.rules.specs.Fields.{hopSize}
 use Rattle.rules.specs.Settings.{hopGood, hopOf, hopsMost, stripGood}
 use Rattle.rules.proofs.TestLaws.{by-test, and-true, and-no, or-no, or-yes}
 use Rattle.handler.specs.Keys.{keyOf, mixOf, slotBy, markBy, markedBy, coversBy, keyMet, Marked, Kept, hopTaken, flagTaken, fieldTaken, withKey, keysWith, Taking}
@@ -113,9 +115,9 @@ unchanged {n = n} k e same = record { judged = e ∙ sym (le-leb n 64 (k .few));
 
 -- one more record: one law for each way it is refused, and two where it is taken
 module _ (keys : List ℕ) (n : ℕ) (v : List ℕ) where
-  pub hop-short : (length v ≡ 14 → ⊥) → hopTaken keys n v ≡ false
+  pub hop-short : hopSize (length v) ≡ false → hopTaken keys n v ≡ false
   unfolding hopTaken
-  hop-short h = rw (ne-eqb (length v) 14 h)
+  hop-short h = rw h
 
   pub hop-full : n ≡ 64 → hopTaken keys n v ≡ false
   unfolding hopTaken
@@ -125,21 +127,64 @@ module _ (keys : List ℕ) (n : ℕ) (v : List ℕ) where
   unfolding hopTaken
   hop-bad h = rw (h, and-no)
 
-  pub hop-long : hopTaken keys n v ≡ true → length v ≡ 14
+  pub hop-long : hopTaken keys n v ≡ true → hopSize (length v) ≡ true
   unfolding hopTaken
-  hop-long t = eqb-true (length v) 14 (and-true (eqb (length v) 14) (hopGood (hopOf v) && ltb n hopsMost && not (keyMet (keyOf (hopOf v)) keys)) t .0)
+  hop-long t = (and-true (hopSize (length v)) (hopGood (hopOf v) && ltb n hopsMost && not (keyMet (keyOf (hopOf v)) keys)) t .0)
 
   module _ (key : ℕ) (made : key ≡ keyOf (hopOf v)) where
     pub hop-met : not (keyMet key keys) ≡ false → hopTaken keys n v ≡ false
     unfolding hopTaken
     hop-met h = rw ((rw made at h), and-no, and-no)
 
-    pub hop-new : length v ≡ 14 → hopGood (hopOf v) ≡ true → n < 64 → not (keyMet key keys) ≡ true → hopTaken keys n v ≡ true
+    pub hop-new : hopSize (length v) ≡ true → hopGood (hopOf v) ≡ true → n < 64 → not (keyMet key keys) ≡ true → hopTaken keys n v ≡ true
     unfolding hopTaken
-    hop-new a b c h = rw (eq-eqb (length v) 14 a, b, lt-ltb n 64 c, (rw made at h))
+    hop-new a b c h = rw (a, b, lt-ltb n 64 c, (rw made at h))
 
     pub keys-new : withKey keys v ≡ keys ++ (key ∷ [])
     keys-new = rw made
+
+-- the ways out of one more record, over what the code tests
+module _ (keys seen : List ℕ) (n : ℕ) (v : List ℕ) where
+  abbrev pub AdmitTo : ℕ → List ℕ → List ℕ → Type 0
+  AdmitTo = Taking (hopTaken (take n keys) n v) (withKey (take n keys) v)
+
+  pub admit-short : (sized : Bool) → sized ≡ hopSize (length v) → not sized ≡ true → AdmitTo 65 keys seen
+  admit-short sized is t = refused (hop-short (take n keys) n v (sym is ∙ not-true sized t))
+
+  pub admit-bad : (good : Bool) → good ≡ hopGood (hopOf v) → not good ≡ true → AdmitTo 65 keys seen
+  admit-bad good is t = refused (hop-bad (take n keys) n v (sym is ∙ not-true good t))
+
+  pub admit-full : n ≡ 64 → AdmitTo 65 keys seen
+  admit-full e = refused (hop-full (take n keys) n v e)
+
+  module _ (key mixed slot mark : ℕ) (its-key : key ≡ keyOf (hopOf v)) (its-mix : mixed ≡ mixOf key) (its-slot : slot ≡ slotBy mixed) (its-mark : mark ≡ markBy mixed) where
+    module _ (new : Bool) (is : new ≡ not (keyMet key (take n keys))) where
+      pub admit-met : not new ≡ true → AdmitTo 65 keys seen
+      admit-met t = refused (hop-met (take n keys) n v key its-key (sym is ∙ not-true new t))
+
+      pub admit-new : not new ≡ false → slot < 256 → (sized : Bool) → sized ≡ hopSize (length v) → not sized ≡ false → (good : Bool) → good ≡ hopGood (hopOf v) → not good ≡ false
+          → (n ≡ 64 → ⊥) → Kept keys seen n → (with : ℕ) → with ≡ markedBy (getD seen slot 0) mark → AdmitTo (n + 1) (set keys n key) (set seen slot with)
+      admit-new t h sized e-s s good e-g g room k with e-w =
+          let few : n < 64 = omega (arith, k .few, room) in
+          rw e-w
+          (admitted keys seen n key slot mark k few (rw its-mix at its-slot) h (rw its-mix at its-mark)
+          (hop-new (take n keys) n v key its-key (sym e-s ∙ not-false sized s) (sym e-g ∙ not-false good g) few (sym is ∙ not-false new t))
+          (keys-new (take n keys) n v key its-key))
+
+module _ (keys seen : List ℕ) (n key mixed slot mark old : ℕ) (k : Kept keys seen n) (its-mix : mixed ≡ mixOf key) (its-slot : slot ≡ slotBy mixed) (its-mark : mark ≡ markBy mixed) where
+  pub admit-shows : coversBy (getD seen slot 0) mark ≡ false → keyMet key (take n keys) ≡ false
+  admit-shows = slot-shows keys seen n key (k .marked) mixed its-mix slot its-slot mark its-mark
+
+pub kept-few : {keys seen : List ℕ} {n : ℕ} → Kept keys seen n → n ≤ length keys
+kept-few k = omega (arith, k .few, k .keys-long)
+
+pub kept-slot : {keys seen : List ℕ} {n : ℕ} → Kept keys seen n → (slot : ℕ) → slot < 256 → slot < length seen
+kept-slot k slot h = omega (arith, k .seen-long)
+
+pub kept-place : {keys seen : List ℕ} {n : ℕ} → Kept keys seen n → (n ≡ 64 → ⊥) → n < length keys
+kept-place k h = omega (arith, k .few, k .keys-long, h)
+
+pub ruleset admit-laws = (needs, admit-short, admit-bad, admit-full, admit-met, admit-new, admit-shows, kept-few, kept-slot, kept-place)
 
 -- one more field, in the same way
 module _ (keys : List ℕ) (tag : ℕ) (v : List ℕ) where

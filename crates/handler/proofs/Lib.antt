@@ -4,6 +4,7 @@ pub mod Walks
 pub mod Stages
 pub mod Strips
 pub mod Ways
+pub mod Replies
 pub mod Rests
 pub mod Bodies
 pub mod Taken

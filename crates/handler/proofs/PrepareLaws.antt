@@ -16,7 +16,7 @@ use lib.Seq.{getD-set-same, getD-set-other, paste, paste-zero, paste-suc, take-l
 use Rattle.octets.proofs.Bits.{or-add}
 use Rattle.rules.specs.Octets as O
 use Rattle.rules.specs.Octets.{put, octet, be16, be48, part}
-use Rattle.rules.specs.Fields.{Field, field, cut, fieldAt, fieldsFrom, fields, lengthGood}
+use Rattle.rules.specs.Fields.{Field, field, cut, fieldAt, fieldsFrom, fields, hopSize, lengthGood}
 use Rattle.rules.specs.Settings as S
 use Rattle.rules.specs.Settings.{Settings, hopGood, withField, continues, settingsFrom, settingsOf, opens, opened, switchOf, waysOf, nicknameValid, macGood, switchGood}
 use Rattle.rules.specs.Handling.{handledWith}
@@ -30,7 +30,7 @@ use Rattle.rules.proofs.FieldLaws.{field-read, fields-end, fields-cut, fields-o
 use Rattle.rules.proofs.SettingsLaws.{from-on, from-bad, from-read}
 use Rattle.rules.proofs.HandlingLaws.{settings-good}
 use Rattle.handler.specs.declared.way.Own.{Own}
-use Rattle.handler.specs.Keys.{flagTaken}
+use Rattle.handler.specs.Keys.{keyOf, flagTaken}
 use Rattle.handler.specs.Store.{nicknameIn, countIn, rankAt, hopsFrom, placeIn, hopFor, waysIn, storeGood, handledIn, StandsFor, Stands, Roomy, Takes, Filled, Fills, Hinted, preparing, Prepared}
 use Rattle.handler.specs.Insert.{storeKey, storeValue, metAt, PlaceFor, Shifted, PutIn, Inserted}
 use Rattle.handler.proofs.Taken.{taken, taken-first}
@@ -114,11 +114,14 @@ pub ruleset put-at-laws = (needs, put-done, key-room, value-room)
 pub value-made : (v : List ℕ) (mac neighbour : ℕ) → mac ≡ be48 v 4 → neighbour ≡ be16 v 2 → bitOr (mac * 65536 % 18446744073709551616) neighbour ≡ storeValue (S.hopOf v)
 value-made v mac neighbour a b = or-add (mac * 65536 % 18446744073709551616) 16 neighbour (omega arith) (omega arith) ∙ omega arith
 
-pub ruleset value-of-laws = (needs, value-made)
+pub key-made : (v : List ℕ) (key vlan : ℕ) → key ≡ keyOf (S.hopOf v) → vlan ≡ be16 v 14 → bitOr (key * 65536 % 18446744073709551616) vlan ≡ storeKey (S.hopOf v)
+key-made v key vlan a b = or-add (key * 65536 % 18446744073709551616) 16 vlan (omega arith) (omega arith) ∙ omega arith
+
+pub ruleset value-of-laws = (needs, value-made, key-made)
 
 -- a record: one law for each way that it is refused, and one where it is taken
 module _ (T : Settings) (v : List ℕ) where
-  continues-record : continues T (field 2 v) ≡ (eqb (length v) 14 && (hopGood (S.hopOf v) && ltb (length (T .hops)) 64 && not (S.serialMet (S.hopOf v) (T .hops))))
+  continues-record : continues T (field 2 v) ≡ (hopSize (length v) && (hopGood (S.hopOf v) && ltb (length (T .hops)) 64 && not (S.serialMet (S.hopOf v) (T .hops))))
   unfolding continues lengthGood
   continues-record = refl
 
@@ -130,8 +133,8 @@ not-taken : {w : List ℕ} {f : Field} {v : List ℕ} → ((T : Settings) → St
 not-taken e = record { judged = e; stands = λ T s t. absurd (false≢true t); roomy = λ t. absurd (false≢true t) }
 
 module _ (w v : List ℕ) where
-  pub admit-long : (length v ≡ 14 → ⊥) → Takes w (field 2 v) false w
-  admit-long h = not-taken (λ T s. rw (continues-record T v, ne-eqb (length v) 14 h))
+  pub admit-long : (sized : Bool) → sized ≡ hopSize (length v) → not sized ≡ true → Takes w (field 2 v) false w
+  admit-long sized is n = not-taken (λ T s. rw (continues-record T v, ← is, not-true sized n))
 
   pub admit-bad : (ok : Bool) → ok ≡ hopGood (S.hopOf v) → not ok ≡ true → Takes w (field 2 v) false w
   admit-bad ok is n = not-taken (λ T s. rw (continues-record T v, ← is, not-true ok n, and-no))
@@ -150,7 +153,7 @@ module _ (w v : List ℕ) where
         let met = met-refused w n (S.hopOf v) u (T .hops) (omega (arith, roomy .most, room)) (fitting v) (rw (← is) at (s .records)) j in
         rw (continues-record T v, met, and-no, and-no))
 
-    module _ (long : length v ≡ 14) (ok : Bool) (g : ok ≡ hopGood (S.hopOf v)) (t : not ok ≡ false) (room : n ≡ 64 → ⊥) (roomy : Roomy w) (put : Bool) (i : Inserted w n key value put u) (p : not put ≡ false) where
+    module _ (right : Bool) (i-s : right ≡ hopSize (length v)) (long : not right ≡ false) (ok : Bool) (g : ok ≡ hopGood (S.hopOf v)) (t : not ok ≡ false) (room : n ≡ 64 → ⊥) (roomy : Roomy w) (put : Bool) (i : Inserted w n key value put u) (p : not put ≡ false) where
       few : n < 64
       few = omega (arith, roomy .most, room)
 
@@ -175,7 +178,7 @@ module _ (w v : List ℕ) where
       takes : (T : Settings) → Stands w T → true ≡ continues T (field 2 v)
       takes T s =
           let unmet = unmet-put w n (S.hopOf v) u (T .hops) few (fitting v) (rw (← is) at (s .records)) its-in in
-          rw (continues-record T v, eq-eqb (length v) 14 long, ← g, not-false ok t, lt-ltb (length (T .hops)) 64 (omega (arith, few, s .records .count)), unmet)
+          rw (continues-record T v, ← i-s, not-false right long, ← g, not-false ok t, lt-ltb (length (T .hops)) 64 (omega (arith, few, s .records .count)), unmet)
 
       stands-with : (T : Settings) → Stands w T → Stands last (withField T (field 2 v))
       stands-with T s =

@@ -21,7 +21,7 @@ use Rattle.rules.specs.declared.Ruling.{Ruling}
 use Rattle.rules.specs.declared.Ruling.the-variants.{Found, Absent}
 use Rattle.rules.specs.declared.FieldRead.{FieldRead}
 use Rattle.rules.specs.declared.FieldRead.the-variants.{Taken, Cut}
-use Rattle.rules.proofs.OctetLaws.{put-none, length-part}
+use Rattle.rules.proofs.OctetLaws.{put-none}
 use Rattle.rules.proofs.FieldLaws.{field-read}
 use Rattle.rules.proofs.SettingsLaws.{settings-read}
 use Rattle.rules.proofs.HandlingLaws.{settings-bad, settings-good}
@@ -36,9 +36,9 @@ use Rattle.handler.specs.Keys.{hopTaken, withKey, flagTaken, Taking, Kep
 use Rattle.handler.specs.Shapes.{numbersOf, answerOf, routedOf, toldBy, ownOf, onlyFor, waysBy, ruledBy, flaggedBy, unlessWithdrawn, Done}
 use Rattle.handler.specs.Tasks.{doneBy, askedBy, Examining}
 use Rattle.handler.proofs.Taken.{taken, taken-first}
-use Rattle.handler.proofs.KeyLaws.{flag-tag, flag-length}
+use Rattle.handler.proofs.KeyLaws.{flag-tag}
 use Rattle.handler.proofs.JudgeLaws as J
-use Rattle.handler.proofs.JudgeLaws.{Judging, keys-count, seen-count, hop-next}
+use Rattle.handler.proofs.JudgeLaws.{Judging, keys-count, seen-count}
 use Rattle.handler.proofs.FieldWalks.{Folding, fold-begin, fold-end, fold-on, newer-other, ruled-hop, ruled-other, flagged-so, flagged-other, rules, strip-read}
 use Rattle.handler.proofs.LookupLaws.{next-hop}
 use Rattle.handler.proofs.StageLaws.{told-answer, told-after, tells}
@@ -81,32 +81,28 @@ module _ (s : List ℕ) (from d : ℕ) (keys seen : List ℕ) (n : ℕ) (best : 
         scan-hop-bad r b x = bad-scanned s from d r b (J.hop-stops (l .judging) h q t two k x)
 
         -- with the record, and past one of another destination
-        pub scan-hop : (best′ : Ruling) → best′ ≡ newer d best (hopOf v) → m ≤ 64 → Scanning s from d keys′ seen′ m best′ strip (at + 17)
+        pub scan-hop : (best′ : Ruling) → best′ ≡ newer d best (hopOf v) → m ≤ 64 → Scanning s from d keys′ seen′ m best′ strip next
         scan-hop best′ e x =
-            let on = hop-next (l .judging) h q t two k x in
             record {
               judging = J.hop-on (l .judging) h q t two k x;
-              ruled = rw on (fold-on (ruledBy d) Absent s from at best (l .ruled) h read q tag size next t best′ (e ∙ ruled-hop d best tag v two));
-              flagged = rw on (fold-on flaggedBy false s from at strip (l .flagged) h read q tag size next t strip (flagged-other strip tag v (omega arith)));
+              ruled = fold-on (ruledBy d) Absent s from at best (l .ruled) h read q tag size next t best′ (e ∙ ruled-hop d best tag v two);
+              flagged = fold-on flaggedBy false s from at strip (l .flagged) h read q tag size next t strip (flagged-other strip tag v (omega arith));
             }
 
-        pub scan-past : (word : ℕ) → word ≡ be16 v 0 → (word ≡ d → ⊥) → m ≤ 64 → Scanning s from d keys′ seen′ m best strip (at + 17)
+        pub scan-past : (word : ℕ) → word ≡ be16 v 0 → (word ≡ d → ⊥) → m ≤ 64 → Scanning s from d keys′ seen′ m best strip next
         scan-past word w e = scan-hop best (newer-other d (hopOf v) best (λ x. e (w ∙ x)))
 
       module _ (other : tag ≡ 2 → ⊥) (ok : Bool) (is : ok ≡ flagTaken tag v) where
         pub scan-flag-bad : (r : Scan) → r .good ≡ false → not ok ≡ true → Scanned s from d r
         scan-flag-bad r b x = bad-scanned s from d r b (J.flag-stops (l .judging) h q t other is x)
 
-        pub scan-flag : (o : ℕ) → o ≡ octet v 0 → not ok ≡ false → Scanning s from d keys seen n best (not (eqb o 0)) (at + 4)
+        pub scan-flag : (o : ℕ) → o ≡ octet v 0 → not ok ≡ false → Scanning s from d keys seen n best (not (eqb o 0)) next
         scan-flag o e x =
             let so = sym is ∙ not-false ok x in
-            let i = field-read s at tag size next (sym q ∙ t) in
-            let long : length v ≡ next - (at + 3) = length-part s (at + 3) (next - (at + 3)) (omega (arith, i)) in
-            let on : at + 4 ≡ next = omega (arith, flag-length tag v so, long, i) in
             record {
               judging = J.flag-on (l .judging) h q t other is x;
-              ruled = rw on (fold-on (ruledBy d) Absent s from at best (l .ruled) h read q tag size next t best (ruled-other d best tag v other));
-              flagged = rw on (fold-on flaggedBy false s from at strip (l .flagged) h read q tag size next t (not (eqb o 0)) (ap (λ (y : ℕ). not (eqb y 0)) e ∙ flagged-so strip tag v (flag-tag tag v so)));
+              ruled = fold-on (ruledBy d) Absent s from at best (l .ruled) h read q tag size next t best (ruled-other d best tag v other);
+              flagged = fold-on flaggedBy false s from at strip (l .flagged) h read q tag size next t (not (eqb o 0)) (ap (λ (y : ℕ). not (eqb y 0)) e ∙ flagged-so strip tag v (flag-tag tag v so));
             }
 
 pub ruleset scan-laws = (needs, taken, scan-begin, scan-kept, scan-64, scan-256, scan-end, scan-cut, scan-hop-bad, scan-hop, scan-past, scan-flag-bad, scan-flag)

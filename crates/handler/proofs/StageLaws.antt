@@ -8,9 +8,9 @@ use Prim.Native.Nat.{ℕ, _+_, _-_, _*_, _≤_, _<_}
 use native.Mathlib.Omega.{arith}
 use borrow.Author.Needs.{needs}
 use borrow.Author.Tests.{lt-leb, le-leb, leb-true, leb-false, not-true, not-false}
-use lib.Dec.{leb}
+use lib.Dec.{leb, eqb}
 use lib.ListN.{length, take, drop, length-append, length-drop, length-take}
-use lib.Seq.{drop-drop}
+use lib.Seq.{drop-drop, length-take-le}
 use Rattle.rules.specs.Octets.{put, be16, octet}
 use Rattle.rules.specs.Settings.{Settings, Ways, waysOf, settingsOf, settingsRead}
 use Rattle.rules.specs.Link.{link}
@@ -18,7 +18,7 @@ use Rattle.rules.specs.Header.{opLength, hopCount, areaStart, innerStart, areaO
 use Rattle.rules.specs.Options as O
 use Rattle.rules.specs.Options.{WellFormed, areaRead, areaSent, areaStops, stripped}
 use Rattle.rules.specs.Channel.{bodyOf, channelRead, returnPath, silenced, errorBody, echoBody, errorReply, echoReply, replyRest, replyInner}
-use Rattle.rules.specs.Handling.{forwarded, forwardedRest, transit, faulted, echoed, channelled, toAllEgressRBridges, decapsulated, routed, handling, handledWith, handled, outputAfter}
+use Rattle.rules.specs.Handling.{forwarded, forwardedRest, onward, transit, faulted, echoed, channelled, toAllEgressRBridges, decapsulated, routed, handling, handledWith, handled, outputAfter}
 use Rattle.rules.specs.Campus.{known}
 use Rattle.rules.specs.Answer as A
 use Rattle.rules.specs.declared.NextHop.{NextHop}
@@ -29,15 +29,14 @@ use Rattle.rules.specs.declared.Ruling.{Ruling}
 use Rattle.rules.specs.declared.Ruling.the-variants.{Found, Absent}
 use Rattle.rules.specs.declared.ChannelRead.{ChannelRead}
 use Rattle.rules.specs.declared.ChannelRead.the-variants.{Fault, BadErr, ErrorHeard, BadEcho, EchoHeard, EchoRequest}
-use Rattle.rules.proofs.TestLaws.{by-test}
-use Rattle.rules.proofs.OctetLaws.{put-none, length-part}
-use Rattle.rules.proofs.OptionLaws.{stripped-word, area-number}
-use Rattle.rules.proofs.FrameLaws.{frame-read, header-passed, link-length, length-link}
+use Rattle.rules.proofs.TestLaws.{by-test, and-no}
+use Rattle.rules.proofs.OctetLaws.{put-none, take-put, length-part}
+use Rattle.rules.proofs.OptionLaws.{stripped-word, stripped-shorter, area-number}
+use Rattle.rules.proofs.FrameLaws.{frame-read, header-passed, link-length, length-link, link-most}
 use Rattle.rules.proofs.ReplyLaws.{echo-body-length}
-use Rattle.rules.proofs.HandlingLaws.{transit-none, transit-over, faulted-silent, faulted-none, faulted-over, echoed-mode, echoed-none, echoed-over, echo-ranged, channel-echo}
+use Rattle.rules.proofs.HandlingLaws.{transit-none, transit-over, onward-long, onward-sent, faulted-silent, faulted-none, faulted-over, echoed-mode, echoed-none, echoed-over, echo-ranged, channel-echo}
 use Rattle.rules.proofs.HandlingLaws.{inner-short, inner-untagged, inner-any, inner-delivered, inner-up, inner-channel, routed-faulty, routed-stopped, routed-egress, routed-transit}
 use Rattle.rules.proofs.HandlingLaws.{handling-unread, handling-refused, handling-routed, clock-bad, room-short, frame-long, frame-handled}
-use Rattle.rules.proofs.HandledLaws.{forwarded-fits}
 use Rattle.handler.specs.declared.answers.Handled.{Handled}
 use Rattle.handler.specs.declared.Routed.{Routed}
 use Rattle.handler.specs.declared.way.Own.{Own}
@@ -45,15 +44,13 @@ use Rattle.handler.specs.declared.way.Told.{Told}
 use Rattle.handler.specs.declared.options.Cursor.{Cursor}
 use Rattle.handler.specs.declared.options.AreaRead.{AreaRead}
 use Rattle.handler.specs.declared.options.AreaRead.the-variants.{Read, Faulty}
-use Rattle.handler.specs.declared.way.Way.{Way}
-use Rattle.handler.specs.declared.way.Way.the-variants.{Via, NoWay}
 use Rattle.handler.specs.declared.handling.Task.{Task}
 use Rattle.handler.specs.declared.handling.Task.the-variants.{Answered, Forward, Error, Echo}
 use Rattle.handler.specs.declared.handling.Examined.{Examined}
 use Rattle.handler.specs.Tasks.{answerBy, doneBy, askedBy, Left, Lent, Held, Comes, ComesAt, Examining}
-use Rattle.handler.specs.Shapes.{numbersOf, ownOf, onlyFor, waysBy, Linked, wayBy, linkBy, replyOctets, restWith, areaBy, untaggedBy, judgedBy, Fits, Ready, Done, toldBy, routedOf, answerOf}
+use Rattle.handler.specs.Shapes.{numbersOf, ownOf, onlyFor, waysBy, linkSize, replyOctets, restWith, untaggedBy, judgedBy, Fits, Ready, Replied, Done, toldBy, routedOf, answerOf}
 use Rattle.handler.proofs.Stages.{after, lent-rest}
-use Rattle.handler.proofs.Rests.{area-lent}
+use Rattle.handler.proofs.Rests.{area-lent, rest-long}
 
 -- a frame that is ready
 module _ {f : List ℕ} {h : Header} (ready : Ready f h) where
@@ -96,103 +93,174 @@ module _ {a : A.Handled} {r : Handled} {out : List ℕ} where
 done-as : {a b : A.Handled} {r : Handled} {out out2 : List ℕ} → a ≡ b → Done b r out out2 → Done a r out out2
 done-as e d = rw e d
 
--- a way that was asked for, with its link header
-abbrev pub onward : Ways → Header → Ruling
-onward S h = S .hop (h .egress)
-
+-- the next hop back
 abbrev pub back : Ways → Header → Ruling
 back S h = returnPath S (h .ingress)
 
 abbrev pub wroteBy : ℕ → ℕ → ℕ → Handled
 wroteBy number end via = record { number = number; written = end; start = 0; length = 0; via = via }
 
-pub record Over (S : Ways) (R : Ruling) (n k : ℕ) : Type 0 where
-  pub hop : NextHop
-  pub rules : R ≡ Found hop
-  pub by : n ≡ hop .neighbour
-  pub long : k ≡ length (link S hop)
+-- what is written behind the link header towards a next hop
+module _ (S : Ways) (hop : NextHop) (out out1 : List ℕ) (k : ℕ) (long : k ≡ length (link S hop)) (linked : out1 ≡ put out 0 (link S hop)) where
+  sent : {a : A.Handled} {r : Handled} (number : ℕ) (rest : List ℕ) {end : ℕ} {out2 : List ℕ} → a ≡ A.wrote number (link S hop ++ rest) (hop .neighbour)
+      → r ≡ wroteBy number end (hop .neighbour) → end ≡ k + length rest → out2 ≡ put out1 k rest → k + length rest ≤ length out → Done a r out out2
+  sent number rest {end} {out2} e is ended p room =
+      let whole : end ≡ length (link S hop ++ rest) = rw length-append (ended ∙ ap (λ (x : ℕ). x + length rest) long) in
+      rw e (record { answer = is ∙ (rw whole); after = after out out1 out2 0 k (link S hop) rest linked p (omega arith) room })
 
-no-way : (S : Ways) (R : Ruling) → wayBy S R ≡ NoWay → R ≡ Absent
-no-way S Absent e = refl
-no-way S (Found r) e = let z : _≡_ {A = ℕ} 0 1 = cc in absurd (omega arith)
+  pub link-few : k ≤ 18
+  link-few = omega (arith, long, link-most S hop)
 
-some-way : (S : Ways) (R : Ruling) (n k : ℕ) → wayBy S R ≡ Via n k → Over S R n k
-some-way S Absent n k e = let z : _≡_ {A = ℕ} 0 1 = cc in absurd (omega arith)
-some-way S (Found r) n k e = record { hop = r; rules = refl; by = cc; long = cc }
+pub link-room : (r : NextHop) (out : List ℕ) → 2048 ≤ length out → linkSize (r .vlan) ≤ length out
+link-room r out h = by-test (eqb (r .vlan) 0) (λ e. rw e (omega arith)) (λ e. rw e (omega arith))
 
-module _ (S : Ways) (R : Ruling) {w : Way} (e : w ≡ wayBy S R) {n k : ℕ} (v : w ≡ Via n k) where
-  over : Over S R n k
-  over = some-way S R n k (sym e ∙ v)
+-- 29 and 50, with the area as it is sent
+module _ (S : Ways) (r : NextHop) (f : List ℕ) (h : Header) (out area : List ℕ) (goes : areaSent S (areaOf f h) ≡ area) where
+  forwards : link S r ++ restWith area f h ≡ forwarded S r f h
+  unfolding forwarded forwardedRest restWith
+  forwards = rw goes
 
-  fourteen : k ≡ 14
-  fourteen = over .long ∙ length-link S (over .hop)
+  forwards-long : length (forwarded S r f h) ≡ linkSize (r .vlan) + length (restWith area f h)
+  forwards-long = sym (ap length forwards) ∙ length-append (link S r) (restWith area f h) ∙ rw (length-link S r)
 
-module _ (S : Ways) (R : Ruling) (out : List ℕ) {w : Way} {out1 : List ℕ} (l : Linked S R out w out1) {a : A.Handled} {r : Handled} where
-  lost : (n : ℕ) → w ≡ NoWay → (R ≡ Absent → a ≡ A.dropped n) → r ≡ numbersOf (A.dropped n) → Done a r out out1
-  lost n v e is =
-      let absent = no-way S R (sym (l .0) ∙ v) in
-      rw (e absent) (record { answer = is; after = rw absent at (l .1) })
+  module _ (k size : ℕ) (links : k ≡ linkSize (r .vlan)) (rests : size ≡ length (restWith area f h)) where
+    onward-over : (a : Handled) → a ≡ numbersOf (A.dropped 29) → 2048 < k + size → Done (onward S r f h) a out out
+    onward-over a is n = done-dropped 29 (onward-long S f h r (omega (arith, forwards-long))) is
 
-  -- what is written behind the link header
-  sent : {n k : ℕ} → w ≡ Via n k → (number : ℕ) (rest : List ℕ) {end : ℕ} {out2 : List ℕ}
-      → ((hop : NextHop) → R ≡ Found hop → a ≡ A.wrote number (link S hop ++ rest) (hop .neighbour))
-      → r ≡ wroteBy number end n → end ≡ k + length rest → out2 ≡ put out1 k rest → k + length rest ≤ length out → Done a r out out2
-  sent {k = k} v number rest {end} {out2} e is ended p room =
-      let o = over S R (l .0) v in
-      let linked : out1 ≡ put out 0 (link S (o .hop)) = rw (o .rules) at (l .1) in
-      let long : end ≡ length (link S (o .hop) ++ rest) = rw length-append (ended ∙ ap (λ (x : ℕ). x + length rest) (o .long)) in
-      rw (e (o .hop) (o .rules), ← o .by) (record { answer = is ∙ (rw long); after = after out out1 out2 0 k (link S (o .hop)) rest linked p (omega (arith, o .long)) room })
+    module _ (n : k + size ≤ 2048) (at : ℕ) (out1 : List ℕ) (long : at ≡ length (link S r)) (linked : out1 ≡ put out 0 (link S r)) where
+      ends-short : (end : ℕ) → end ≡ at + length (restWith area f h) → end ≤ 2048
+      ends-short end ended = omega (arith, length-link S r)
 
--- 21 and 50
-pub transit-lost : (S : Ways) (f : List ℕ) (h : Header) (out : List ℕ) (w : Way) (out1 : List ℕ) (r : Handled)
-    → r ≡ numbersOf (A.dropped 21) → w ≡ NoWay → Linked S (onward S h) out w out1 → Done (transit S f h) r out out1
-transit-lost S f h out w out1 r is v l = lost S (onward S h) out l 21 v (transit-none S f h) is
+      onward-done : (a : Handled) (end : ℕ) (out2 : List ℕ) → a ≡ wroteBy 50 end (r .neighbour) → end ≡ at + length (restWith area f h) → out2 ≡ put out1 at (restWith area f h)
+          → 2048 ≤ length out → Done (onward S r f h) a out out2
+      onward-done a end out2 is ended p roomy =
+          sent S r out out1 at long linked 50 (restWith area f h) (onward-sent S f h r (omega (arith, forwards-long)) ∙ rw (← forwards)) is ended p (omega (arith, ends-short end ended))
 
-pub transit-fits : (f : List ℕ) (h : Header) (out1 : List ℕ) (k : ℕ) (S : Ways) (R : Ruling) (w : Way) (n : ℕ) (out : List ℕ) → Ready f h → w ≡ Via n k → w ≡ wayBy S R
-    → length out1 ≡ length out → 2048 ≤ length out → Fits f h out1 k
-transit-fits f h out1 k S R w n out ready v e same roomy =
-    let room = fourteen S R e v in
-    record { place-small = ready-near ready; area-whole = ready .area-whole; hops-left = ready .hops-left; room = omega (arith, ready .short, ready-from ready) }
+      onward-fits : Ready f h → length area ≤ 124 → length out1 ≡ length out → 2048 ≤ length out → Fits area f h out1 at
+      onward-fits ready few same roomy =
+          record {
+            place-small = ready-near ready;
+            area-whole = ready .area-whole;
+            hops-left = ready .hops-left;
+            area-short = few;
+            room = omega (arith, length-link S r);
+          }
 
-module _ (S : Ways) (f : List ℕ) (h : Header) (out : List ℕ) (ready : Ready f h) (well : areaRead (areaOf f h) ≡ WellFormed) (strip : Bool) (flag : strip ≡ (leb 2 (opLength (h .word)) && S .strip)) where
-  abbrev rest : List ℕ
-  rest = restWith (areaBy strip (areaOf f h)) f h
-
+-- how long it is
+module _ {f : List ℕ} {h : Header} (ready : Ready f h) where
   area-words : length (areaOf f h) ≡ 4 * opLength (h .word)
   area-words = length-part f (h .place + 6) (4 * opLength (h .word)) (ready .area-whole)
 
-  area-sent : areaBy strip (areaOf f h) ≡ areaSent S (areaOf f h)
-  unfolding areaSent
-  area-sent =
-      by-test (leb 2 (opLength (h .word)))
-      (λ e. let same : strip ≡ S .strip = flag ∙ (rw e) in rw same)
-      (λ e.
-      let kept : strip ≡ false = flag ∙ (rw e) in
-      let short : stripped (areaOf f h) ≡ areaOf f h = stripped-word (areaOf f h) (omega (arith, area-words, leb-false 2 (opLength (h .word)) e)) in
-      rw kept (by-test (S .strip) (λ t. rw (t, short)) (λ t. rw t)))
+  whole-long : length f - h .place ≡ length (restWith (areaOf f h) f h)
+  whole-long = omega (arith, rest-long f h (areaOf f h), area-words, ready .area-whole)
 
-  forwards : (hop : NextHop) → link S hop ++ rest ≡ forwarded S hop f h
-  unfolding forwarded forwardedRest restWith
-  forwards hop = rw area-sent
+module _ (S : Ways) (r : NextHop) (f : List ℕ) (h : Header) (out : List ℕ) (goes : areaSent S (areaOf f h) ≡ areaOf f h) (ready : Ready f h) (k : ℕ) (links : k ≡ linkSize (r .vlan)) where
+  pub whole-over : (a : Handled) → a ≡ numbersOf (A.dropped 29) → 2048 < k + (length f - h .place) → Done (onward S r f h) a out out
+  whole-over = onward-over S r f h out (areaOf f h) goes k (length f - h .place) links (whole-long ready)
 
-  forwards-short : (end k n : ℕ) (R : Ruling) (w : Way) → end ≡ k + length rest → w ≡ Via n k → w ≡ wayBy S R → end ≤ 2048
-  forwards-short end k n R w ended v e =
-      let o = over S R e v in
-      let long = ap length (forwards (o .hop)) in
-      let whole = length-append (link S (o .hop)) rest in
-      omega (arith, o .long, forwarded-fits S (o .hop) f h (ready .read) (ready .area-whole) well (ready .short))
+  module _ (n : k + (length f - h .place) ≤ 2048) (at : ℕ) (out1 : List ℕ) (long : at ≡ length (link S r)) (linked : out1 ≡ put out 0 (link S r)) where
+    pub whole-short : (end : ℕ) → end ≡ at + length (restWith (areaOf f h) f h) → end ≤ 2048
+    whole-short = ends-short S r f h out (areaOf f h) goes k (length f - h .place) links (whole-long ready) n at out1 long linked
 
-  pub transit-sent : (w : Way) (out1 : List ℕ) (n k end : ℕ) (r : Handled) (out2 : List ℕ)
-      → r ≡ wroteBy 50 end n → w ≡ Via n k → Linked S (onward S h) out w out1 → end ≡ k + length rest → out2 ≡ put out1 k rest → 2048 ≤ length out → Done (transit S f h) r out out2
-  transit-sent w out1 n k end r out2 is v l ended p roomy =
-      sent S (onward S h) out l v 50 rest (λ hop e. rw (forwards hop) (transit-over S f h hop e)) is ended p (omega (arith, forwards-short end k n (onward S h) w ended v (l .0)))
+    pub whole-done : (a : Handled) (end : ℕ) (out2 : List ℕ) → a ≡ wroteBy 50 end (r .neighbour) → end ≡ at + length (restWith (areaOf f h) f h)
+        → out2 ≡ put out1 at (restWith (areaOf f h) f h) → 2048 ≤ length out → Done (onward S r f h) a out out2
+    whole-done = onward-done S r f h out (areaOf f h) goes k (length f - h .place) links (whole-long ready) n at out1 long linked
 
-pub strips-some : (f : List ℕ) (h : Header) (strip flag : Bool) → Ready f h → strip ≡ (leb 2 (opLength (h .word)) && flag) → strip ≡ true → 4 ≤ length (areaOf f h)
-strips-some f h strip flag ready is t =
-    let words : length (areaOf f h) ≡ 4 * opLength (h .word) = length-part f (h .place + 6) (4 * opLength (h .word)) (ready .area-whole) in
+    pub whole-fits : length out1 ≡ length out → 2048 ≤ length out → Fits (areaOf f h) f h out1 at
+    whole-fits = onward-fits S r f h out (areaOf f h) goes k (length f - h .place) links (whole-long ready) n at out1 long linked ready (omega (arith, area-words ready))
+
+pub whole-add : {f : List ℕ} {h : Header} → Ready f h → (r : NextHop) (k : ℕ) → k ≡ linkSize (r .vlan) → k + (length f - h .place) < 18446744073709551616
+whole-add ready r k e = by-test (eqb (r .vlan) 0) (λ t. omega (arith, rw t at e, ready .short)) (λ t. omega (arith, rw t at e, ready .short))
+
+pub ruleset send-whole-laws = (needs, ready, link-room, whole-add, whole-over, whole-short, whole-done, whole-fits)
+
+-- with another area
+module _ (S : Ways) (r : NextHop) (f : List ℕ) (h : Header) (out area : List ℕ) (goes : areaSent S (areaOf f h) ≡ area) (inner k : ℕ) (start : inner ≡ innerStart h) (links : k ≡ linkSize (r .vlan)) where
+  with-long : 6 + length area + (length f - inner) ≡ length (restWith area f h)
+  with-long = omega (arith, rest-long f h area)
+
+  pub with-over : (a : Handled) → a ≡ numbersOf (A.dropped 29) → 2048 < k + (6 + length area + (length f - inner)) → Done (onward S r f h) a out out
+  with-over = onward-over S r f h out area goes k (6 + length area + (length f - inner)) links with-long
+
+  module _ (n : k + (6 + length area + (length f - inner)) ≤ 2048) (at : ℕ) (out1 : List ℕ) (long : at ≡ length (link S r)) (linked : out1 ≡ put out 0 (link S r)) where
+    pub with-short : (end : ℕ) → end ≡ at + length (restWith area f h) → end ≤ 2048
+    with-short = ends-short S r f h out area goes k (6 + length area + (length f - inner)) links with-long n at out1 long linked
+
+    pub with-done : (a : Handled) (end : ℕ) (out2 : List ℕ) → a ≡ wroteBy 50 end (r .neighbour) → end ≡ at + length (restWith area f h)
+        → out2 ≡ put out1 at (restWith area f h) → 2048 ≤ length out → Done (onward S r f h) a out out2
+    with-done = onward-done S r f h out area goes k (6 + length area + (length f - inner)) links with-long n at out1 long linked
+
+    pub with-fits : Ready f h → length area ≤ 124 → length out1 ≡ length out → 2048 ≤ length out → Fits area f h out1 at
+    with-fits = onward-fits S r f h out area goes k (6 + length area + (length f - inner)) links with-long n at out1 long linked
+
+module _ {f : List ℕ} {h : Header} (is : Ready f h) (area : List ℕ) (few : length area ≤ 124) (inner : ℕ) where
+  pub with-size : 6 + length area + (length f - inner) < 18446744073709551616
+  with-size = omega (arith, is .short)
+
+  pub with-sum : (r : NextHop) (k : ℕ) → k ≡ linkSize (r .vlan) → k + (6 + length area + (length f - inner)) < 18446744073709551616
+  with-sum r k e = by-test (eqb (r .vlan) 0) (λ t. omega (arith, rw t at e, is .short)) (λ t. omega (arith, rw t at e, is .short))
+
+pub ruleset send-with-laws = (needs, ready, link-room, with-size, with-sum, with-over, with-short, with-done, with-fits)
+
+-- what is left of an area, stripped aside
+pub aside-room : {f : List ℕ} {h : Header} → Ready f h → (lent : List ℕ) → lent ≡ areaOf f h → 0 + length lent ≤ 124
+aside-room is lent held = rw held (omega (arith, area-words is))
+
+module _ {f : List ℕ} {h : Header} (is : Ready f h) (n : ℕ) (lent : List ℕ) (left : n ≡ length (stripped lent)) (held : lent ≡ areaOf f h) (well : areaRead (areaOf f h) ≡ WellFormed) where
+  kept-within : n ≤ 124
+  kept-within = omega (arith, rw held at left, stripped-shorter (areaOf f h) well, area-words is)
+
+  module _ (aside : List ℕ) (wide : length aside ≡ 124) where
+    pub kept-there : n ≤ length aside
+    kept-there = omega (arith, kept-within)
+
+    pub kept-count : n ≡ length (take n aside)
+    kept-count = sym (length-take-le n aside kept-there)
+
+    pub kept-few : length (take n aside) ≤ 124
+    kept-few = omega (arith, kept-count, kept-within)
+
+pub kept-sent : (S : Ways) (f : List ℕ) (h : Header) (n : ℕ) (aside1 aside lent : List ℕ) → aside1 ≡ put aside 0 (stripped lent) → n ≡ length (stripped lent) → lent ≡ areaOf f h
+    → areaSent S (areaOf f h) ≡ stripped (areaOf f h) → areaSent S (areaOf f h) ≡ take n aside1
+kept-sent S f h n aside1 aside lent wrote left held goes =
+    let is : stripped lent ≡ stripped (areaOf f h) = rw held in
+    let many : n ≡ length (stripped (areaOf f h)) = rw held at left in
+    goes ∙ sym (rw (wrote, is, many) (take-put aside (stripped (areaOf f h))))
+
+pub lent-well : (f : List ℕ) (h : Header) (lent : List ℕ) → lent ≡ areaOf f h → areaRead (areaOf f h) ≡ WellFormed → areaRead lent ≡ WellFormed
+lent-well f h lent held well = rw held well
+
+pub lent-some : (f : List ℕ) (h : Header) (lent : List ℕ) → lent ≡ areaOf f h → 4 ≤ length (areaOf f h) → 4 ≤ length lent
+lent-some f h lent held enough = rw held enough
+
+pub ruleset send-stripped-laws = (needs, ready, area-held, aside-room, kept-there, kept-count, kept-few, kept-sent, lent-well, lent-some)
+
+-- 21, and which area is sent
+module _ (S : Ways) (f : List ℕ) (h : Header) (out : List ℕ) (R : Ruling) (asks : R ≡ S .hop (h .egress)) where
+  pub transit-lost : (a : Handled) → a ≡ numbersOf (A.dropped 21) → R ≡ Absent → Done (transit S f h) a out out
+  transit-lost a is e = done-dropped 21 (transit-none S f h (sym asks ∙ e)) is
+
+  pub transit-sent : (r : NextHop) (a : Handled) (out2 : List ℕ) → Done (onward S r f h) a out out2 → R ≡ Found r → Done (transit S f h) a out out2
+  transit-sent r a out2 d e = rw (transit-over S f h r (sym asks ∙ e)) d
+
+pub strips-some : (f : List ℕ) (h : Header) → Ready f h → (strip flag : Bool) → strip ≡ (leb 2 (opLength (h .word)) && flag) → strip ≡ true → 4 ≤ length (areaOf f h)
+strips-some f h is strip flag so t =
     by-test (leb 2 (opLength (h .word)))
-    (λ e. omega (arith, words, leb-true 2 (opLength (h .word)) e))
-    (λ e. let z : true ≡ false = sym t ∙ is ∙ (rw e) in absurd (true≢false z))
+    (λ e. omega (arith, area-words is, leb-true 2 (opLength (h .word)) e))
+    (λ e. let z : true ≡ false = sym t ∙ so ∙ (rw e) in absurd (true≢false z))
+
+module _ (S : Ways) (f : List ℕ) (h : Header) (ready : Ready f h) (strip : Bool) (flag : strip ≡ (leb 2 (opLength (h .word)) && S .strip)) where
+  pub sends-stripped : strip ≡ true → areaSent S (areaOf f h) ≡ stripped (areaOf f h)
+  unfolding areaSent
+  sends-stripped t =
+      by-test (S .strip) (λ e. rw e) (λ e. let z : true ≡ false = sym t ∙ flag ∙ (rw (e, and-no)) in absurd (true≢false z))
+
+  pub sends-whole : strip ≡ false → areaSent S (areaOf f h) ≡ areaOf f h
+  unfolding areaSent
+  sends-whole t =
+      by-test (leb 2 (opLength (h .word)))
+      (λ e. let off : S .strip ≡ false = sym (sym t ∙ flag ∙ (rw e)) in rw off)
+      (λ e. by-test (S .strip) (λ u. rw (u, stripped-word (areaOf f h) (omega (arith, area-words ready, leb-false 2 (opLength (h .word)) e)))) (λ u. rw u))
 
 module _ (h : Header) (strip : Bool) (n : ℕ) (words : n ≡ opLength (h .word)) where
   pub strips-none : n < 2 → false ≡ (leb 2 (opLength (h .word)) && strip)
@@ -203,28 +271,19 @@ module _ (h : Header) (strip : Bool) (n : ℕ) (words : n ≡ opLength (h .word)
 
 pub ruleset strips-laws = (needs, strips-none, strips-so)
 
-pub transit-short : (end k : ℕ) (strip : Bool) (f : List ℕ) (h : Header) (S : Ways) (R : Ruling) (w : Way) (n : ℕ) → end ≡ k + length (restWith (areaBy strip (areaOf f h)) f h)
-    → Ready f h → w ≡ Via n k → w ≡ wayBy S R
-    → strip ≡ (leb 2 (opLength (h .word)) && S .strip) → areaRead (areaOf f h) ≡ WellFormed → end ≤ 2048
-transit-short end k strip f h S R w n ended ready v e flag well = forwards-short S f h [] ready well strip flag end k n R w ended v e
+pub ruleset transit-laws = (needs, ready, transit-lost, transit-sent, strips-some, sends-stripped, sends-whole)
 
-pub ruleset transit-laws = (needs, ready, transit-lost, transit-fits, strips-some, transit-short, transit-sent)
+-- a reply that was written
+replied : {a : A.Handled} {r : Handled} {answer n via : ℕ} {octets out out1 : List ℕ} → a ≡ A.wrote answer octets via → r ≡ wroteBy answer n via → Replied octets n out out1 → Done a r out out1
+replied e is p = rw e (record { answer = is ∙ rw (p .long); after = p .after })
 
--- a reply behind its link header
-reply : (S : Ways) (h : Header) (own : Own) (out : List ℕ) {w : Way} {out1 : List ℕ} {n k : ℕ} {a : A.Handled} {r : Handled} (answer number code : ℕ) (body : List ℕ) {end : ℕ} {out2 : List ℕ}
-    → w ≡ Via n k → Linked S (back S h) out w out1 → own ≡ ownOf S → 2048 ≤ length out → length body ≤ 530
-    → ((hop : NextHop) → back S h ≡ Found hop → a ≡ A.wrote answer (link S hop ++ replyRest S (h .ingress) number code body) (hop .neighbour))
-    → r ≡ wroteBy answer end n → end ≡ k + (28 + length body) → out2 ≡ put out1 k (replyOctets own (h .ingress) number code ++ body) → Done a r out out2
-unfolding replyRest replyInner
-reply S h own out answer number code body v l owned roomy few e is ended p =
-    let octets : List ℕ = replyOctets own (h .ingress) number code ++ body in
-    let long : length octets ≡ 28 + length body = length-append (replyOctets own (h .ingress) number code) body in
-    sent S (back S h) out l v answer octets (rw owned e) is (rw long ended) p (rw long (omega (arith, fourteen S (back S h) (l .0) v)))
+pub reply-few : {octets : List ℕ} {n : ℕ} {out out1 : List ℕ} → Replied octets n out out1 → n ≤ 2048
+reply-few p = omega (arith, p .few)
+
+pub reply-room : (out : List ℕ) → 2048 ≤ length out → 576 ≤ length out
+reply-room out h = omega arith
 
 -- 25 and 53
-error-few : (f : List ℕ) (h : Header) → length (errorBody f h) ≤ 530
-error-few f h = rw length-take (omega arith)
-
 module _ (S : Ways) (f : List ℕ) (h : Header) (code : ℕ) (inner : List ℕ) (held : inner ≡ innerOf f h) (quiet : Bool) (q : quiet ≡ silenced code inner) (r : Handled) (out : List ℕ) where
   said : {b : Bool} → quiet ≡ b → silenced code (innerOf f h) ≡ b
   said t = sym (rw held at q) ∙ t
@@ -232,54 +291,34 @@ module _ (S : Ways) (f : List ℕ) (h : Header) (code : ℕ) (inner : List ℕ) 
   pub fault-quiet : r ≡ numbersOf (A.dropped 25) → quiet ≡ true → Done (faulted S f h code) r out out
   fault-quiet is t = done-dropped 25 (faulted-silent S f h code (said t)) is
 
-  module _ (t : quiet ≡ false) (w : Way) (out1 : List ℕ) (l : Linked S (back S h) out w out1) where
-    pub fault-lost : r ≡ numbersOf (A.dropped 25) → w ≡ NoWay → Done (faulted S f h code) r out out1
-    fault-lost is v = lost S (back S h) out l 25 v (faulted-none S f h code (said t)) is
+  module _ (t : quiet ≡ false) (R : Ruling) (asks : R ≡ back S h) where
+    pub fault-lost : r ≡ numbersOf (A.dropped 25) → R ≡ Absent → Done (faulted S f h code) r out out
+    fault-lost is e = done-dropped 25 (faulted-none S f h code (said t) (sym asks ∙ e)) is
 
-    pub fault-sent : (own : Own) (n k end : ℕ) (out2 : List ℕ) → r ≡ wroteBy 53 end n → w ≡ Via n k → own ≡ ownOf S → 2048 ≤ length out
-        → end ≡ k + (28 + length (errorBody f h)) → out2 ≡ put out1 k (replyOctets own (h .ingress) 0x001 code ++ errorBody f h) → Done (faulted S f h code) r out out2
-    unfolding errorReply
-    fault-sent own n k end out2 is v owned roomy ended p = reply S h own out 53 0x001 code (errorBody f h) v l owned roomy (error-few f h) (faulted-over S f h code (said t)) is ended p
+    pub fault-sent : (hop : NextHop) → R ≡ Found hop → (n : ℕ) (out1 : List ℕ) → r ≡ wroteBy 53 n (hop .neighbour) → Replied (errorReply S hop f h code) n out out1 → Done (faulted S f h code) r out out1
+    fault-sent hop e n out1 is p = replied (faulted-over S f h code (said t) hop (sym asks ∙ e)) is p
 
-pub fault-short : (end k : ℕ) (S : Ways) (f : List ℕ) (h : Header) (w : Way) (n : ℕ) → end ≡ k + (28 + length (errorBody f h)) → w ≡ Via n k → w ≡ wayBy S (back S h) → end ≤ 2048
-fault-short end k S f h w n ended v e = omega (arith, fourteen S (back S h) e v, error-few f h)
-
--- the room for a reply
-module _ (S : Ways) (f : List ℕ) (h : Header) (out : List ℕ) (roomy : 2048 ≤ length out) (w : Way) (n k : ℕ) (v : w ≡ Via n k) (e : w ≡ wayBy S (back S h)) (out1 : List ℕ) (same : length out1 ≡ length out) where
-  pub fault-room : k + 156 ≤ length out1
-  fault-room = omega (arith, fourteen S (back S h) e v)
-
-  pub echo-room : (body : List ℕ) → body ≡ bodyOf (innerOf f h) → length (bodyOf (innerOf f h)) ≤ 530 → k + 28 + length body ≤ length out1
-  echo-room body held few = rw held (omega (arith, fourteen S (back S h) e v))
-
-pub ruleset faulted-laws = (needs, ready, inner-held, fault-quiet, fault-lost, fault-sent, fault-room, fault-short)
+pub ruleset faulted-laws = (needs, ready, inner-held, reply-room, reply-few, fault-quiet, fault-lost, fault-sent)
 
 -- 28 and 54
 pub echo-enough : (f : List ℕ) (h : Header) (body : List ℕ) → body ≡ bodyOf (innerOf f h) → 18 ≤ length (bodyOf (innerOf f h)) → 18 ≤ length body
 echo-enough f h body held b = rw held b
 
-pub echo-short : (end k : ℕ) (body f : List ℕ) (h : Header) (S : Ways) (w : Way) (n : ℕ) → end ≡ k + (28 + length body) → body ≡ bodyOf (innerOf f h) → w ≡ Via n k
-    → w ≡ wayBy S (back S h) → length (bodyOf (innerOf f h)) ≤ 530 → end ≤ 2048
-echo-short end k body f h S w n ended held v e few = omega (arith, fourteen S (back S h) e v, rw held at ended)
+pub echo-most : (f : List ℕ) (h : Header) (body : List ℕ) → body ≡ bodyOf (innerOf f h) → length (bodyOf (innerOf f h)) ≤ 530 → length body ≤ 530
+echo-most f h body held b = rw held b
 
 module _ (S : Ways) (f : List ℕ) (h : Header) (clock body : List ℕ) (held : body ≡ bodyOf (innerOf f h)) (mode : ℕ) (m : mode ≡ octet body 4) (r : Handled) (out : List ℕ) where
   pub echo-other : r ≡ numbersOf (A.dropped 28) → (mode ≡ 2 → ⊥) → Done (echoed S clock f h) r out out
   echo-other is o = done-dropped 28 (echoed-mode S f h clock (λ e. o (rw held at m ∙ e))) is
 
-  module _ (o : mode ≡ 2) (w : Way) (out1 : List ℕ) (l : Linked S (back S h) out w out1) where
-    pub echo-lost : r ≡ numbersOf (A.dropped 28) → w ≡ NoWay → Done (echoed S clock f h) r out out1
-    echo-lost is v = lost S (back S h) out l 28 v (echoed-none S f h clock (sym (rw held at m) ∙ o)) is
+  module _ (o : mode ≡ 2) (R : Ruling) (asks : R ≡ back S h) where
+    pub echo-lost : r ≡ numbersOf (A.dropped 28) → R ≡ Absent → Done (echoed S clock f h) r out out
+    echo-lost is e = done-dropped 28 (echoed-none S f h clock (sym (rw held at m) ∙ o) (sym asks ∙ e)) is
 
-    pub echo-sent : (own : Own) (n k end : ℕ) (out2 : List ℕ) → r ≡ wroteBy 54 end n → w ≡ Via n k → own ≡ ownOf S → 2048 ≤ length out
-        → length clock ≡ 6 → 18 ≤ length (bodyOf (innerOf f h)) → length (bodyOf (innerOf f h)) ≤ 530
-        → end ≡ k + (28 + length body) → out2 ≡ put out1 k (replyOctets own (h .ingress) 0xFF8 0 ++ echoBody body clock) → Done (echoed S clock f h) r out out2
-    unfolding echoReply
-    echo-sent own n k end out2 is v owned roomy six enough few ended p =
-        let sends : List ℕ = echoBody (bodyOf (innerOf f h)) clock in
-        let long : length sends ≡ length (bodyOf (innerOf f h)) = echo-body-length (bodyOf (innerOf f h)) clock enough six in
-        reply S h own out 54 0xFF8 0 sends v l owned roomy (rw long few) (echoed-over S f h clock (sym (rw held at m) ∙ o)) is (rw (long, ← held) ended) (rw held at p)
+    pub echo-sent : (hop : NextHop) → R ≡ Found hop → (n : ℕ) (out1 : List ℕ) → r ≡ wroteBy 54 n (hop .neighbour) → Replied (echoReply S hop h clock body) n out out1 → Done (echoed S clock f h) r out out1
+    echo-sent hop e n out1 is p = replied (echoed-over S f h clock (sym (rw held at m) ∙ o) hop (sym asks ∙ e)) is (rw held at p)
 
-pub ruleset echoed-laws = (needs, ready, body-held, body-within, echo-enough, echo-other, echo-lost, echo-sent, echo-room, echo-short)
+pub ruleset echoed-laws = (needs, ready, body-held, body-within, reply-room, reply-few, echo-enough, echo-most, echo-other, echo-lost, echo-sent)
 
 -- a task, once the next hop is told: what is left is what the rules say
 module _ (t : Told) (clock f : List ℕ) (h : Header) (task : Task) (out : List ℕ) where
@@ -528,7 +567,7 @@ pub ruleset examine-laws = (needs, examined-clock, examined-room, examined-long,
 
 -- one destination is all that a task asks for
 asks-one : (S : Ways) (clock f : List ℕ) (h : Header) (task : Task) → doneBy S clock f h task ≡ doneBy (onlyFor (askedBy h task) S) clock f h task
-unfolding transit faulted echoed returnPath forwarded forwardedRest areaSent link errorReply echoReply replyRest replyInner
+unfolding transit faulted echoed returnPath forwarded forwardedRest areaSent link errorReply echoReply replyRest replyInner onward
 asks-one S clock f h (Answered a) = refl
 asks-one S clock f h Forward = refl
 asks-one S clock f h (Error code) = refl

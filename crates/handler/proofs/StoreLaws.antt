@@ -158,7 +158,7 @@ module _ (w : List ℕ) (n d i : ℕ) where
           rw there (ap Found e)
 
 pub hop-made : (key value dest : ℕ) → dest ≡ destOf key
-    → _≡_ {A = NextHop} (record { destination = dest; neighbour = value % 65536; mac = value / 65536; serial = key / 65536 % 4294967296 }) (hopOf key value)
+    → _≡_ {A = NextHop} (record { destination = dest; neighbour = value % 65536; mac = value / 65536; serial = key / 65536 % 4294967296; vlan = key % 65536 }) (hopOf key value)
 hop-made key value dest e = rw e
 
 pub ruleset hop-of-laws = (needs, hop-made)

@@ -19,14 +19,12 @@ use Rattle.rules.specs.declared.NextHop.{NextHop}
 use Rattle.rules.specs.declared.Ruling.{Ruling}
 use Rattle.rules.specs.declared.Ruling.the-variants.{Found, Absent}
 use Rattle.rules.proofs.OctetLaws.{put-none}
-use Rattle.rules.proofs.FrameLaws.{length-link}
+use Rattle.rules.proofs.FrameLaws.{length-link, link-most}
 use Rattle.rules.proofs.SettingsLaws.{settings-read}
 use Rattle.handler.specs.declared.judged.Judged.{Judged}
 use Rattle.handler.specs.declared.way.Told.{Told}
-use Rattle.handler.specs.declared.way.Way.{Way}
-use Rattle.handler.specs.declared.way.Way.the-variants.{Via, NoWay}
 use Rattle.handler.specs.declared.way.WayOut.{WayOut}
-use Rattle.handler.specs.Shapes.{Linked, wayBy, linkBy, waysBy, onlyFor, shortBy, WayDone}
+use Rattle.handler.specs.Shapes.{linkSize, waysBy, onlyFor, WayDone}
 use Rattle.handler.specs.Keys.{JudgedBy}
 use Rattle.handler.specs.Store as St
 use Rattle.handler.specs.Store.{storeGood, waysIn, wayOutIn, Whole}
@@ -54,45 +52,25 @@ module _ (t : Told) (out : List ℕ) where
   abbrev asked : W.WayOut
   asked = wayOutBy S 0 (length out)
 
-  pub out-short : (r : WayOut) → r ≡ record { number = shortBy (t .hop); length = 0 } → length out < 14 → WayDone asked r out out
-  out-short r is h = go (t .hop) refl
-    where
-      go : (R : Ruling) → t .hop ≡ R → WayDone asked r out out
-      go Absent e = rw (asked-none S 0 (length out) e) (record { answer = is ∙ ap (λ (x : Ruling). record { number = shortBy x; length = 0 }) e; after = sym (put-none out 0) })
-      go (Found q) e =
-          let short : length out < length (link S q) = omega (arith, length-link S q) in
-          rw (asked-short S 0 (length out) q e short) (record { answer = is ∙ ap (λ (x : Ruling). record { number = shortBy x; length = 0 }) e; after = sym (put-none out 0) })
+  pub out-none : (r : WayOut) → r ≡ record { number = 21; length = 0 } → t .hop ≡ Absent → WayDone asked r out out
+  out-none r is e = rw (asked-none S 0 (length out) e) (record { answer = is; after = sym (put-none out 0) })
 
-  module _ (w : Way) (out1 : List ℕ) (l : Linked S (t .hop) out w out1) (fits : 14 ≤ length out) where
-    linked : {R : Ruling} → t .hop ≡ R → Linked S R out w out1
-    linked e = (l .0 ∙ ap (wayBy S) e, l .1 ∙ ap (λ (x : Ruling). put out 0 (linkBy S x)) e)
+  module _ (q : NextHop) (e : t .hop ≡ Found q) (n : ℕ) (size : n ≡ linkSize (q .vlan)) where
+    pub out-short : (r : WayOut) → r ≡ record { number = 2; length = 0 } → length out < n → WayDone asked r out out
+    out-short r is h =
+        rw (asked-short S 0 (length out) q e (omega (arith, length-link S q))) (record { answer = is; after = sym (put-none out 0) })
 
-    pub out-none : (r : WayOut) → r ≡ record { number = 21; length = 0 } → w ≡ NoWay → WayDone asked r out out1
-    out-none r is v = go (t .hop) refl
-      where
-        go : (R : Ruling) → t .hop ≡ R → WayDone asked r out out1
-        go Absent e = rw (asked-none S 0 (length out) e) (record { answer = is; after = linked e .1 })
-        go (Found q) e = let z : _≡_ {A = ℕ} 0 1 = cc (sym v ∙ linked e .0) in absurd (omega arith)
+    pub out-room : n ≤ length out → linkSize (q .vlan) ≤ length out
+    out-room h = omega arith
 
-    module _ (n k : ℕ) (v : w ≡ Via n k) where
-      pub out-fits : k < 4294967296
-      out-fits = go (t .hop) refl
-        where
-          go : (R : Ruling) → t .hop ≡ R → k < 4294967296
-          go Absent e = let z : _≡_ {A = ℕ} 0 1 = cc (sym v ∙ linked e .0) in absurd (omega arith)
-          go (Found q) e = let long : k ≡ length (link S q) = cc (sym v ∙ linked e .0) in omega (arith, long, length-link S q)
+    pub out-written : n ≤ length out → (k : ℕ) (out1 : List ℕ) → k ≡ length (link S q) → out1 ≡ put out 0 (link S q) → WayDone asked (record { number = 0; length = k }) out out1
+    out-written h k out1 long p =
+        rw (asked-over S 0 (length out) q e (omega (arith, length-link S q))) (record { answer = ap (λ (x : ℕ). record { number = 0; length = x }) long; after = p })
 
-      pub out-written : WayDone asked (record { number = 0; length = k }) out out1
-      out-written = go (t .hop) refl
-        where
-          go : (R : Ruling) → t .hop ≡ R → WayDone asked (record { number = 0; length = k }) out out1
-          go Absent e = let z : _≡_ {A = ℕ} 0 1 = cc (sym v ∙ linked e .0) in absurd (omega arith)
-          go (Found q) e =
-              let long : k ≡ length (link S q) = cc (sym v ∙ linked e .0) in
-              let room : length (link S q) ≤ length out = omega (arith, length-link S q) in
-              rw (asked-over S 0 (length out) q e room) (record { answer = ap (λ (x : ℕ). record { number = 0; length = x }) long; after = linked e .1 })
+pub out-fits : (S : Ways) (q : NextHop) (k : ℕ) → k ≡ length (link S q) → k < 4294967296
+out-fits S q k long = omega (arith, long, link-most S q)
 
-pub ruleset way-out-laws = (needs, out-short, out-none, out-written, out-fits)
+pub ruleset way-out-laws = (needs, out-none, out-short, out-room, out-written, out-fits)
 
 -- and by settings octets or a store, of which it is told
 one-asked : (S : Ways) (d room : ℕ) → wayOutBy (onlyFor d S) 0 room ≡ wayOutBy S d room
@@ -139,12 +117,3 @@ module _ (store : List ℕ) (d : ℕ) (out : List ℕ) {ok : Bool} (is : ok ≡ 
 pub ruleset trill-way-out-laws = (needs, settings-no-way, settings-way)
 
 pub ruleset trill-way-out-prepared-laws = (needs, store-whole, store-no-way, store-way)
-
--- the answer where no header fits, by the record that rules
-pub short-found : (R : Ruling) (r : NextHop) → R ≡ Found r → (a : WayOut) → a ≡ record { number = 2; length = 0 } → a ≡ record { number = shortBy R; length = 0 }
-short-found R r e a is = is ∙ sym (ap (λ (x : Ruling). record { number = shortBy x; length = 0 }) e)
-
-pub short-none : (R : Ruling) → R ≡ Absent → (a : WayOut) → a ≡ record { number = 21; length = 0 } → a ≡ record { number = shortBy R; length = 0 }
-short-none R e a is = is ∙ sym (ap (λ (x : Ruling). record { number = shortBy x; length = 0 }) e)
-
-pub ruleset too-short-laws = (needs, short-found, short-none)

@@ -10,7 +10,7 @@ use Rattle.handler.specs.Store.{rankAt}
 
 -- the two words of a record
 abbrev pub storeKey : NextHop → ℕ
-storeKey r = r .destination * 281474976710656 + r .serial * 65536
+storeKey r = r .destination * 281474976710656 + r .serial * 65536 + r .vlan
 
 abbrev pub storeValue : NextHop → ℕ
 storeValue r = r .mac * 65536 + r .neighbour

@@ -6,7 +6,7 @@ use mathlib.Core.Bool.{Bool, true, false, not, _&&_, _||_}
 use lib.ListN.{length, getD, take}
 use lib.Dec.{ltb, leb, eqb}
 use Rattle.rules.specs.Octets.{if_then_else_}
-use Rattle.rules.specs.Fields.{fieldsFrom}
+use Rattle.rules.specs.Fields.{fieldsFrom, hopSize}
 use Rattle.rules.specs.Settings.{Settings, hopGood, hopOf, hopsMost, stripGood, settingsFrom, settingsOf, settingsRead, waysOf}
 use Rattle.rules.specs.Campus.{known}
 use Rattle.rules.specs.declared.NextHop.{NextHop}
@@ -52,7 +52,7 @@ pub record Kept (keys seen : List ℕ) (n : ℕ) : Type 0 where
 
 -- whether one more record, or field, goes with the n keys met so far
 unfoldable pub hopTaken : List ℕ → ℕ → List ℕ → Bool
-hopTaken keys n v = eqb (length v) 14 && (hopGood (hopOf v) && ltb n hopsMost && not (keyMet (keyOf (hopOf v)) keys))
+hopTaken keys n v = hopSize (length v) && (hopGood (hopOf v) && ltb n hopsMost && not (keyMet (keyOf (hopOf v)) keys))
 
 unfoldable pub flagTaken : ℕ → List ℕ → Bool
 flagTaken tag v = eqb tag 3 && (eqb (length v) 1 && stripGood v)

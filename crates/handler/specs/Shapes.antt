@@ -8,11 +8,11 @@ use lib.Dec.{eqb}
 use Rattle.rules.specs.Octets.{if_then_else_, octet, be16, octets16, octets48, part, put}
 use Rattle.rules.specs.Fields.{Field, field, cut, fieldsFrom}
 use Rattle.rules.specs.Settings.{Ways, newer, hopOf}
-use Rattle.rules.specs.Link.{link, ethertypeTag, ethertypeTrill}
+use Rattle.rules.specs.Link.{ethertypeTag, ethertypeTrill}
 use Rattle.rules.specs.Header.{version, reserved, multi, hopCount, headerWord, readFrame, innerStart, innerOf}
 use Rattle.rules.specs.Handling.{vlan}
 use Rattle.rules.specs.Options as O
-use Rattle.rules.specs.Options.{OptionRead, Taken, Fault, Options, options, fault, some-key, hopByHopCritical, ingressToEgressCritical, keptOptions, octetsOf, stripped}
+use Rattle.rules.specs.Options.{OptionRead, Taken, Fault, Options, options, fault, some-key, hopByHopCritical, ingressToEgressCritical, keptOptions, octetsOf}
 use Rattle.rules.specs.Channel.{allEgressRBridges, ethertypeChannel, ethertypeIsIs}
 use Rattle.rules.specs.Answer as A
 use Rattle.rules.specs.WayOut as W
@@ -25,8 +25,6 @@ use Rattle.handler.specs.declared.Answer.{Answer}
 use Rattle.handler.specs.declared.Routed.{Routed}
 use Rattle.handler.specs.declared.way.Own.{Own}
 use Rattle.handler.specs.declared.way.Told.{Told}
-use Rattle.handler.specs.declared.way.Way.{Way}
-use Rattle.handler.specs.declared.way.Way.the-variants.{Via, NoWay}
 use Rattle.handler.specs.declared.way.WayOut.{WayOut}
 use Rattle.handler.specs.declared.options.Cursor.{Cursor}
 use Rattle.handler.specs.declared.options.AreaRead.{AreaRead}
@@ -74,23 +72,6 @@ unlessWithdrawn (Found r) = if eqb (r .neighbour) 0 then Absent else Found r
 abbrev pub FoldedFrom : {A : Type 0} → (A → Field → A) → A → List ℕ → ℕ → A → Type 0
 FoldedFrom step start s from r = (g : ℕ) → length s ≤ from + g → r ≡ foldl step start (fieldsFrom (suc g) s from)
 
--- the way out to a destination: the neighbour, and the link header written towards it
-abbrev pub wayBy : Ways → Ruling → Way
-wayBy S Absent = NoWay
-wayBy S (Found r) = Via (r .neighbour) (length (link S r))
-
-abbrev pub linkBy : Ways → Ruling → List ℕ
-linkBy S Absent = []
-linkBy S (Found r) = link S r
-
-abbrev pub Linked : Ways → Ruling → List ℕ → Way → List ℕ → Type 0
-Linked S R out w out1 = (w ≡ wayBy S R) × (out1 ≡ put out 0 (linkBy S R))
-
--- the answer where no link header fits
-abbrev pub shortBy : Ruling → ℕ
-shortBy Absent = 21
-shortBy (Found r) = 2
-
 -- the answer of whoever asks for the way out, and the buffer after it
 pub record WayDone (a : W.WayOut) (r : WayOut) (out out′ : List ℕ) : Type 0 where
   pub answer : r ≡ record { number = a .number; length = length (a .octets) }
@@ -128,9 +109,15 @@ abbrev pub keptFrom : Options → List ℕ
 keptFrom (options os) = octetsOf (keptOptions os)
 keptFrom (fault number place) = []
 
--- the octets of a link header, and of a TRILL header
+-- the octets of a link header, without and with a tag, how many they are, and those of a TRILL header
 abbrev pub linkOctets : ℕ → ℕ → List ℕ
 linkOctets to own = octets48 to ++ octets48 own ++ octets16 ethertypeTrill
+
+abbrev pub taggedOctets : ℕ → ℕ → ℕ → List ℕ
+taggedOctets to own vlan = octets48 to ++ octets48 own ++ (octets16 ethertypeTag ++ octets16 vlan) ++ octets16 ethertypeTrill
+
+abbrev pub linkSize : ℕ → ℕ
+linkSize vlan = if eqb vlan 0 then 14 else 18
 
 abbrev pub headerOctets : ℕ → ℕ → ℕ → List ℕ
 headerOctets word egress ingress = octets16 word ++ octets16 egress ++ octets16 ingress
@@ -156,15 +143,13 @@ sentBy w words = headerWord (version w) (reserved w) (multi w) words (hopCount w
 unfoldable pub restWith : List ℕ → List ℕ → Header → List ℕ
 restWith area f h = headerOctets (sentBy (h .word) (length area / 4)) (h .egress) (h .ingress) ++ area ++ innerOf f h
 
-abbrev pub areaBy : Bool → List ℕ → List ℕ
-areaBy strip area = if strip then stripped area else area
-
--- a frame whose area is whole and whose hop count is not 0, and room to forward it from `at` on
-pub record Fits (f : List ℕ) (h : Header) (out : List ℕ) (at : ℕ) : Type 0 where
+-- a frame whose area is whole and whose hop count is not 0, and room to forward it from `at` on with an area as it is sent
+pub record Fits (area f : List ℕ) (h : Header) (out : List ℕ) (at : ℕ) : Type 0 where
   pub place-small : h .place ≤ 18
   pub area-whole : innerStart h ≤ length f
   pub hops-left : 0 < hopCount (h .word)
-  pub room : at + length f ≤ length out + h .place
+  pub area-short : length area ≤ 124
+  pub room : at + length (restWith area f h) ≤ length out
 
 -- an echo body but for its first octet
 abbrev pub timesBy : List ℕ → List ℕ → List ℕ
@@ -187,6 +172,12 @@ pub record Ready (f : List ℕ) (h : Header) : Type 0 where
   pub hops-left : 0 < hopCount (h .word)
   pub area-whole : innerStart h ≤ length f
   pub short : length f ≤ 2048
+
+-- a reply written at the start of a buffer, and its length
+pub record Replied (reply : List ℕ) (n : ℕ) (out out′ : List ℕ) : Type 0 where
+  pub long : n ≡ length reply
+  pub few : n ≤ 576
+  pub after : out′ ≡ put out 0 reply
 
 -- the answer, and the output buffer after it
 pub record Done (a : A.Handled) (r : Handled) (out out′ : List ℕ) : Type 0 where

@@ -26,7 +26,7 @@ nicknameIn w = getD w 0 0
 abbrev pub countIn : List ℕ → ℕ
 countIn w = getD w 3 0
 
--- the i-th record: a key of destination 16 bits, serial 32 and 16 unused, and a value of MAC 48 bits and neighbour 16
+-- the i-th record: a key of destination 16 bits, serial 32 and VLAN 16, and a value of MAC 48 bits and neighbour 16
 abbrev pub keyAt : List ℕ → ℕ → ℕ
 keyAt w i = getD w (4 + 2 * i) 0
 
@@ -45,7 +45,7 @@ destAt w i = destOf (keyAt w i)
 
 abbrev pub hopOf : ℕ → ℕ → NextHop
 hopOf key value =
-    record { destination = destOf key; neighbour = value % 65536; mac = value / 65536; serial = key / 65536 % 4294967296 }
+    record { destination = destOf key; neighbour = value % 65536; mac = value / 65536; serial = key / 65536 % 4294967296; vlan = key % 65536 }
 
 unfoldable pub hopAt : List ℕ → ℕ → NextHop
 hopAt w i = hopOf (keyAt w i) (valueAt w i)

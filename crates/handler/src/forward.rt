@@ -1,15 +1,12 @@
 // A forwarded frame behind its link header: TRILL header with hop count one less and the new Op-Length, area, inner frame.
 use crate::header;
-use crate::options;
 use rules::Header;
 ghost use mathlib.Core.Path.{_≡_};
 ghost use Prim.Native.Nat.{_+_, _<_, _≤_};
 ghost use lib.ListN.{length};
-ghost use mathlib.Core.Bool.{true};
 ghost use Rattle.rules.specs.Octets.{put};
 ghost use Rattle.rules.specs.Header.{hopCount, areaOf};
-ghost use Rattle.rules.specs.Options.{WellFormed, areaRead, stripped};
-ghost use Rattle.handler.specs.Shapes.{headerOctets, sentBy, Fits, restWith, areaBy};
+ghost use Rattle.handler.specs.Shapes.{headerOctets, sentBy, Fits, restWith};
 
 pub fn header_octets(word: u16, egress: u16, ingress: u16) -> [u8; 6]
     ensures { λ r. ⌜ r ≡ headerOctets word egress ingress ⌝ }
@@ -38,24 +35,24 @@ fn sent_word(w: u16, words: u16) -> u16
     )
 }
 
-// Without the options that are stripped.
-fn forward_stripped(f: &[u8], h: Header, out: &mut [u8], at: usize) -> usize
-    requires { ⌜ (Fits (now f) h (now out) at) × (areaRead (areaOf (now f) h) ≡ WellFormed) × (4 ≤ length (areaOf (now f) h)) ⌝ }
-    ensures { λ r. ⌜ (r ≡ at + length (restWith (stripped (areaOf (now (f .entry)) h)) (now (f .entry)) h))
-        × (now (out .exit) ≡ put (now (out .entry)) at (restWith (stripped (areaOf (now (f .entry)) h)) (now (f .entry)) h)) ⌝ }
+// With another area than the one received; from `at` on, and says where it ends.
+pub fn forward_with(area: &[u8], f: &[u8], h: Header, out: &mut [u8], at: usize) -> usize
+    requires { ⌜ Fits (now area) (now f) h (now out) at ⌝ }
+    ensures { λ r. ⌜ (r ≡ at + length (restWith (now (area .entry)) (now (f .entry)) h))
+        × (now (out .exit) ≡ put (now (out .entry)) at (restWith (now (area .entry)) (now (f .entry)) h)) ⌝ }
 {
-    let start = h.place + 6;
-    let inner = header::inner_start(h);
-    let n = options::strip_area(&f[start..inner], out, at + 6);
+    let n = area.len();
     let head = header_octets(sent_word(h.word, (n / 4) as u16), h.egress, h.ingress);
     octets::copy(out, at, &head);
+    octets::copy(out, at + 6, area);
+    let inner = header::inner_start(h);
     octets::copy(out, at + 6 + n, &f[inner..]);
     at + 6 + n + (f.len() - inner)
 }
 
-// Area and inner frame in one.
-fn forward_whole(f: &[u8], h: Header, out: &mut [u8], at: usize) -> usize
-    requires { ⌜ Fits (now f) h (now out) at ⌝ }
+// Area and inner frame as they are, in one.
+pub fn forward_whole(f: &[u8], h: Header, out: &mut [u8], at: usize) -> usize
+    requires { ⌜ Fits (areaOf (now f) h) (now f) h (now out) at ⌝ }
     ensures { λ r. ⌜ (r ≡ at + length (restWith (areaOf (now (f .entry)) h) (now (f .entry)) h))
         × (now (out .exit) ≡ put (now (out .entry)) at (restWith (areaOf (now (f .entry)) h) (now (f .entry)) h)) ⌝ }
 {
@@ -68,16 +65,4 @@ fn forward_whole(f: &[u8], h: Header, out: &mut [u8], at: usize) -> usize
     octets::copy(out, at, &head);
     octets::copy(out, at + 6, &f[start..]);
     at + 6 + (f.len() - start)
-}
-
-// Writes the frame from `at` on and says where it ends.
-pub fn forward_rest(f: &[u8], h: Header, strip: bool, out: &mut [u8], at: usize) -> usize
-    requires { ⌜ (Fits (now f) h (now out) at) × (areaRead (areaOf (now f) h) ≡ WellFormed) × (strip ≡ true → 4 ≤ length (areaOf (now f) h)) ⌝ }
-    ensures { λ r. ⌜ (r ≡ at + length (restWith (areaBy strip (areaOf (now (f .entry)) h)) (now (f .entry)) h))
-        × (now (out .exit) ≡ put (now (out .entry)) at (restWith (areaBy strip (areaOf (now (f .entry)) h)) (now (f .entry)) h)) ⌝ }
-{
-    if strip {
-        return forward_stripped(f, h, out, at);
-    }
-    forward_whole(f, h, out, at)
 }

@@ -10,17 +10,18 @@ use crate::reply;
 use crate::way;
 use crate::way::Own;
 use crate::way::Told;
-use crate::way::Way;
 use rules::ChannelRead;
 use rules::FrameRead;
 use rules::Header;
+use rules::NextHop;
+use rules::Ruling;
 ghost use mathlib.Core.Path.{_≡_};
 ghost use mathlib.Core.Bool.{_&&_};
 ghost use Prim.Native.Nat.{_≤_};
 ghost use lib.ListN.{length};
 ghost use lib.Dec.{leb};
 ghost use Rattle.rules.specs.Header.{opLength, readFrame, areaOf, innerOf};
-ghost use Rattle.rules.specs.Options.{WellFormed, areaRead};
+ghost use Rattle.rules.specs.Options.{WellFormed, areaRead, areaSent, stripped};
 ghost use Rattle.rules.specs.Channel.{bodyOf, channelRead};
 ghost use Rattle.rules.specs.Handling as Rules;
 ghost use Rattle.rules.specs.declared.FrameRead.the-variants.{Trill};
@@ -196,16 +197,61 @@ pub fn asked(e: Examined) -> u16
     }
 }
 
-// 21 and 50.
+// 21, 29 and 50.
 fn transit(t: Told, f: &[u8], h: Header, out: &mut [u8]) -> Handled
     requires { ⌜ (areaRead (areaOf (now f) h) ≡ WellFormed) × Ready (now f) h × (2048 ≤ length (now out)) ⌝ }
     ensures { λ r. ⌜ Done (Rules.transit (waysBy t) (now (f .entry)) h) r (now (out .entry)) (now (out .exit)) ⌝ }
 {
-    let Way::Via { neighbour, length } = way::write_link(t, out) else {
+    let hop = t.hop;
+    let Ruling::Found(r) = hop else {
         return answers::dropped(21);
     };
-    let end = forward::forward_rest(f, h, strips(t.strip, h), out, length);
-    answers::wrote(50, end, neighbour)
+    if strips(t.strip, h) {
+        return send_stripped(t, r, f, h, out);
+    }
+    send_whole(t, r, f, h, out)
+}
+
+// 29 and 50, with the area as it is.
+fn send_whole(t: Told, r: NextHop, f: &[u8], h: Header, out: &mut [u8]) -> Handled
+    requires { ⌜ (areaSent (waysBy t) (areaOf (now f) h) ≡ areaOf (now f) h) × Ready (now f) h × (2048 ≤ length (now out)) ⌝ }
+    ensures { λ a. ⌜ Done (Rules.onward (waysBy t) r (now (f .entry)) h) a (now (out .entry)) (now (out .exit)) ⌝ }
+{
+    let size = f.len() - h.place;
+    if 2048 < way::link_length(r.vlan) + size {
+        return answers::dropped(29);
+    }
+    let at = way::write_link(t, r, out);
+    let end = forward::forward_whole(f, h, out, at);
+    answers::wrote(50, end, r.neighbour)
+}
+
+// The same with another area than the one received.
+fn send_with(t: Told, r: NextHop, area: &[u8], f: &[u8], h: Header, out: &mut [u8]) -> Handled
+    requires { ⌜ (areaSent (waysBy t) (areaOf (now f) h) ≡ now area) × (length (now area) ≤ 124) × Ready (now f) h × (2048 ≤ length (now out)) ⌝ }
+    ensures { λ a. ⌜ Done (Rules.onward (waysBy t) r (now (f .entry)) h) a (now (out .entry)) (now (out .exit)) ⌝ }
+{
+    let inner = header::inner_start(h);
+    let size = 6 + area.len() + (f.len() - inner);
+    if 2048 < way::link_length(r.vlan) + size {
+        return answers::dropped(29);
+    }
+    let at = way::write_link(t, r, out);
+    let end = forward::forward_with(area, f, h, out, at);
+    answers::wrote(50, end, r.neighbour)
+}
+
+// Stripped aside: 29 looks at how long the frame is then, and writes nothing.
+fn send_stripped(t: Told, r: NextHop, f: &[u8], h: Header, out: &mut [u8]) -> Handled
+    requires { ⌜ (areaSent (waysBy t) (areaOf (now f) h) ≡ stripped (areaOf (now f) h)) × (4 ≤ length (areaOf (now f) h))
+        × (areaRead (areaOf (now f) h) ≡ WellFormed) × Ready (now f) h × (2048 ≤ length (now out)) ⌝ }
+    ensures { λ a. ⌜ Done (Rules.onward (waysBy t) r (now (f .entry)) h) a (now (out .entry)) (now (out .exit)) ⌝ }
+{
+    let mut kept = [0u8; 124];
+    let start = h.place + 6;
+    let inner = header::inner_start(h);
+    let n = options::strip_area(&f[start..inner], &mut kept, 0);
+    send_with(t, r, &kept[..n], f, h, out)
 }
 
 // Whether anything can be stripped: only where the area has an option.
@@ -227,12 +273,11 @@ fn faulted(t: Told, f: &[u8], h: Header, code: u8, out: &mut [u8]) -> Handled
     if channel::silenced(code, &f[start..]) {
         return answers::dropped(25);
     }
-    let Way::Via { neighbour, length } = way::write_return(t, h.ingress, out) else {
+    let back = way::return_path(t, h.ingress);
+    let Ruling::Found(r) = back else {
         return answers::dropped(25);
     };
-    let own = t.own;
-    let end = reply::write_error(own, f, h, code, out, length);
-    answers::wrote(53, end, neighbour)
+    answers::wrote(53, reply::error_reply(t, r, f, h, code, out), r.neighbour)
 }
 
 // 54 and 28.
@@ -245,12 +290,15 @@ fn echoed(t: Told, clock: &[u8], f: &[u8], h: Header, out: &mut [u8]) -> Handled
     if octets::octet(body, 4) != 2 {
         return answers::dropped(28);
     }
-    let Way::Via { neighbour, length } = way::write_return(t, h.ingress, out) else {
+    let back = way::return_path(t, h.ingress);
+    let Ruling::Found(r) = back else {
         return answers::dropped(28);
     };
-    let own = t.own;
-    let end = reply::write_echo(own, h, clock, body, out, length);
-    answers::wrote(54, end, neighbour)
+    answers::wrote(
+        54,
+        reply::echo_reply(t, r, h, clock, body, out),
+        r.neighbour,
+    )
 }
 
 // What is done with a frame, once the next hop is told.

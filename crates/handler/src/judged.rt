@@ -99,7 +99,7 @@ fn admit(keys: &mut [u64], seen: &mut [u8], n: usize, v: &[u8]) -> usize
     requires { ⌜ Kept (now keys) (now seen) n ⌝ }
     ensures { λ r. ⌜ Taking (hopTaken (take n (now (keys .entry))) n (now (v .entry))) (withKey (take n (now (keys .entry))) (now (v .entry))) r (now (keys .exit)) (now (seen .exit)) ⌝ }
 {
-    if v.len() != 14 {
+    if !octets::hop_size(v.len()) {
         return 65;
     }
     if !octets::hop_good(v) {
@@ -140,7 +140,6 @@ pub struct Scan {
     pub best: Ruling,
 }
 
-// A good record has 17 octets and a good flag 4: steps that do not wait for the length read.
 fn scan_from(s: &[u8], from: usize, d: u16) -> Scan
     requires { ⌜ from ≤ length (now s) ⌝ }
     ensures { λ r. ⌜ Scanned (now (s .entry)) from d r ⌝ }
@@ -167,17 +166,17 @@ fn scan_from(s: &[u8], from: usize, d: u16) -> Scan
                 return bad_scan();
             }
             if octets::be16(v, 0) != d {
-                at += 17;
+                at = next;
             } else {
                 best = settings::newer(d, best, v);
-                at += 17;
+                at = next;
             }
         } else {
             if !flag_good(tag, v) {
                 return bad_scan();
             }
             strip = octets::octet(v, 0) != 0;
-            at += 4;
+            at = next;
         }
     }
     Scan {

@@ -73,7 +73,7 @@ fn put_at(w: &mut [u64], n: usize, key: u64, value: u64, p: usize)
 fn key_of(v: &[u8]) -> u64
     ensures { λ r. ⌜ r ≡ storeKey (S.hopOf (now (v .entry))) ⌝ }
 {
-    judged::key_of(v) << 16
+    judged::key_of(v) << 16 | octets::be16(v, 14) as u64
 }
 
 fn value_of(v: &[u8]) -> u64
@@ -87,7 +87,7 @@ fn admit(w: &mut [u64], v: &[u8]) -> bool
     requires { ⌜ Roomy (now w) ⌝ }
     ensures { λ r. ⌜ Takes (now (w .entry)) (field 2 (now (v .entry))) r (now (w .exit)) ⌝ }
 {
-    if v.len() != 14 {
+    if !octets::hop_size(v.len()) {
         return false;
     }
     if !octets::hop_good(v) {

@@ -1,13 +1,16 @@
-// The two replies behind their link header.
+// The two replies.
+use crate::way;
 use crate::way::Own;
+use crate::way::Told;
 use rules::Header;
+use rules::NextHop;
 ghost use mathlib.Core.Path.{_≡_};
 ghost use Prim.Native.Nat.{_+_, _%_, _≤_};
 ghost use mathlib.Core.List.{_++_};
 ghost use lib.ListN.{length};
 ghost use Rattle.rules.specs.Octets.{put};
-ghost use Rattle.rules.specs.Channel.{errorBody, echoBody};
-ghost use Rattle.handler.specs.Shapes.{replyOctets, timesBy};
+ghost use Rattle.rules.specs.Channel.{errorBody, echoBody, errorReply, echoReply};
+ghost use Rattle.handler.specs.Shapes.{replyOctets, timesBy, waysBy, Ready, Replied};
 
 // From the first TRILL word to the flags and ERR word.
 fn reply_octets(own: Own, ingress: u16, protocol: u16, code: u8) -> [u8; 28]
@@ -59,8 +62,8 @@ fn cited(f: &[u8], h: Header) -> &[u8]
     &f[start..end]
 }
 
-// Writes an error reply from `at` on and says where it ends.
-pub fn write_error(own: Own, f: &[u8], h: Header, code: u8, out: &mut [u8], at: usize) -> usize
+// An error reply from `at` on, behind its link header; says where it ends.
+fn write_error(own: Own, f: &[u8], h: Header, code: u8, out: &mut [u8], at: usize) -> usize
     requires { ⌜ (14 ≤ h .place) × (h .place ≤ length (now f)) × (at + 156 ≤ length (now out)) ⌝ }
     ensures { λ r. ⌜ (r ≡ at + (28 + length (errorBody (now (f .entry)) h)))
         × (now (out .exit) ≡ put (now (out .entry)) at (replyOctets own (h .ingress) 0x001 code ++ errorBody (now (f .entry)) h)) ⌝ }
@@ -89,15 +92,8 @@ fn write_times(body: &[u8], clock: &[u8], out: &mut [u8], at: usize)
     octets::copy(out, at + 17, &body[18..]);
 }
 
-// Writes an echo reply from `at` on and says where it ends.
-pub fn write_echo(
-    own: Own,
-    h: Header,
-    clock: &[u8],
-    body: &[u8],
-    out: &mut [u8],
-    at: usize,
-) -> usize
+// An echo reply from `at` on, behind its link header; says where it ends.
+fn write_echo(own: Own, h: Header, clock: &[u8], body: &[u8], out: &mut [u8], at: usize) -> usize
     requires { ⌜ (18 ≤ length (now body)) × (length (now clock) ≡ 6) × (at + 28 + length (now body) ≤ length (now out)) ⌝ }
     ensures { λ r. ⌜ (r ≡ at + (28 + length (now (body .entry))))
         × (now (out .exit) ≡ put (now (out .entry)) at (replyOctets own (h .ingress) 0xFF8 0 ++ echoBody (now (body .entry)) (now (clock .entry)))) ⌝ }
@@ -108,4 +104,31 @@ pub fn write_echo(
     octets::copy(out, at + 28, &first);
     write_times(body, clock, out, at + 29);
     at + 28 + body.len()
+}
+
+// Writes an error reply towards a next hop and says how long it is.
+pub fn error_reply(t: Told, r: NextHop, f: &[u8], h: Header, code: u8, out: &mut [u8]) -> usize
+    requires { ⌜ Ready (now f) h × (576 ≤ length (now out)) ⌝ }
+    ensures { λ n. ⌜ Replied (errorReply (waysBy t) r (now (f .entry)) h code) n (now (out .entry)) (now (out .exit)) ⌝ }
+{
+    let at = way::write_link(t, r, out);
+    let own = t.own;
+    write_error(own, f, h, code, out, at)
+}
+
+// Writes an echo reply towards a next hop and says how long it is.
+pub fn echo_reply(
+    t: Told,
+    r: NextHop,
+    h: Header,
+    clock: &[u8],
+    body: &[u8],
+    out: &mut [u8],
+) -> usize
+    requires { ⌜ (18 ≤ length (now body)) × (length (now body) ≤ 530) × (length (now clock) ≡ 6) × (576 ≤ length (now out)) ⌝ }
+    ensures { λ n. ⌜ Replied (echoReply (waysBy t) r h (now (clock .entry)) (now (body .entry))) n (now (out .entry)) (now (out .exit)) ⌝ }
+{
+    let at = way::write_link(t, r, out);
+    let own = t.own;
+    write_echo(own, h, clock, body, out, at)
 }

@@ -129,6 +129,7 @@ fn hop_of(key: u64, value: u64) -> NextHop
         neighbour: (value % 65536) as u16,
         mac: value >> 16,
         serial: ((key >> 16) % 4294967296) as u32,
+        vlan: (key % 65536) as u16,
     }
 }
 

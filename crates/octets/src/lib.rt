@@ -7,6 +7,7 @@ pub use link::read_frame;
 use rules::FieldRead;
 pub use values::hop_good;
 pub use values::hop_of;
+pub use values::hop_size;
 pub use values::switch_good;
 ghost use mathlib.Core.Path.{_≡_};
 ghost use Prim.Native.Nat.{_*_, _+_, _/_, _%_, _≤_};

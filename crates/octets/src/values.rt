@@ -3,6 +3,7 @@ use rules::NextHop;
 ghost use mathlib.Core.Path.{_≡_};
 ghost use Prim.Native.Nat.{_≤_};
 ghost use Rattle.rules.specs.Octets as O;
+ghost use Rattle.rules.specs.Fields as F;
 ghost use Rattle.rules.specs.Settings as S;
 
 // 0x0001 to 0xFFBF.
@@ -39,7 +40,17 @@ pub fn switch_good(v: &[u8]) -> bool
     mac_good(v, 2)
 }
 
-// A neighbour is a valid nickname, or 0 for a withdrawal.
+// Whether a record may have this length: T-01, with a VLAN or without.
+pub fn hop_size(size: usize) -> bool
+    ensures { λ r. ⌜ r ≡ F.hopSize size ⌝ }
+{
+    if size == 14 {
+        return true;
+    }
+    size == 16
+}
+
+// A neighbour is a valid nickname, or 0 for a withdrawal; a VLAN is 1 to 4,094, or 0 for none.
 pub fn hop_good(v: &[u8]) -> bool
     ensures { λ r. ⌜ r ≡ S.hopGood (S.hopOf (now (v .entry))) ⌝ }
 {
@@ -49,7 +60,10 @@ pub fn hop_good(v: &[u8]) -> bool
     if !mac_good(v, 4) {
         return false;
     }
-    crate::be16(v, 2) <= 0xFFBF
+    if 0xFFBF < crate::be16(v, 2) {
+        return false;
+    }
+    crate::be16(v, 14) <= 4094
 }
 
 pub fn hop_of(v: &[u8]) -> NextHop
@@ -60,5 +74,6 @@ pub fn hop_of(v: &[u8]) -> NextHop
         neighbour: crate::be16(v, 2),
         mac: crate::be48(v, 4),
         serial: crate::be32(v, 10),
+        vlan: crate::be16(v, 14),
     }
 }

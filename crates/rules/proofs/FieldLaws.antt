@@ -1,15 +1,16 @@
 -- Laws of fields: one for each outcome of reading a field, what is known of a field that was taken, the fields from a place on by what
--- stands there, and that more fuel changes none of them. By the tests, and by induction on the fuel. Assumes nothing.
+-- stands there, that more fuel changes none of them, and the lengths that tags have. By the tests, and by induction on the fuel. Assumes nothing.
 use mathlib.Core.Path.{_≡_, refl, sym, ap, _∙_}
 use mathlib.Core.List.{List, [], _∷_}
 use mathlib.Core.Bool.{Bool, true, false, cond}
 use Prim.Native.Nat.{ℕ, zero, suc, _+_, _<_, _≤_}
 use native.Mathlib.Omega.{arith}
-use borrow.Author.Tests.{lt-ltb, le-ltb, ltb-true, ltb-false}
-use lib.Dec.{ltb}
+use borrow.Author.Needs.{needs}
+use borrow.Author.Tests.{lt-ltb, le-ltb, ltb-true, ltb-false, ne-eqb, lt-leb, le-leb}
+use lib.Dec.{ltb, leb, eqb}
 use lib.ListN.{length}
 use Rattle.rules.specs.Octets.{octet, be16, part}
-use Rattle.rules.specs.Fields.{Field, field, cut, fieldAt, fieldsFrom, fieldsAt}
+use Rattle.rules.specs.Fields.{Field, field, cut, fieldAt, fieldsFrom, fieldsAt, hopSize, lengthGood}
 use Rattle.rules.specs.declared.FieldRead.{FieldRead}
 use Rattle.rules.specs.declared.FieldRead.the-variants.{Taken, Cut}
 use Rattle.rules.proofs.TestLaws.{by-test}
@@ -100,3 +101,37 @@ module _ (s : List ℕ) where
     fields-at-on tag size next h e =
         let i = field-read s at tag size next e in
         sym (fields-whole at (suc (length s)) (omega arith)) ∙ fields-on (suc (length s)) s at tag size next h e
+
+-- the length that a tag has, by tag
+module _ (tag size : ℕ) where
+  pub length-switch : tag ≡ 1 → eqb size 8 ≡ lengthGood tag size
+  unfolding lengthGood
+  length-switch e = rw e
+
+  pub length-hop : (ok : Bool) → ok ≡ hopSize size → tag ≡ 2 → ok ≡ lengthGood tag size
+  unfolding lengthGood
+  length-hop ok is e = rw e is
+
+  pub length-flag : tag ≡ 3 → eqb size 1 ≡ lengthGood tag size
+  unfolding lengthGood
+  length-flag e = rw e
+
+  pub length-clock : tag ≡ 4 → eqb size 6 ≡ lengthGood tag size
+  unfolding lengthGood
+  length-clock e = rw e
+
+  module _ (one : tag ≡ 1 → ⊥) (two : tag ≡ 2 → ⊥) (three : tag ≡ 3 → ⊥) (four : tag ≡ 4 → ⊥) where
+    pub length-unknown : (tag ≡ 5 → ⊥) → false ≡ lengthGood tag size
+    unfolding lengthGood
+    length-unknown n = rw (ne-eqb tag 1 one, ne-eqb tag 2 two, ne-eqb tag 3 three, ne-eqb tag 4 four, ne-eqb tag 5 n)
+
+  module _ (five : tag ≡ 5) where
+    pub length-short : size < 2 → false ≡ lengthGood tag size
+    unfolding lengthGood
+    length-short h = rw (five, lt-leb 2 size h)
+
+    pub length-frame : 2 ≤ size → leb size 2050 ≡ lengthGood tag size
+    unfolding lengthGood
+    length-frame h = rw (five, le-leb 2 size h)
+
+pub ruleset length-good-laws = (needs, length-switch, length-hop, length-flag, length-clock, length-unknown, length-short, length-frame)

@@ -13,7 +13,7 @@ use lib.ListN.{length, drop, length-append}
 use lib.Seq.{take-at, drop-at, drop-drop, drop-append-add}
 use Rattle.rules.specs.Octets.{be16, be48, octets16}
 use Rattle.rules.specs.Settings.{Ways}
-use Rattle.rules.specs.Link.{linkLength, linkEthertype, link, ethertypeTag, ethertypeTrill}
+use Rattle.rules.specs.Link.{linkLength, linkEthertype, outerTag, link, ethertypeTag, ethertypeTrill}
 use Rattle.rules.specs.Header.{version, reserved, multi, opLength, hopCount, headerWord, readFrame, innerStart, areaOf, innerOf, headerRefusal}
 use Rattle.rules.specs.Options.{WellFormed, areaRead, areaSent}
 use Rattle.rules.specs.Handling.{forwardedRest}
@@ -57,12 +57,15 @@ pub record IsLink (l : List ℕ) : Type 0 where
   pub trill : linkEthertype l ≡ ethertypeTrill
 
 pub link-written : (S : Ways) (r : NextHop) → IsLink (link S r)
-unfolding link linkLength
-link-written S r = record { long = refl; trill = refl }
+unfolding link outerTag linkLength
+link-written S r = by-test (eqb (r .vlan) 0) (λ e. rw e (record { long = refl; trill = refl })) (λ e. rw e (record { long = refl; trill = refl }))
 
-pub length-link : (S : Ways) (r : NextHop) → length (link S r) ≡ 14
-unfolding link
-length-link S r = refl
+pub length-link : (S : Ways) (r : NextHop) → length (link S r) ≡ cond (eqb (r .vlan) 0) 14 18
+unfolding link outerTag
+length-link S r = by-test (eqb (r .vlan) 0) (λ e. rw e refl) (λ e. rw e refl)
+
+pub link-most : (S : Ways) (r : NextHop) → length (link S r) ≤ 18
+link-most S r = omega (arith, link-written S r .long, link-length (link S r))
 
 module _ (l t : List ℕ) (is : IsLink l) where
   pub link-kept : linkLength (l ++ t) ≡ linkLength l

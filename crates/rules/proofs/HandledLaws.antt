@@ -1,6 +1,6 @@
 -- How a handling came out, for any frame: 50 with what was forwarded, 53 or 54 with the reply, or another number and nothing written; so every
 -- answer's number is under 64 and it writes at most 2,048 octets. By the tests in their order, and by lengths. Assumes nothing.
-use mathlib.Core.Path.{_≡_, refl, ap}
+use mathlib.Core.Path.{_≡_, refl, ap, _∙_}
 use mathlib.Core.List.{List}
 use mathlib.Core.Bool.{Bool, true, false, not, _&&_, _||_, cond}
 use mathlib.Core.Option.{Option, none, some}
@@ -27,9 +27,9 @@ use Rattle.rules.specs.declared.ChannelRead.{ChannelRead}
 use Rattle.rules.specs.declared.ChannelRead.the-variants.{Fault, BadErr, ErrorHeard, BadEcho, EchoHeard, EchoRequest}
 use Rattle.rules.proofs.TestLaws.{by-test}
 use Rattle.rules.proofs.OctetLaws.{length-part}
-use Rattle.rules.proofs.FrameLaws.{frame-read, header-passed, sent-shorter}
+use Rattle.rules.proofs.FrameLaws.{link-most}
 use Rattle.rules.proofs.OptionLaws.{area-number}
-use Rattle.rules.proofs.HandlingLaws.{transit-none, transit-over, faulted-silent, faulted-none, faulted-over, echoed-mode, echoed-none, echoed-over, inner-short, inner-up, inner-channel, inner-any, inner-delivered, inner-untagged, routed-faulty, routed-stopped, routed-egress, routed-transit, handling-unread, unread-small, handling-routed, handling-refused, header-refused-small, length-forwarded, length-error, length-echo, echo-ranged, channel-echo, clock-bad, room-short, frame-long, frame-handled, settings-bad, settings-good}
+use Rattle.rules.proofs.HandlingLaws.{transit-none, transit-over, onward-long, onward-sent, faulted-silent, faulted-none, faulted-over, echoed-mode, echoed-none, echoed-over, inner-short, inner-up, inner-channel, inner-any, inner-delivered, inner-untagged, routed-faulty, routed-stopped, routed-egress, routed-transit, handling-unread, unread-small, handling-routed, handling-refused, header-refused-small, length-forwarded, length-error, length-echo, echo-ranged, channel-echo, clock-bad, room-short, frame-long, frame-handled, settings-bad, settings-good}
 
 -- an answer that writes nothing, and after which no run goes on
 pub record Final (a : Handled) : Type 0 where
@@ -48,7 +48,7 @@ pub record Cleared (S : Ways) (f : List ℕ) (h : Header) (egress : Bool) : Type
 
 pub data How (S : Ways) (clock f : List ℕ) (a : Handled) : Type 0 where
   ends : Final a → How S clock f a
-  forwards : (h : Header) (r : NextHop) → Cleared S f h false → S .hop (h .egress) ≡ Found r → a ≡ wrote 50 (forwarded S r f h) (r .neighbour) → How S clock f a
+  forwards : (h : Header) (r : NextHop) → Cleared S f h false → S .hop (h .egress) ≡ Found r → length (forwarded S r f h) ≤ frameMost → a ≡ wrote 50 (forwarded S r f h) (r .neighbour) → How S clock f a
   faults : (h : Header) (r : NextHop) (code : ℕ) → Cleared S f h true → returnPath S (h .ingress) ≡ Found r → channelRead (innerOf f h) ≡ Fault code
       → a ≡ wrote 53 (errorReply S r f h code) (r .neighbour) → How S clock f a
   echoes : (h : Header) (r : NextHop) → Cleared S f h true → returnPath S (h .ingress) ≡ Found r → channelRead (innerOf f h) ≡ EchoRequest
@@ -91,7 +91,10 @@ module _ (S : Ways) (clock f : List ℕ) (h : Header) where
     where
       go : (w : Ruling) → S .hop (h .egress) ≡ w → How S clock f (transit S f h)
       go Absent e = rw (transit-none S f h e) (ends (omega arith))
-      go (Found r) e = forwards h r t e (transit-over S f h r e)
+      go (Found r) e =
+          by-test (ltb frameMost (length (forwarded S r f h)))
+          (λ n. rw (transit-over S f h r e, onward-long S f h r (ltb-true frameMost _ n)) (ends (omega arith)))
+          (λ n. forwards h r t e (ltb-false frameMost _ n) (transit-over S f h r e ∙ onward-sent S f h r (ltb-false frameMost _ n)))
 
   module _ (t : Cleared S f h true) where
     how-faulted : (code : ℕ) → channelRead (innerOf f h) ≡ Fault code → How S clock f (faulted S f h code)
@@ -175,22 +178,13 @@ pub record Bounded (a : Handled) : Type 0 where
   pub number-small : a .number < 64
   pub fits : length (a .octets) ≤ frameMost
 
--- what is forwarded is no longer than what was received
-pub forwarded-fits : (S : Ways) (r : NextHop) (f : List ℕ) (h : Header) → readFrame f ≡ Trill h → innerStart h ≤ length f → areaRead (areaOf f h) ≡ WellFormed → length f ≤ frameMost
-    → length (forwarded S r f h) ≤ frameMost
-forwarded-fits S r f h read whole well short =
-    let n = length-part f (h .place + 6) (4 * opLength (h .word)) whole in
-    let i : length (innerOf f h) ≡ length f - innerStart h = length-drop (innerStart h) f in
-    rw (length-forwarded, i) (omega (arith, n, sent-shorter S (areaOf f h) well, whole, frame-read f h read .from))
-
 how-bounded : (S : Ways) (clock f : List ℕ) (a : Handled) → length clock ≡ 6 → length f ≤ frameMost → How S clock f a → Bounded a
 how-bounded S clock f a six short (ends n) = record { number-small = n .small; fits = omega (arith, n .nothing) }
-how-bounded S clock f a six short (forwards h r t found e) =
-    rw e (record { number-small = omega arith; fits = forwarded-fits S r f h (t .read) (header-passed S f h (t .unrefused) .area-whole) (t .well) short })
+how-bounded S clock f a six short (forwards h r t found fits e) = rw e (record { number-small = omega arith; fits = fits })
 how-bounded S clock f a six short (faults h r code t found c e) = rw e (record { number-small = omega arith; fits = omega (arith, length-error S r f h code) })
 how-bounded S clock f a six short (echoes h r t found c e) =
     let ranged = echo-ranged (bodyOf (innerOf f h)) (channel-echo (innerOf f h) c) in
-    rw e (record { number-small = omega arith; fits = omega (arith, length-echo S r f h clock (bodyOf (innerOf f h)) six (ranged .0), ranged .1) })
+    rw e (record { number-small = omega arith; fits = omega (arith, length-echo S r f h clock (bodyOf (innerOf f h)) six (ranged .0), ranged .1, link-most S r) })
 
 pub handling-bounded : (S : Ways) (clock f : List ℕ) → length clock ≡ 6 → length f ≤ frameMost → Bounded (handling S clock f)
 handling-bounded S clock f six short = how-bounded S clock f (handling S clock f) six short (how S clock f)

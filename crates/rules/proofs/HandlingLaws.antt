@@ -16,7 +16,7 @@ use Rattle.rules.specs.Header.{version, multi, hopCount, anyRBridge, rea
 use Rattle.rules.specs.Options.{WellFormed, Faulty, areaRead, areaStops, areaSent}
 use Rattle.rules.specs.Answer.{dropped, droppedAt, wrote, delivered}
 use Rattle.rules.specs.Channel.{ethertypeChannel, ethertypeIsIs, protocolError, protocolEcho, innerEthertype, chv, protocol, na, err, bodyOf, replyMode, echoRead, channelRead, silenced, returnPath, errorReply, echoReply}
-use Rattle.rules.specs.Handling.{forwardedRest, forwarded, transit, faulted, echoed, channelled, vlan, toAllEgressRBridges, decapsulated, routed, handling, frameMost, handledWith, handled}
+use Rattle.rules.specs.Handling.{forwardedRest, forwarded, onward, transit, faulted, echoed, channelled, vlan, toAllEgressRBridges, decapsulated, routed, handling, frameMost, handledWith, handled}
 use Rattle.rules.specs.declared.NextHop.{NextHop}
 use Rattle.rules.specs.declared.Header.{Header}
 use Rattle.rules.specs.declared.Ruling.the-variants.{Found, Absent}
@@ -24,7 +24,7 @@ use Rattle.rules.specs.declared.FrameRead.the-variants.{Trill, Unreadabl
 use Rattle.rules.specs.declared.ChannelRead.{ChannelRead}
 use Rattle.rules.specs.declared.ChannelRead.the-variants.{Fault, BadErr, ErrorHeard, BadEcho, EchoRequest}
 use Rattle.rules.proofs.TestLaws.{or-false, and-no}
-use Rattle.rules.proofs.FrameLaws.{length-link}
+use Rattle.rules.proofs.FrameLaws.{link-most}
 use Rattle.rules.proofs.ReplyLaws.{length-reply, echo-body-length}
 
 module _ (S : Ways) (f : List ℕ) (h : Header) where
@@ -32,9 +32,18 @@ module _ (S : Ways) (f : List ℕ) (h : Header) where
   unfolding transit
   transit-none e = rw (transit, e)
 
-  pub transit-over : (r : NextHop) → S .hop (h .egress) ≡ Found r → transit S f h ≡ wrote 50 (forwarded S r f h) (r .neighbour)
-  unfolding transit
-  transit-over r e = rw (transit, e)
+  module _ (r : NextHop) where
+    pub transit-over : S .hop (h .egress) ≡ Found r → transit S f h ≡ onward S r f h
+    unfolding transit
+    transit-over e = rw (transit, e)
+
+    pub onward-long : frameMost < length (forwarded S r f h) → onward S r f h ≡ dropped 29
+    unfolding onward
+    onward-long n = rw (lt-ltb frameMost (length (forwarded S r f h)) n)
+
+    pub onward-sent : length (forwarded S r f h) ≤ frameMost → onward S r f h ≡ wrote 50 (forwarded S r f h) (r .neighbour)
+    unfolding onward
+    onward-sent n = rw (le-ltb frameMost (length (forwarded S r f h)) n)
 
   module _ (code : ℕ) where
     pub faulted-silent : silenced code (innerOf f h) ≡ true → faulted S f h code ≡ dropped 25
@@ -66,17 +75,18 @@ module _ (S : Ways) (f : List ℕ) (h : Header) where
 
 -- how long what is written is
 module _ (S : Ways) (r : NextHop) (f : List ℕ) (h : Header) where
-  pub length-forwarded : length (forwarded S r f h) ≡ 20 + length (areaSent S (areaOf f h)) + length (innerOf f h)
+  pub length-forwarded : length (forwarded S r f h) ≡ length (link S r) + 6 + length (areaSent S (areaOf f h)) + length (innerOf f h)
   unfolding forwarded forwardedRest
   length-forwarded =
       let n = length-append (areaSent S (areaOf f h)) (innerOf f h) in
-      rw (length-append (link S r), length-link) (omega (arith, n))
+      rw (length-append (link S r)) (omega (arith, n))
 
-  pub length-error : (code : ℕ) → length (errorReply S r f h code) ≤ 170
+  -- T-01: "The longest replies become 174 and 576."
+  pub length-error : (code : ℕ) → length (errorReply S r f h code) ≤ 174
   unfolding errorReply
-  length-error code = rw (length-reply, length-take) (omega arith)
+  length-error code = rw (length-reply, length-take) (omega (arith, link-most S r))
 
-  pub length-echo : (clock body : List ℕ) → length clock ≡ 6 → 18 ≤ length body → length (echoReply S r h clock body) ≡ 42 + length body
+  pub length-echo : (clock body : List ℕ) → length clock ≡ 6 → 18 ≤ length body → length (echoReply S r h clock body) ≡ length (link S r) + 28 + length body
   unfolding echoReply
   length-echo clock body c b = rw (length-reply, echo-body-length body clock b c)
 

@@ -62,6 +62,6 @@ pub error-unanswered : (code : ℕ) (inner : List ℕ) → 4 ≤ code → code �
 unfolding silenced
 error-unanswered code inner h k e = by-test (eqb code 4) (λ t. simp (t, e, or-yes)) (λ t. simp (t, eq-eqb code 5 (omega (arith, eqb-false code 4 t)), e, or-yes))
 
-pub length-reply : (S : Ways) (r : NextHop) (ingress number code : ℕ) (body : List ℕ) → length (link S r ++ replyRest S ingress number code body) ≡ 42 + length body
+pub length-reply : (S : Ways) (r : NextHop) (ingress number code : ℕ) (body : List ℕ) → length (link S r ++ replyRest S ingress number code body) ≡ length (link S r) + 28 + length body
 unfolding replyRest replyInner
-length-reply S r ingress number code body = rw (length-append, length-link) (omega arith)
+length-reply S r ingress number code body = rw (length-append (link S r)) (omega arith)

@@ -270,7 +270,7 @@ does S clock f own six = go (handling (waysOf S) clock f) (how (waysOf S) clock 
   where
     go : (a : Handled) → How (waysOf S) clock f a → Does S f a
     go a (How.ends n) = ends (final-ended a n)
-    go a (How.forwards h r t found e) = rw e (forwards (forwarded-on S f h r t found))
+    go a (How.forwards h r t found fits e) = rw e (forwards (forwarded-on S f h r t found))
     go a (How.faults h r code t found c e) = rw e (replies (error-replied S own f h r t found code c))
     go a (How.echoes h r t found c e) = rw e (replies (echo-replied S own f h r t found clock six c))
 

@@ -9,13 +9,13 @@ use Rattle.rules.specs.Octets.{if_then_else_}
 use Rattle.rules.specs.Fields.{fieldAt, fieldsFrom, fields, lengthGood}
 use Rattle.rules.specs.Settings.{hopGood, newer, ruling, nextHop, serialMet, switchGood, withField}
 use Rattle.rules.specs.Settings.{opens, continues, opened, settingsFrom, settingsOf}
-use Rattle.rules.specs.Link.{linkLength, link}
+use Rattle.rules.specs.Link.{linkLength, outerTag, link}
 use Rattle.rules.specs.Header.{readFrame, headerRefusal, weAreEgress}
 use Rattle.rules.specs.Options.{optionSize, optionAt, optionsFrom, optionsOf, some-key, summarized, areaRead, areaStops}
 use Rattle.rules.specs.Options.{implemented, strippable, keptOptions, octetsOf, stripped, areaSent}
 use Rattle.rules.specs.Channel.{echoRead, channelRead, silenced, returnPath, replyInner, replyRest, echoBody, errorReply, echoReply}
 use Rattle.rules.specs.Answer.{Handled}
-use Rattle.rules.specs.Handling.{forwardedRest, forwarded, transit, faulted, echoed, channelled, decapsulated}
+use Rattle.rules.specs.Handling.{forwardedRest, forwarded, onward, transit, faulted, echoed, channelled, decapsulated}
 use Rattle.rules.specs.Handling.{routed, handling, handledWith, handled, partOf}
 use Rattle.rules.specs.Campus.{switchNamed, placeGood, valueGood, nicknameNew, roomGood, serialNew, entryKnown, fieldRefusal}
 use Rattle.rules.specs.Campus.{withNext, describedFrom, described, clockOf, kindAfter, runFrom, plainRun}
@@ -190,6 +190,46 @@ frameC12 = frameTo (hex "0005") (hex "0009") [] inner
 abbrev pub sentC12 : List ℕ → List ℕ
 sentC12 mac = mac ++ hex "020000000001 22F3 0004 0009 0004" ++ inner
 
+-- T-01: switch 0x0001 with the strip flag, which reaches 0x0009 and 0x0004 over the leased link of a VLAN
+abbrev pub settingsVlan : List ℕ → List ℕ
+settingsVlan vlan =
+    hex "01 0008 0001 020000000001"
+    ++ hex "02 0010 0009 0005 020000000005 00000001"
+    ++ vlan
+    ++ hex "02 0010 0004 0005 020000000005 00000001"
+    ++ vlan
+    ++ hex "03 0001 01"
+
+-- a record of a serial, its length and its VLAN given
+abbrev pub hopVlan : List ℕ → List ℕ → List ℕ → List ℕ
+hopVlan size serial vlan = hex "02" ++ size ++ hex "0009 0005 020000000005 000000" ++ serial ++ vlan
+
+-- number and octets written
+unfoldable pub sizes : List ℕ → List ℕ → List ℕ
+sizes settings frame = let a = handled settings clock 2048 frame in a .number ∷ length (a .octets) ∷ []
+
+-- of a frame for 0x0009: outer tag, first word, area, and how many octets follow its inner frame
+abbrev pub sizesTo : String → List ℕ → List ℕ → List ℕ → List ℕ → ℕ → ℕ → ℕ → Case
+sizesTo name settings tag word area more number written =
+    record {
+      name = name;
+      computed = sizes settings (hex "020000000001 020000000002" ++ tag ++ hex "22F3" ++ word ++ hex "0009 0004" ++ area ++ inner ++ zeros more);
+      expected = number ∷ written ∷ [];
+    }
+
+-- an echo request with data, and a message of an unknown protocol, for 0x0001
+abbrev pub messageTo : List ℕ → List ℕ → List ℕ
+messageTo header body = frameTo (hex "0005") (hex "0001") [] (hex "0180C2000042 020000000009 8100 0001 8946" ++ header ++ body)
+
+-- a file of one switch, a record and an empty frame
+abbrev pub files : String → List ℕ → List ℕ → Case
+files name hop expected =
+    record {
+      name = name;
+      computed = ending (campus (hex "01 0008 0001 020000000001" ++ hop ++ hex "05 0002 0001") 640);
+      expected = expected;
+    }
+
 unfoldable pub cases : List Case
 cases =
     prints "C1 the whole output" fileC1 textC1
@@ -264,15 +304,55 @@ cases =
     50
     5
     (frameSent (hex "00C4") (hex "00000000 4185AAAA AAAAAA00") inner)
+    ∷ writes
+    "T-01 VLAN 5"
+    (settingsVlan (hex "0005"))
+    (frameTo (hex "0005") (hex "0009") [] inner)
+    50
+    5
+    (hex "020000000005 020000000001 8100 0005 22F3 0004 0009 0004" ++ inner)
+    ∷ writes "T-01 VLAN 0 in 16 octets" (settingsVlan (hex "0000")) (frameTo (hex "0005") (hex "0009") [] inner) 50 5 (frameSent (hex "0004") [] inner)
+    ∷ sizesTo "T-01 2,044 octets, VLAN 5" (settingsVlan (hex "0005")) [] (hex "0005") [] 2004 50 2048
+    ∷ sizesTo "T-01 2,045 octets, VLAN 5" (settingsVlan (hex "0005")) [] (hex "0005") [] 2005 29 0
+    ∷ sizesTo "T-01 2,048 octets, VLAN 0" (settingsVlan (hex "0000")) [] (hex "0005") [] 2008 50 2048
+    ∷ sizesTo "T-01 2,048 octets tagged, VLAN 5" (settingsVlan (hex "0005")) (hex "8100 0007") (hex "0005") [] 2004 50 2048
+    ∷ sizesTo "T-01 2,048 octets tagged, VLAN 0" (settingsVlan (hex "0000")) (hex "8100 0007") (hex "0005") [] 2004 50 2044
+    ∷ sizesTo "T-01 2,048 octets, 8 stripped" (settingsVlan (hex "0005")) [] (hex "00C5") (hex "00000000 45860000 00000000") 1996 50 2044
+    ∷ sizesTo "T-01 2,048 octets, none stripped" (settingsVlan (hex "0005")) [] (hex "00C5") (hex "00000000 45060000 00000000") 1996 29 0
+    ∷ sizesTo "T-01 no next hop" (hex "01 0008 0001 020000000001") [] (hex "0005") [] 2008 21 0
+    ∷ record {
+      name = "T-01 the longest echo reply";
+      computed = sizes (settingsVlan (hex "0FFE")) (messageTo (hex "0FF8 4000") (hex "30000001 02 00 000001000002 000000000000" ++ zeros 512));
+      expected = 54 ∷ 576 ∷ [];
+    }
+    ∷ record {
+      name = "T-01 the longest error reply";
+      computed = sizes (settingsVlan (hex "0001")) (messageTo (hex "0002 4000") (zeros 128));
+      expected = 53 ∷ 174 ∷ [];
+    }
+    ∷ drops "T-01 VLAN 4,095" (settingsVlan (hex "0FFF")) (frameTo (hex "0005") (hex "0009") [] inner) 1
+    ∷ drops "T-01 priority bits" (settingsVlan (hex "2005")) (frameTo (hex "0005") (hex "0009") [] inner) 1
+    ∷ drops "T-01 a record of 15 octets" (settingsC12 (hopVlan (hex "000F") (hex "01") (hex "00"))) frameC12 1
+    ∷ writes
+    "T-01 the ruling record's VLAN"
+    (settingsC12 (hopVlan (hex "0010") (hex "07") (hex "0005") ++ hopVlan (hex "0010") (hex "08") (hex "0000")))
+    frameC12
+    50
+    5
+    (sentC12 (hex "020000000005"))
+    ∷ files "T-01 VLAN 4,094 in a file" (hopVlan (hex "0010") (hex "01") (hex "0FFE")) (0 ∷ 1 ∷ hex "0001 00 0A 00 00 0000")
+    ∷ files "T-01 VLAN 4,095 in a file" (hopVlan (hex "0010") (hex "01") (hex "0FFF")) (44 ∷ 0 ∷ [])
+    ∷ files "T-01 priority bits in a file" (hopVlan (hex "0010") (hex "01") (hex "2005")) (44 ∷ 0 ∷ [])
+    ∷ files "T-01 15 octets in a file" (hopVlan (hex "000F") (hex "01") (hex "00")) (42 ∷ 0 ∷ [])
     ∷ []
 
 -- The two sides of the claim, case by case: the values computed (to open this is to open all that a case computes with),
 unfoldable pub computedIn : List Case → List (List ℕ)
-unfolding digits pairs hex numbers ending ascii hexDigit decimalFrom entryText entriesText printed fieldAt fieldsFrom fields lengthGood
-    hopGood newer ruling nextHop serialMet switchGood withField opens continues opened settingsFrom settingsOf linkLength link readFrame
+unfolding digits pairs hex numbers ending sizes ascii hexDigit decimalFrom entryText entriesText printed fieldAt fieldsFrom fields lengthGood
+    hopGood newer ruling nextHop serialMet switchGood withField opens continues opened settingsFrom settingsOf linkLength outerTag link readFrame
     headerRefusal weAreEgress optionAt optionsFrom optionsOf some-key summarized areaRead areaStops implemented strippable
     keptOptions octetsOf stripped areaSent echoRead channelRead silenced returnPath replyInner replyRest echoBody errorReply echoReply
-    forwardedRest forwarded transit faulted echoed channelled decapsulated routed handling handledWith handled partOf switchNamed placeGood
+    forwardedRest forwarded onward transit faulted echoed channelled decapsulated routed handling handledWith handled partOf switchNamed placeGood
     valueGood nicknameNew roomGood serialNew entryKnown fieldRefusal withNext describedFrom described clockOf kindAfter runFrom plainRun
     hopReceived egressReceived entryOctets traceOctets campus
 computedIn = map (λ (c : Case). c .computed)

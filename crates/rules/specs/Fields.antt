@@ -1,7 +1,7 @@
 -- "Fields: one-byte tag, two-byte length, big-endian throughout." The layout that settings and descriptions share.
 use Prim.Native.Nat.{ℕ, zero, suc, _+_}
 use mathlib.Core.List.{List, [], _∷_}
-use mathlib.Core.Bool.{Bool, true, false, _&&_}
+use mathlib.Core.Bool.{Bool, true, false, _&&_, _||_}
 use lib.ListN.{length}
 use lib.Dec.{ltb, leb, eqb}
 use Rattle.rules.specs.Octets.{if_then_else_, octet, be16, part}
@@ -41,10 +41,14 @@ unfoldable pub fields : List ℕ → List Field
 fields s = fieldsAt s 0
 
 -- "Tag 1, length 8 .. Tag 2, length 14 .. Tag 3, length 1 .. Tag 4, length 6 .. Tag 5, length 2 to 2,050"
+-- T-01: "Tag 2 may have length 14 (VLAN 0) or 16 (VLAN last)."
+abbrev pub hopSize : ℕ → Bool
+hopSize size = eqb size 14 || eqb size 16
+
 unfoldable pub lengthGood : ℕ → ℕ → Bool
 lengthGood tag size =
     if eqb tag 1 then eqb size 8 else
-    if eqb tag 2 then eqb size 14 else
+    if eqb tag 2 then hopSize size else
     if eqb tag 3 then eqb size 1 else
     if eqb tag 4 then eqb size 6 else
     if eqb tag 5 then leb 2 size && leb size 2050

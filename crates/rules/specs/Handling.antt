@@ -19,6 +19,10 @@ use Rattle.rules.specs.declared.FrameRead.the-variants.{Trill, Unreadabl
 use Rattle.rules.specs.declared.ChannelRead.{ChannelRead}
 use Rattle.rules.specs.declared.ChannelRead.the-variants.{Fault, BadErr, ErrorHeard, BadEcho, EchoHeard, EchoRequest}
 
+-- "output buffer under 2,048 octets", "frame over 2,048 octets"
+abbrev pub frameMost : ℕ
+frameMost = 2048
+
 -- "TRILL header with hop count one less and the new Op-Length, area, inner frame unchanged"
 unfoldable pub forwardedRest : Ways → List ℕ → Header → List ℕ
 forwardedRest S f h =
@@ -32,13 +36,15 @@ forwardedRest S f h =
 unfoldable pub forwarded : Ways → NextHop → List ℕ → Header → List ℕ
 forwarded S r f h = link S r ++ forwardedRest S f h
 
--- 21 and 50
+-- T-01: "29, a forwarded frame that would pass 2,048 octets, comes just before 50"
+unfoldable pub onward : Ways → NextHop → List ℕ → Header → Handled
+onward S r f h =
+    if ltb frameMost (length (forwarded S r f h)) then dropped 29
+    else wrote 50 (forwarded S r f h) (r .neighbour)
+
+-- 21, 29 and 50
 unfoldable pub transit : Ways → List ℕ → Header → Handled
-transit S f h =
-    elim (S .hop (h .egress)) [
-      | Absent ↦ dropped 21
-      | Found r ↦ wrote 50 (forwarded S r f h) (r .neighbour)
-    ]
+transit S f h = elim (S .hop (h .egress)) [ Absent ↦ dropped 21 | Found r ↦ onward S r f h ]
 
 -- 53 and 25
 unfoldable pub faulted : Ways → List ℕ → Header → ℕ → Handled
@@ -101,10 +107,6 @@ handling S clock f =
           if eqb (headerRefusal (S .mac) f h) 0 then routed S clock f h
           else dropped (headerRefusal (S .mac) f h)
     ]
-
--- "output buffer under 2,048 octets", "frame over 2,048 octets"
-abbrev pub frameMost : ℕ
-frameMost = 2048
 
 -- 1 for the clock, 2 and 3; `room` is the length of the output buffer
 unfoldable pub handledWith : Ways → List ℕ → ℕ → List ℕ → Handled

@@ -26,9 +26,13 @@ abbrev pub macGood : ℕ → Bool
 macGood mac = eqb (mac / 0x10000000000 % 2) 0 && not (eqb mac 0)
 
 -- "Destinations are valid nicknames, neighbour MACs individual and not zero, in a withdrawal too;
--- a neighbour nickname of 0 means withdrawn, else it is valid."
+-- a neighbour nickname of 0 means withdrawn, else it is valid." T-01: "an outer VLAN, 0 for none or 1 to 4,094"
 unfoldable pub hopGood : NextHop → Bool
-hopGood r = nicknameValid (r .destination) && macGood (r .mac) && (eqb (r .neighbour) 0 || nicknameValid (r .neighbour))
+hopGood r =
+    nicknameValid (r .destination)
+    && macGood (r .mac)
+    && (eqb (r .neighbour) 0 || nicknameValid (r .neighbour))
+    && leb (r .vlan) 4094
 
 -- "For one destination the record with the greatest serial rules": the one that rules once `r` is seen too.
 -- Of equal serials, which good settings never have, the first stays.
@@ -60,9 +64,9 @@ serialMet r (q ∷ hops) = (eqb (q .destination) (r .destination) && eqb (q .ser
 abbrev pub switchOf : List ℕ → Settings
 switchOf v = record { nickname = be16 v 0; mac = be48 v 2; strip = false; hops = [] }
 
--- "next hop .. (destination, neighbour, MAC, serial)"
+-- "next hop .. (destination, neighbour, MAC, serial)"; T-01: "length 14 (VLAN 0) or 16 (VLAN last)", and a place past the end reads 0
 abbrev pub hopOf : List ℕ → NextHop
-hopOf v = record { destination = be16 v 0; neighbour = be16 v 2; mac = be48 v 4; serial = be32 v 10 }
+hopOf v = record { destination = be16 v 0; neighbour = be16 v 2; mac = be48 v 4; serial = be32 v 10; vlan = be16 v 14 }
 
 unfoldable pub switchGood : Settings → Bool
 switchGood S = nicknameValid (S .nickname) && macGood (S .mac)

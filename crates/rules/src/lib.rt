@@ -1,11 +1,12 @@
 // The shapes that the definitions in specs/ and the code above share. There is no code here.
 
-// A next-hop record (document 01, "Settings"). A neighbour of 0 is a withdrawal.
+// A next-hop record (document 01, "Settings"; document 02, T-01). A neighbour of 0 is a withdrawal, a VLAN of 0 none.
 pub struct NextHop {
     pub destination: u16,
     pub neighbour: u16,
     pub mac: u64,
     pub serial: u32,
+    pub vlan: u16,
 }
 
 // The record that rules for a destination, or none.

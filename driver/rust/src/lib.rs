@@ -11,7 +11,7 @@ pub const TRILL_CLOCK: usize = 6;
 /// Words of a store of prepared settings.
 pub const TRILL_PREPARED_WORDS: usize = 164;
 /// Octets of the longest link header that the way out writes.
-pub const TRILL_LINK_MOST: usize = 14;
+pub const TRILL_LINK_MOST: usize = 18;
 /// Octets of a description: a longer one is refused.
 pub const CAMPUS_DESCRIPTION_MOST: usize = 32768;
 /// Octets that the trace buffer must have.
@@ -54,6 +54,7 @@ numbers! {
     TRILL_DROP_CHANNEL_ERR = 26, "channel protocol not 0x001 and ERR not 0";
     TRILL_DROP_ECHO_BODY = 27, "echo body under 18 or over 530 octets, or SPID neither 3 nor 4";
     TRILL_DROP_ECHO_UNANSWERED = 28, "echo request, no reply is made";
+    TRILL_DROP_FORWARDED_LONG = 29, "forwarded frame would have over 2,048 octets";
     TRILL_DROP_OPTION_RESERVED = 30, "option with a reserved Length";
     TRILL_DROP_OPTION_PAST = 31, "option past the options area";
     TRILL_DROP_OPTION_BELOW = 32, "option key below the one before";

@@ -40,7 +40,7 @@ impl Call for CampusRun {
     /// accepted description has.
     fn expected() -> impl Iterator<Item = Hit> {
         let codes = [0].into_iter().chain(40..=49).map(Hit::Code);
-        let refusals = (10..=18).chain(20..=28).chain(30..=35);
+        let refusals = (10..=18).chain(20..=35);
         let answers = refusals.chain(50..=56).map(Hit::Answer);
         let features = FEATURES.iter().map(|&(name, _)| Hit::Feature(name));
         codes.chain(answers).chain(features)

@@ -31,7 +31,7 @@ impl Call for Handling {
 
     /// Every answer, and each fault of an options area in both roles.
     fn expected() -> impl Iterator<Item = Hit> {
-        let refusals = (1..=3).chain(10..=18).chain(20..=28).chain(30..=35);
+        let refusals = (1..=3).chain(10..=18).chain(20..=35);
         let answers = refusals.chain(50..=56).map(Hit::Answer);
         let at = |role| (30..=35).map(move |number| Hit::AtRole(number, role));
         answers.chain(at(Role::Transit)).chain(at(Role::Egress))

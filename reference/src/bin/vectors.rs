@@ -11,7 +11,7 @@ use reference::{handle, part, run, text};
 
 /// Cases to a claim: a claim is checked under a limit of steps.
 const CLAIM: usize = 10;
-/// Longer inputs add checking time and no new rule.
+/// Longer inputs add checking time and no new rule but answer 29.
 const LONGEST: usize = 700;
 
 const HEADER: &str = "\
@@ -63,11 +63,12 @@ fn main() -> io::Result<()> {
 fn handlings(seed: u64) -> impl Iterator<Item = String> {
     (0..).filter_map(move |index| {
         let input = handle_input(seed, index);
-        if input.frame.len() > LONGEST || input.settings.len() > LONGEST {
-            return None;
-        }
         let mut out = vec![0; input.room];
         let answer = handle(&input.frame, &input.settings, &input.clock, &mut out);
+        let long = input.frame.len() > LONGEST && answer.number != 29;
+        if long || input.settings.len() > LONGEST {
+            return None;
+        }
         let computed = format!(
             "answer (handled ({}) ({}) {} ({}))",
             hex(&input.settings),

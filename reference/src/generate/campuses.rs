@@ -150,6 +150,7 @@ impl Plan {
             neighbour,
             mac,
             serial: switches::serial(rng),
+            vlan: switches::outer_vlan(rng),
         }
     }
 

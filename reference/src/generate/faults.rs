@@ -196,7 +196,7 @@ fn repeat_serial(rng: &mut Rng, fields: &mut Fields) {
     }
     let place = rng.pick(&records);
     let mut again = fields[place].clone();
-    if rng.one_in(2) && again.len() == 17 {
+    if rng.one_in(2) && again.len() >= 17 {
         again[5..7].copy_from_slice(&rng.nickname().to_be_bytes());
         again[7..13].copy_from_slice(&rng.mac());
     }

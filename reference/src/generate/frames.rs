@@ -128,7 +128,8 @@ fn hops(rng: &mut Rng) -> u16 {
 pub(super) fn frame(rng: &mut Rng, site: &Site) -> Vec<u8> {
     let mut octets = match rng.below(100) {
         0..3 => random(rng, site),
-        3..18 => header_fault(rng, site),
+        3..15 => header_fault(rng, site),
+        15..18 => long_transit(rng, site),
         18..32 => option_fault(rng, site),
         32..50 => transit(rng, site),
         50..60 => inner_fault(rng, site),
@@ -284,6 +285,28 @@ fn transit(rng: &mut Rng, site: &Site) -> Vec<u8> {
     if rng.one_in(2) {
         draft = draft.with_area(areas::flow_id(rng));
     }
+    draft.octets()
+}
+
+/// Answers 50 and 29: near the greatest frame, with options that go or without.
+fn long_transit(rng: &mut Rng, site: &Site) -> Vec<u8> {
+    let inner = any_inner(rng);
+    let mut draft = Draft::new(rng, site, inner);
+    draft.egress = match rng.below(8) {
+        0 => site.unreachable(rng),
+        _ => site.reachable(rng),
+    };
+    if !rng.one_in(3) {
+        draft = draft.with_area(areas::flow_id(rng));
+    }
+    let size = match rng.below(4) {
+        0 => 2044,
+        1 => 2048,
+        _ => 2041 + rng.below(8),
+    };
+    let (present, inner) = (draft.octets().len(), draft.inner.len());
+    let size = (size + inner).saturating_sub(present);
+    draft.inner.resize(size, rng.octet());
     draft.octets()
 }
 

@@ -22,15 +22,19 @@ pub(super) struct Record {
     pub neighbour: u16,
     pub mac: Mac,
     pub serial: u32,
+    /// The VLAN of a field of length 16.
+    pub vlan: Option<u16>,
 }
 
 impl Record {
     pub(super) fn field(&self) -> Vec<u8> {
+        let vlan = self.vlan.map(u16::to_be_bytes);
         let value = [
             &self.destination.to_be_bytes()[..],
             &self.neighbour.to_be_bytes(),
             &self.mac,
             &self.serial.to_be_bytes(),
+            vlan.as_ref().map_or(&[], |vlan| &vlan[..]),
         ];
         field(2, &value.concat())
     }
@@ -42,7 +46,26 @@ impl Record {
             neighbour: if rng.one_in(4) { 0 } else { rng.nickname() },
             mac: rng.mac(),
             serial: serial(rng),
+            vlan: outer_vlan(rng),
         }
+    }
+}
+
+/// Not given, given as none, or a VLAN, often at an end of the range.
+pub(super) fn outer_vlan(rng: &mut Rng) -> Option<u16> {
+    match rng.below(8) {
+        0..3 => None,
+        3 => Some(0),
+        4 => Some(rng.pick(&[1, 1, 2, 4093, 4094, 4094])),
+        _ => Some(1 + rng.below(4094) as u16),
+    }
+}
+
+/// Above 4,094, in the priority bits too.
+fn bad_vlan(rng: &mut Rng) -> u16 {
+    match rng.below(4) {
+        0 => rng.word() | 0x1000,
+        _ => rng.pick(&[4095, 4096, 0x2005, 0x8000, 0xFFFF]),
     }
 }
 
@@ -218,10 +241,11 @@ pub(super) fn bad_switch(rng: &mut Rng) -> Vec<u8> {
 /// One value outside the rules, in a withdrawal too.
 pub(super) fn bad_record(rng: &mut Rng) -> Vec<u8> {
     let mut record = Record::any(rng);
-    match rng.below(3) {
+    match rng.below(4) {
         0 => record.destination = rng.bad_nickname(),
         1 => record.neighbour = 0xFFC0 | rng.word(),
-        _ => record.mac = rng.bad_mac(),
+        2 => record.mac = rng.bad_mac(),
+        _ => record.vlan = Some(bad_vlan(rng)),
     }
     record.field()
 }
@@ -235,7 +259,7 @@ pub(super) fn bad_strip(rng: &mut Rng) -> Vec<u8> {
 pub(super) fn wrong_length(rng: &mut Rng) -> Vec<u8> {
     let (tag, lengths) = rng.pick(&[
         (1, [0, 7, 9]),
-        (2, [0, 13, 15]),
+        (2, [13, 15, 17]),
         (3, [0, 2, 3]),
         (4, [0, 5, 7]),
         (5, [0, 1, 2051]),

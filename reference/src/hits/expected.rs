@@ -4,7 +4,7 @@ use super::Feature;
 use crate::Silence::{ErrorCode, ErrorProtocol, OwnIngress, ReplyMode, SilentFlag};
 use crate::{Cause, Fault, OptionFault, Role, Silence};
 
-const SETTINGS_FAULTS: [Fault; 14] = [
+const SETTINGS_FAULTS: [Fault; 15] = [
     Fault::HeadCut,
     Fault::ValueCut,
     Fault::UnknownTag,
@@ -16,12 +16,13 @@ const SETTINGS_FAULTS: [Fault; 14] = [
     Fault::Destination,
     Fault::Neighbour,
     Fault::NeighbourMac,
+    Fault::OuterVlan,
     Fault::StripFlag,
     Fault::Records,
     Fault::SerialMet,
 ];
 
-const PLAIN_CAUSES: [Cause; 32] = [
+const PLAIN_CAUSES: [Cause; 33] = [
     Cause::ClockLength,
     Cause::OutputRoom,
     Cause::FrameSize,
@@ -39,6 +40,7 @@ const PLAIN_CAUSES: [Cause; 32] = [
     Cause::CriticalHopByHop,
     Cause::CriticalToEgress,
     Cause::NoNextHop,
+    Cause::ForwardedSize,
     Cause::Forwarded,
     Cause::ForwardedStripped,
     Cause::InnerCut,
@@ -84,7 +86,7 @@ pub(super) fn causes() -> Vec<Cause> {
     causes
 }
 
-pub(super) const REFUSALS: [Fault; 21] = [
+pub(super) const REFUSALS: [Fault; 22] = [
     Fault::FileSize,
     Fault::HeadCut,
     Fault::ValueCut,
@@ -99,6 +101,7 @@ pub(super) const REFUSALS: [Fault; 21] = [
     Fault::Destination,
     Fault::Neighbour,
     Fault::NeighbourMac,
+    Fault::OuterVlan,
     Fault::StripFlag,
     Fault::NicknameMet,
     Fault::Switches,
@@ -109,9 +112,9 @@ pub(super) const REFUSALS: [Fault; 21] = [
 ];
 
 /// Answers within a run to an original, and to a reply.
-const ORIGINALS: [u32; 31] = [
-    10, 11, 12, 13, 14, 15, 16, 17, 18, 20, 21, 22, 23, 24, 25, 26, 27, 28, 30, 31, 32, 33, 34, 35,
-    50, 51, 52, 53, 54, 55, 56,
+const ORIGINALS: [u32; 32] = [
+    10, 11, 12, 13, 14, 15, 16, 17, 18, 20, 21, 22, 23, 24, 25, 26, 27, 28, 29, 30, 31, 32, 33, 34,
+    35, 50, 51, 52, 53, 54, 55, 56,
 ];
 const REPLIES: [u32; 6] = [12, 17, 21, 50, 55, 56];
 
@@ -123,8 +126,8 @@ pub(super) fn entries() -> impl Iterator<Item = (u32, bool)> {
 
 /// Answers of one handling.
 pub(super) fn numbers() -> impl Iterator<Item = u32> {
-    let refusals = (1..=3).chain(10..=18).chain(20..=28);
-    refusals.chain(30..=35).chain(50..=56)
+    let refusals = (1..=3).chain(10..=18).chain(20..=35);
+    refusals.chain(50..=56)
 }
 
 /// Places of an option at fault: each word of the greatest area but the first.
@@ -140,7 +143,7 @@ pub(super) fn codes() -> impl Iterator<Item = u32> {
     std::iter::once(0).chain(40..=49)
 }
 
-pub(super) const FEATURES: [Feature; 22] = [
+pub(super) const FEATURES: [Feature; 36] = [
     Feature::FlowIdStays,
     Feature::ShorterFlowIdGoes,
     Feature::LongerFlowIdGoes,
@@ -149,6 +152,17 @@ pub(super) const FEATURES: [Feature; 22] = [
     Feature::FirstKeyZero,
     Feature::LengthAndKey,
     Feature::UnsummedBefore,
+    Feature::ForwardedUntagged,
+    Feature::ForwardedTagged,
+    Feature::TagAdded,
+    Feature::TagTaken,
+    Feature::LongestWithTag,
+    Feature::StrippedToFit,
+    Feature::LongWithoutNextHop,
+    Feature::RepliedUntagged,
+    Feature::RepliedTagged,
+    Feature::FirstVlan,
+    Feature::LastVlan,
     Feature::PartFull,
     Feature::PartEmpty,
     Feature::PartOutside,
@@ -157,6 +171,9 @@ pub(super) const FEATURES: [Feature; 22] = [
     Feature::WayWithdrawn,
     Feature::WayFitsExactly,
     Feature::WayOneShort,
+    Feature::TaggedWayFitsExactly,
+    Feature::TaggedWayOneShort,
+    Feature::TaggedWayFourShort,
     Feature::WayWithMoreRoom,
     Feature::LeftCampus,
     Feature::ReplyTravels,

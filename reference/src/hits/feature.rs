@@ -18,6 +18,24 @@ pub enum Feature {
     LengthAndKey,
     /// An option at fault after critical ones whose summary bit is missing.
     UnsummedBefore,
+    /// Forwarded without a tag and with one, as it was received.
+    ForwardedUntagged,
+    ForwardedTagged,
+    /// Forwarded with a tag that it did not have, and without the one it had.
+    TagAdded,
+    TagTaken,
+    /// Forwarded with an added tag, to exactly 2,048 octets.
+    LongestWithTag,
+    /// Forwarded with an added tag, and too long if no option went.
+    StrippedToFit,
+    /// No next hop for a frame that an added tag would make too long.
+    LongWithoutNextHop,
+    /// A reply without a tag and with one.
+    RepliedUntagged,
+    RepliedTagged,
+    /// A frame written with VLAN 1 and with VLAN 4,094.
+    FirstVlan,
+    LastVlan,
     /// A part with octets, an empty one within the frame, one not within it.
     PartFull,
     PartEmpty,
@@ -31,6 +49,10 @@ pub enum Feature {
     /// Room for the link header and nothing more, and an octet less.
     WayFitsExactly,
     WayOneShort,
+    /// The same for a link header with a tag, and room for one without.
+    TaggedWayFitsExactly,
+    TaggedWayOneShort,
+    TaggedWayFourShort,
     /// Room of 100 octets or more.
     WayWithMoreRoom,
     /// The last handling wrote a frame for no switch of the campus.

@@ -10,4 +10,5 @@ mod readings;
 mod replies;
 mod settings;
 mod support;
+mod vlan;
 mod way;

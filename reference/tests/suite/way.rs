@@ -120,9 +120,11 @@ fn forwarding_takes_the_same_way() {
         let mac = settings.get(5..11).unwrap_or(&[0; 6]);
         let rest = hex(&format!("020000000001 22F3 0005 {destination:04X} 0001"));
         let (answer, written) = ask(&[mac, &rest].concat(), settings, &CLOCK, 2048);
-        let mut out = [0; 14];
-        match way_out(settings, destination, &mut out).number {
-            0 => assert_eq!((answer.number, &written[..14]), (50, &out[..])),
+        let mut out = [0; 18];
+        let way = way_out(settings, destination, &mut out);
+        let header = &out[..way.length as usize];
+        match way.number {
+            0 => assert_eq!((answer.number, &written[..header.len()]), (50, header)),
             refusal => assert_eq!(answer.number, refusal),
         }
     }

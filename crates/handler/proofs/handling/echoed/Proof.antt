@@ -1,4 +1,4 @@
--- `handling::echoed` meets its contract, by the way back that was found and what was written behind its link header. Assumes nothing.
+-- `handling::echoed` meets its contract, by the next hop back that was found. Assumes nothing.
 use Rattle.handler.proofs.StageLaws.{echoed-laws as laws}
 use Rattle.handler.proofs.handling.echoed.Statement.{statement}
 use Rattle.handler.proofs.handling.echoed.Tie as tie
@@ -12,16 +12,15 @@ echoed-spec =
     (λ c. search laws)
     (λ c. search laws)
     (λ c. search laws)
-    (λ c κs. search laws)
-    (λ c κs. search laws)
+    (λ c. search laws)
+    (λ c. search laws)
+    (λ c. search laws)
+    (λ c. search laws)
+    (λ c. search laws)
+    (λ c. search laws)
+    (λ c. search laws)
     (λ c. search laws)
     (λ c κs. search laws)
     (λ c. search laws)
-    (λ c. search laws)
-    (λ c κs. search laws)
-    (λ c. search laws)
-    (λ c. search laws)
-    (λ c κs. search laws)
-    (λ c κs. search laws)
     (λ c. search laws)
     (λ c. search laws))

@@ -1,4 +1,4 @@
--- `handling::faulted` meets its contract, by the way back that was found and what was written behind its link header. Assumes nothing.
+-- `handling::faulted` meets its contract, by the next hop back that was found. Assumes nothing.
 use Rattle.handler.proofs.StageLaws.{faulted-laws as laws}
 use Rattle.handler.proofs.handling.faulted.Statement.{statement}
 use Rattle.handler.proofs.handling.faulted.Tie as tie
@@ -11,16 +11,15 @@ faulted-spec =
     (λ c. search laws)
     (λ c. search laws)
     (λ c. search laws)
-    (λ c κs. search laws)
-    (λ c κs. search laws)
-    (λ c. search laws)
-    (λ c κs. search laws)
     (λ c. search laws)
     (λ c. search laws)
-    (λ c κs. search laws)
     (λ c. search laws)
     (λ c. search laws)
-    (λ c κs. search laws)
-    (λ c κs. search laws)
+    (λ c. search laws)
+    (λ c. search laws)
+    (λ c. search laws)
+    (λ c. search laws)
+    (λ c. search laws)
+    (λ c. search laws)
     (λ c. search laws)
     (λ c. search laws))

@@ -8,13 +8,14 @@ admit-spec =
     tie.close
     (tie.spec
     (λ c. search laws)
-    (λ c κs. search laws)
     (λ c. search laws)
     (λ c. search laws)
     (λ c. search laws)
-    (λ c κs. search laws)
-    (λ c κs. search laws)
-    (λ c κs. search laws)
+    (λ c. search laws)
+    (λ c. search laws)
+    (λ c. search laws)
+    (λ c. search laws)
+    (λ c. search laws)
     (λ c. search laws)
     (λ c. search laws)
     (λ c. search laws)

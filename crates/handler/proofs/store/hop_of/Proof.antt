@@ -7,7 +7,8 @@ pub hop-of-spec : {M : Type 1} → statement M
 hop-of-spec =
     tie.close
     (tie.spec
-    (λ c κs. search laws)
+    (λ c. search laws)
+    (λ c. search laws)
     (λ c. search laws)
     (λ c. search laws)
     (λ c. search laws))

@@ -1,4 +1,4 @@
--- `handler::way::way_out` meets its contract, by one law for each way out.
+-- `way::way_out` meets its contract, by one law for each way out. Assumes nothing.
 use Rattle.handler.proofs.WayOutLaws.{way-out-laws as laws}
 use Rattle.handler.proofs.way.way_out.Statement.{statement}
 use Rattle.handler.proofs.way.way_out.Tie as tie
@@ -7,12 +7,12 @@ pub way-out-spec : {M : Type 1} → statement M
 way-out-spec =
     tie.close
     (tie.spec
-    (λ c κs. search laws)
-    (λ c. search laws)
-    (λ c κs. search laws)
     (λ c. search laws)
     (λ c. search laws)
-    (λ c κs. search laws)
+    (λ c. search laws)
+    (λ c. search laws)
+    (λ c. search laws)
+    (λ c. search laws)
     (λ c. search laws)
     (λ c. search laws)
     (λ c. search laws)

@@ -1,4 +1,4 @@
--- `way::write_link` meets its contract, by the cases of the record that rules. Assumes nothing.
+-- `way::write_link` meets its contract, by the VLAN. Assumes nothing.
 use Rattle.handler.proofs.Ways.{write-link-laws as laws}
 use Rattle.handler.proofs.way.write_link.Statement.{statement}
 use Rattle.handler.proofs.way.write_link.Tie as tie
@@ -10,8 +10,10 @@ write-link-spec =
     (λ c. search laws)
     (λ c. search laws)
     (λ c. search laws)
-    (λ c κs. search laws)
     (λ c. search laws)
-    (λ c κs. search laws)
+    (λ c. search laws)
+    (λ c. search laws)
+    (λ c. search laws)
+    (λ c. search laws)
     (λ c. search laws)
     (λ c. search laws))

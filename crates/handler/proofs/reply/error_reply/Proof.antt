@@ -1,0 +1,13 @@
+-- `reply::error_reply` meets its contract: what is written behind the link header makes one write. Assumes nothing.
+use Rattle.handler.proofs.Replies.{reply-laws as laws}
+use Rattle.handler.proofs.reply.error_reply.Statement.{statement}
+use Rattle.handler.proofs.reply.error_reply.Tie as tie
+
+pub error-reply-spec : {M : Type 1} → statement M
+error-reply-spec =
+    tie.close
+    (tie.spec
+    (λ c κs. search laws)
+    (λ c κs. search laws)
+    (λ c. search laws)
+    (λ c. search laws))
