@@ -1,17 +1,19 @@
 -- From what was read to the run, and from the run to the outcome, by the laws of descriptions, runs and the demand. Assumes nothing.
 use mathlib.Core.Path.{_≡_, refl, sym, ap, _∙_}
 use mathlib.Core.List.{List, [], _∷_, _++_, append-nil}
-use mathlib.Core.Option.{none, some}
+use mathlib.Core.Option.{Option, none, some}
 use Prim.Native.Nat.{ℕ, _+_, _-_, _<_, _≤_, min}
 use native.Mathlib.Omega.{arith}
 use borrow.Author.Needs.{needs}
-use borrow.Author.Tests.{eq-eqb, ne-eqb}
-use lib.ListN.{length, take, drop, length-take, length-drop}
+use borrow.Author.Tests.{eq-eqb, ne-eqb, le-leb, lt-leb}
+use lib.Dec.{eqb, leb}
+use lib.ListN.{length, take, drop, replicate, length-take, length-drop, length-replicate}
 use lib.Seq.{take-all}
-use Rattle.rules.specs.Octets.{be16, part, put}
-use Rattle.rules.specs.Settings.{settingsRead}
-use Rattle.rules.specs.Campus.{Described, switchNamed, original, runFrom, handlingsMost, plainRun, clockOf, traceOctets}
+use Rattle.rules.specs.Octets.{if_then_else_, be16, part, put}
+use Rattle.rules.specs.Settings.{Settings, waysOf}
+use Rattle.rules.specs.Campus.{Described, switchNamed, original, runFrom, handlingsMost, plainRun, State, clockOf, traceOctets}
 use Rattle.rules.specs.Campus.{refused, accepted, described, Outcome, refusal, campus, traceAfter}
+use Rattle.rules.proofs.TestLaws.{by-test}
 use Rattle.rules.proofs.OctetLaws.{put-none, put-front}
 use Rattle.rules.proofs.DescriptionLaws.{Accepted, accepted-good}
 use Rattle.rules.proofs.OutcomeLaws.{campus-short, campus-refused, campus-accepted}
@@ -21,22 +23,29 @@ use Rattle.octets.proofs.Ends.{put-fits}
 use Rattle.campus.specs.declared.switches.Named.{Named}
 use Rattle.campus.specs.declared.switches.Named.the-variants.{At, Nowhere}
 use Rattle.campus.specs.declared.reading.Reading.{Reading}
-use Rattle.campus.specs.Places.{between, switchesTo, switchBy, clockAt, entryValue, describedBy, readingOf, ReadDone}
-use Rattle.campus.specs.Steps.{Ran, LoopReady, RunReady, EntryReady}
+use Rattle.campus.specs.Places.{between, clockAt, clockFrom, entryValue, describedBy}
+use Rattle.campus.specs.Stores.{settingsAt, switchesIn, numberIn, Placed, Sound, wordsFor, Accepts, ReadDone}
+use Rattle.campus.specs.Steps.{Ran, LoopReady, RunReady, EntryReady, statesOf}
 use Rattle.campus.specs.Done.{CampusDone}
-use Rattle.campus.proofs.PartLaws.{between-is}
+use Rattle.campus.proofs.StoresLaws.{stores-sound, NamedAs, named-so}
+use Rattle.campus.proofs.AlikeLaws.{count-alike, Same, run-alike}
+use Rattle.campus.proofs.ReadLaws.{between-is}
 use Rattle.campus.proofs.LoopLaws.{trace-none}
 
 -- the clock's octets
-module _ (s starts : List ℕ) (n clock place : ℕ) where
-  pub clock-none : clock ≡ 0 → 0 ∷ 0 ∷ 0 ∷ 0 ∷ 0 ∷ 0 ∷ [] ≡ clockOf (describedBy s starts n clock place)
-  unfolding clockOf clockAt
-  clock-none e = rw (clockOf, clockAt, e)
+module _ (s : List ℕ) (clock : ℕ) where
+  pub clock-none : clock ≡ 0 → 0 ∷ 0 ∷ 0 ∷ 0 ∷ 0 ∷ 0 ∷ [] ≡ clockFrom s clock
+  unfolding clockFrom
+  clock-none e = rw e
 
-  module _ (six : length (clockOf (describedBy s starts n clock place)) ≡ 6) (h : clock ≡ 0 → ⊥) where
-    clock-some : clockOf (describedBy s starts n clock place) ≡ part s clock 6
-    unfolding clockOf clockAt
-    clock-some = rw (clockOf, clockAt, ne-eqb clock 0 h)
+  clock-is : (l : List Settings) (place : ℕ) → clockOf (describedBy s l clock place) ≡ clockFrom s clock
+  unfolding clockOf clockAt clockFrom
+  clock-is l place = by-test (eqb clock 0) (λ t. rw (clockOf, clockAt, clockFrom, t)) (λ f. rw (clockOf, clockAt, clockFrom, f))
+
+  module _ (six : length (clockFrom s clock) ≡ 6) (h : clock ≡ 0 → ⊥) where
+    clock-some : clockFrom s clock ≡ part s clock 6
+    unfolding clockFrom
+    clock-some = rw (ne-eqb clock 0 h)
 
     pub clock-within : clock + 6 ≤ length s
     clock-within =
@@ -47,8 +56,7 @@ module _ (s starts : List ℕ) (n clock place : ℕ) where
     pub clock-sum : (bound : ℕ) → length s < bound → clock + 6 < bound
     clock-sum bound fits = omega (arith, clock-within)
 
-    pub clock-copied : (c : List ℕ) → c ≡ putFitting (0 ∷ 0 ∷ 0 ∷ 0 ∷ 0 ∷ 0 ∷ []) 0 (take (clock + 6 - clock) (drop clock s))
-        → c ≡ clockOf (describedBy s starts n clock place)
+    pub clock-copied : (c : List ℕ) → c ≡ putFitting (0 ∷ 0 ∷ 0 ∷ 0 ∷ 0 ∷ 0 ∷ []) 0 (take (clock + 6 - clock) (drop clock s)) → c ≡ clockFrom s clock
     clock-copied c e =
         let zeros : List ℕ = 0 ∷ 0 ∷ 0 ∷ 0 ∷ 0 ∷ 0 ∷ [] in
         let q : clock + 6 - clock ≡ 6 = omega arith in
@@ -70,57 +78,102 @@ plain-none : (d : Described) → d .entry ≡ none → plainRun d ≡ []
 unfolding plainRun
 plain-none d e = rw (plainRun, e)
 
--- the run at its entry switch
-module _ (s starts : List ℕ) (n clock place start end : ℕ) (v trace : List ℕ) (at : EntryReady s starts n clock place start end v trace) where
+states-so : (s : List ℕ) (d : Described) → described s ≡ accepted d → statesOf s ≡ plainRun d
+unfolding statesOf
+states-so s d e = rw (statesOf, e)
+
+-- the stores that were read
+module _ (s w starts : List ℕ) (n clock place : ℕ) (trace : List ℕ) (ready : RunReady s w starts n clock place trace) where
+  abbrev l : List Settings
+  l = ready .read .switches
+
   abbrev d : Described
-  d = describedBy s starts n clock place
+  d = describedBy s l clock place
 
-  good : Accepted d
-  good = accepted-good s d (at .ready .is)
+  few-switches : n ≤ length starts
+  few-switches = omega (arith, accepted-good s d (ready .read .is) .few-switches, ready .read .count, ready .read .sixteen)
 
-  pub clock-six : length (clockOf (describedBy s starts n clock place)) ≡ 6
-  clock-six = good .six-clock
+  pub run-sound : Sound w starts n
+  run-sound = stores-sound w starts l (ready .read .stores) n (ready .read .count) (ready .read .span) few-switches
 
-  module _ (clock′ : List ℕ) (ec : clock′ ≡ clockOf (describedBy s starts n clock place)) (frame : List ℕ) (ef : frame ≡ between v 2 (length v)) where
-    frame-is : frame ≡ d .frame
+  pub run-placed : Placed w starts n
+  run-placed = run-sound .placed
+
+  -- where the entry switch is
+  module _ (v : List ℕ) (ev : v ≡ entryValue s place) (b : ℕ) (eb : b ≡ be16 v 0) (found : Named) (ef : found ≡ numberIn w starts n b) where
+    told : NamedAs w starts n found (switchNamed l (be16 v 0))
+    told = rw (ef, eb) (named-so w starts l n (be16 v 0) (ready .read .count) (ready .read .stores))
+
+    entry-is : d .entry ≡ switchNamed l (be16 v 0)
+    entry-is = rw (← ev)
+
+    pub run-unknown : found ≡ Nowhere → Ran (statesOf s) trace trace 0
+    run-unknown e = go (switchNamed l (be16 v 0)) refl (rw e at told)
+      where
+        go : (o : Option Settings) → switchNamed l (be16 v 0) ≡ o → NamedAs w starts n Nowhere (switchNamed l (be16 v 0)) → Ran (statesOf s) trace trace 0
+        go none q t =
+            let p = states-so s d (ready .read .is) ∙ plain-none d (entry-is ∙ q) in
+            record { counted = ap length (sym p); traced = sym (put-none trace 0) ∙ ap (put trace 0) (sym (ap traceOctets p ∙ trace-none)) }
+        go (some T) q t = absurd (rw q at t)
+
+    pub entry-ready : (first : ℕ) → found ≡ At first → EntryReady s w starts n clock place first v trace
+    entry-ready first e = go (switchNamed l (be16 v 0)) refl (rw e at told)
+      where
+        go : (o : Option Settings) → switchNamed l (be16 v 0) ≡ o → NamedAs w starts n (At first) (switchNamed l (be16 v 0)) → EntryReady s w starts n clock place first v trace
+        go none q t = absurd (rw q at t)
+        go (some T) q t =
+            let u : (first < n) × (waysOf T ≡ waysOf (settingsAt w starts first)) = rw q at t in
+            record { ready = ready; value = ev; within = u .0; entry = T; entered = q; same = u .1 }
+
+pub run-value : (s w starts : List ℕ) (n clock place : ℕ) (trace : List ℕ) → RunReady s w starts n clock place trace → (bound : ℕ) → length s < bound → place + 3 < bound
+run-value s w starts n clock place trace ready bound h = omega (arith, ready .read .placed)
+
+pub ruleset run-laws = (needs, run-placed, run-unknown, entry-ready, run-value)
+
+-- the run at its entry switch
+module _ (s w starts : List ℕ) (n clock place first : ℕ) (v trace : List ℕ) (at : EntryReady s w starts n clock place first v trace) where
+  abbrev m : List Settings
+  m = at .ready .read .switches
+
+  abbrev e : Described
+  e = describedBy s m clock place
+
+  good : Accepted e
+  good = accepted-good s e (at .ready .read .is)
+
+  pub clock-six : length (clockFrom s clock) ≡ 6
+  clock-six = rw (← clock-is s clock m place) (good .six-clock)
+
+  module _ (clock′ : List ℕ) (ec : clock′ ≡ clockFrom s clock) (frame : List ℕ) (ef : frame ≡ between v 2 (length v)) where
+    frame-is : frame ≡ e .frame
     frame-is = ef ∙ between-drop v ∙ ap (drop 2) (at .value)
 
-    plain : plainRun d ≡ runFrom handlingsMost (switchesTo s starts n place) clock′ (settingsRead (between s start end)) original frame
-    plain = rw (ec, frame-is) (plain-run d (settingsRead (between s start end)) (at .entered))
+    plain : plainRun e ≡ runFrom handlingsMost m clock′ (at .entry) original frame
+    plain = rw (ec, ← clock-is s clock m place, frame-is) (plain-run e (at .entry) (rw (← at .value) (at .entered)))
 
-    pub loop-ready : LoopReady starts n (switchesTo s starts n place) clock′ frame (settingsRead (between s start end)) trace
+    same : Same (plainRun e) (runFrom handlingsMost (switchesIn w starts n) clock′ (settingsAt w starts first) original frame)
+    same =
+        rw plain
+        (run-alike handlingsMost m (switchesIn w starts n) (count-alike w starts m n (at .ready .read .count) (at .ready .read .stores)) clock′ (at .entry) (settingsAt w starts first) (at .same) original frame)
+
+    pub loop-ready : LoopReady w starts n first clock′ frame trace
     loop-ready =
         record {
-          within = at .ready .within;
+          sound = run-sound s w starts n clock place trace (at .ready);
+          within = at .within;
           six = rw ec clock-six;
           short = rw frame-is (good .short-frame);
-          most = rw (← plain) (plain-most d good);
+          most = omega (arith, same .count, plain-most e good);
           room = at .ready .room;
         }
 
-    pub run-plain : (trace′ : List ℕ) (r : ℕ)
-        → Ran (runFrom handlingsMost (switchesTo s starts n place) clock′ (settingsRead (between s start end)) original frame) trace trace′ r
-        → Ran (plainRun (describedBy s starts n clock place)) trace trace′ r
-    run-plain trace′ r ran = rw plain ran
+    pub run-plain : (trace′ : List ℕ) (r : ℕ) → Ran (runFrom handlingsMost (switchesIn w starts n) clock′ (settingsAt w starts first) original frame) trace trace′ r
+        → Ran (statesOf s) trace trace′ r
+    run-plain trace′ r ran =
+        rw (states-so s e (at .ready .read .is))
+        (record { counted = ran .counted ∙ sym (same .count); traced = ran .traced ∙ ap (put trace 0) (sym (same .trace)) })
 
 pub ruleset run-at-laws = (needs, clock-six, loop-ready, run-plain)
-
--- where its entry switch is
-module _ (s starts : List ℕ) (n clock place : ℕ) (trace : List ℕ) (ready : RunReady s starts n clock place trace)
-    (v : List ℕ) (ev : v ≡ entryValue s place) (b : ℕ) (eb : b ≡ be16 v 0)
-    (found : Named) (ef : switchBy s found ≡ switchNamed (switchesTo s starts n place) b) where
-  entry-is : describedBy s starts n clock place .entry ≡ switchBy s found
-  entry-is = rw (← ev, ← eb) (sym ef)
-
-  pub run-unknown : found ≡ Nowhere → Ran (plainRun (describedBy s starts n clock place)) trace trace 0
-  run-unknown e =
-      let p = plain-none (describedBy s starts n clock place) (entry-is ∙ ap (switchBy s) e) in
-      record { counted = ap length (sym p); traced = sym (put-none trace 0) ∙ ap (put trace 0) (sym (ap traceOctets p ∙ trace-none)) }
-
-  pub entry-ready : (start end : ℕ) → found ≡ At start end → EntryReady s starts n clock place start end v trace
-  entry-ready start end e = record { ready = ready; value = ev; entered = entry-is ∙ ap (switchBy s) e }
-
-pub ruleset run-laws = (needs, run-unknown, entry-ready)
 
 -- the outcome, by the room and the description
 module _ (file trace : List ℕ) where
@@ -138,32 +191,31 @@ module _ (file trace : List ℕ) where
   pub done-short : length trace < 640 → CampusDone file trace trace 49 0
   done-short h = refusal-done 49 (campus-short file (length trace) h)
 
-  module _ (h : 640 ≤ length trace) (starts : List ℕ) (r : Reading) (read : ReadDone file starts r) where
-    reading-no : (r .code ≡ 0 → ⊥) → readingOf file starts r ≡ refused (r .code)
-    unfolding readingOf
-    reading-no z = rw (ne-eqb (r .code) 0 z)
-
-    reading-yes : r .code ≡ 0 → readingOf file starts r ≡ accepted (describedBy file starts (r .n) (r .clock) (r .place))
-    unfolding readingOf
-    reading-yes z = rw (eq-eqb (r .code) 0 z)
-
+  module _ (h : 640 ≤ length trace) (w starts : List ℕ) (r : Reading) (read : ReadDone file w starts r) where
     pub done-refused : (r .code ≡ 0 → ⊥) → CampusDone file trace trace (r .code) 0
-    done-refused z = refusal-done (r .code) (campus-refused file (length trace) h (r .code) (sym (read .told) ∙ reading-no z))
+    done-refused z = refusal-done (r .code) (campus-refused file (length trace) h (r .code) (sym (read .refuses z)))
 
     module _ (z : r .code ≡ 0) where
-      is-accepted : described file ≡ accepted (describedBy file starts (r .n) (r .clock) (r .place))
-      is-accepted = sym (read .told) ∙ reading-yes z
+      pub run-ready : RunReady file w starts (r .n) (r .clock) (r .place) trace
+      run-ready = record { read = read .accepts z; room = h }
 
-      pub run-ready : length starts ≡ 16 → RunReady file starts (r .n) (r .clock) (r .place) trace
-      run-ready l = record { is = is-accepted; within = omega (arith, read .few, l); placed = read .placed z; room = h }
-
-      pub done-run : (trace′ : List ℕ) (count : ℕ) → Ran (plainRun (describedBy file starts (r .n) (r .clock) (r .place))) trace trace′ count
-          → CampusDone file trace trace′ 0 count
+      pub done-run : (trace′ : List ℕ) (count : ℕ) → Ran (statesOf file) trace trace′ count → CampusDone file trace trace′ 0 count
       done-run trace′ count ran =
-          let o = campus-accepted file (length trace) h (describedBy file starts (r .n) (r .clock) (r .place)) is-accepted in
+          let d = describedBy file (read .accepts z .switches) (r .clock) (r .place) in
+          let o = campus-accepted file (length trace) h d (read .accepts z .is) in
+          let p = states-so file d (read .accepts z .is) in
           done-so trace′ 0 count
           (sym (ap (λ (x : Outcome). x .code) o))
-          (ran .counted ∙ sym (ap (λ (x : Outcome). x .count) o))
-          (ran .traced ∙ ap (λ (x : Outcome). put trace 0 (x .trace)) (sym o))
+          (ran .counted ∙ ap length p ∙ sym (ap (λ (x : Outcome). x .count) o))
+          (ran .traced ∙ ap (λ (x : List State). put trace 0 (traceOctets x)) p ∙ ap (λ (x : Outcome). put trace 0 (x .trace)) (sym o))
 
-pub ruleset campus-run-laws = (needs, done-short, done-refused, run-ready, done-run)
+pub ruleset run-in-laws = (needs, done-refused, run-ready, done-run)
+
+-- words enough
+pub words-few : (octets : ℕ) → octets ≤ 250 → wordsFor octets ≤ length {A = ℕ} (replicate 256 0)
+words-few octets h = rw (le-leb octets 250 h, length-replicate {A = ℕ} 256 0) (omega arith)
+
+pub words-many : (octets : ℕ) → 250 < octets → wordsFor octets ≤ length {A = ℕ} (replicate 2118 0)
+words-many octets h = rw (lt-leb octets 250 h, length-replicate {A = ℕ} 2118 0) (omega arith)
+
+pub ruleset campus-run-laws = (needs, done-short, words-few, words-many)

@@ -1,9 +1,10 @@
-pub mod PartLaws
-pub mod RecordLaws
 pub mod SwitchLaws
+pub mod StoresLaws
+pub mod TakeLaws
 pub mod ReadLaws
 pub mod StepLaws
 pub mod LoopLaws
+pub mod AlikeLaws
 pub mod DoneLaws
 pub mod PrintLaws
 pub mod TextLaws

@@ -10,7 +10,7 @@ use borrow.Author.Needs.{needs}
 use lib.ListN.{length, take, replicate, length-append, length-replicate}
 use lib.Seq.{length-take-le}
 use Rattle.rules.specs.Octets.{put}
-use Rattle.rules.specs.Settings.{Settings, settingsRead}
+use Rattle.rules.specs.Settings.{Settings}
 use Rattle.rules.specs.Handling.{handling}
 use Rattle.rules.specs.Campus.{switchNamed, Kind, original, State, kindAfter, runFrom, handlingsMost, entryOctets, traceOctets}
 use Rattle.octets.specs.Copy.{putFitting}
@@ -19,8 +19,8 @@ use Rattle.rules.proofs.OctetLaws.{length-put, put-put, put-none, take-put}
 use Rattle.rules.proofs.RunLaws.{run-over, run-left, run-on, length-trace}
 use Rattle.campus.specs.declared.running.Onward.{Onward}
 use Rattle.campus.specs.declared.running.Onward.the-variants.{To, Ends}
-use Rattle.campus.specs.Places.{between}
-use Rattle.campus.specs.Steps.{kindBy, Goes, stops, goes, goesBy, towardsBy, goesOn, StepReady, stateOf, Stepped, Ran, LoopReady}
+use Rattle.campus.specs.Stores.{settingsAt, switchesIn}
+use Rattle.campus.specs.Steps.{kindBy, Goes, stops, goes, goesBy, Within, towardsBy, goesOn, StepReady, stateOf, Stepped, Ran, LoopReady}
 
 -- the run by where its first frame goes
 module _ (switches : List Settings) (clock : List ℕ) (m : ℕ) (S : Settings) (kind : Kind) (f : List ℕ) where
@@ -104,35 +104,38 @@ module _ (buffer buffer′ s : List ℕ) (e : buffer′ ≡ putFitting buffer 0 
   copied-begins = rw copied (take-put buffer s)
 
 -- what the loop keeps
-pub record RunSoFar (s : List ℕ) (switches : List Settings) (clock frame : List ℕ) (S : Settings) (trace₀ trace cur next : List ℕ)
-    (size from to : ℕ) (replied : Bool) (k : ℕ) : Type 0 where
+pub record RunSoFar (w starts : List ℕ) (n first : ℕ) (clock frame trace₀ trace cur next : List ℕ) (size i : ℕ) (replied : Bool) (k : ℕ) : Type 0 where
   pub done : List State
   pub long : length done ≡ k
   pub is : trace ≡ put trace₀ 0 (traceOctets done)
-  pub rest : done ++ runFrom (128 - k) switches clock (settingsRead (between s from to)) (kindBy replied) (take size cur)
-      ≡ runFrom handlingsMost switches clock S original frame
+  pub rest : done ++ runFrom (128 - k) (switchesIn w starts n) clock (settingsAt w starts i) (kindBy replied) (take size cur)
+      ≡ runFrom handlingsMost (switchesIn w starts n) clock (settingsAt w starts first) original frame
+  pub within : i < n
   pub most : k ≤ 80
   pub small : size ≤ 2048
   pub cur-long : length cur ≡ 2048
   pub next-long : length next ≡ 2048
   pub same : length trace ≡ length trace₀
 
-module _ (s starts : List ℕ) (n : ℕ) (switches : List Settings) (clock frame : List ℕ) (start end : ℕ) (trace₀ : List ℕ)
-    (ready : LoopReady starts n switches clock frame (settingsRead (between s start end)) trace₀) where
+module _ (w starts : List ℕ) (n first : ℕ) (clock frame trace₀ : List ℕ) (ready : LoopReady w starts n first clock frame trace₀) where
+  abbrev switches : List Settings
+  switches = switchesIn w starts n
+
   abbrev whole : List State
-  whole = runFrom handlingsMost switches clock (settingsRead (between s start end)) original frame
+  whole = runFrom handlingsMost (switchesIn w starts n) clock (settingsAt w starts first) original frame
 
   zeros-room : length frame ≤ length {A = ℕ} (replicate 2048 0)
   zeros-room = rw (length-replicate {A = ℕ} 2048 0) (ready .short)
 
   pub run-begins : (cur : List ℕ) → cur ≡ putFitting (replicate 2048 0) 0 frame
-      → RunSoFar s switches clock frame (settingsRead (between s start end)) trace₀ trace₀ cur (replicate 2048 0) (length frame) start end false 0
+      → RunSoFar w starts n first clock frame trace₀ trace₀ cur (replicate 2048 0) (length frame) first false 0
   run-begins cur e =
       record {
         done = [];
         long = refl;
         is = sym (put-none trace₀ 0) ∙ ap (put trace₀ 0) (sym trace-none);
         rest = rw (copied-begins (replicate 2048 0) cur frame e zeros-room);
+        within = ready .within;
         most = omega arith;
         small = ready .short;
         cur-long = copied-long (replicate 2048 0) cur frame e zeros-room ∙ length-replicate {A = ℕ} 2048 0;
@@ -140,13 +143,12 @@ module _ (s starts : List ℕ) (n : ℕ) (switches : List Settings) (clock frame
         same = refl;
       }
 
-  module _ (trace cur next : List ℕ) (size from to : ℕ) (replied : Bool) (k : ℕ)
-      (l : RunSoFar s switches clock frame (settingsRead (between s start end)) trace₀ trace cur next size from to replied k) where
+  module _ (trace cur next : List ℕ) (size i : ℕ) (replied : Bool) (k : ℕ) (l : RunSoFar w starts n first clock frame trace₀ trace cur next size i replied k) where
     pub run-full : 80 ≤ k → Ran whole trace₀ trace k
     run-full h =
-        let left = runFrom (128 - k) switches clock (settingsRead (between s from to)) (kindBy replied) (take size cur) in
-        let n : length left ≡ 0 = omega (arith, sym (length-append (l .done) left) ∙ ap length (l .rest), ready .most, l .long) in
-        let all : l .done ≡ whole = sym (append-nil (l .done)) ∙ ap (λ (t : List State). l .done ++ t) (sym (no-more left n)) ∙ l .rest in
+        let left = runFrom (128 - k) switches clock (settingsAt w starts i) (kindBy replied) (take size cur) in
+        let none : length left ≡ 0 = omega (arith, sym (length-append (l .done) left) ∙ ap length (l .rest), ready .most, l .long) in
+        let all : l .done ≡ whole = sym (append-nil (l .done)) ∙ ap (λ (t : List State). l .done ++ t) (sym (no-more left none)) ∙ l .rest in
         record { counted = sym (l .long) ∙ ap length all; traced = l .is ∙ ap (λ (t : List State). put trace₀ 0 (traceOctets t)) all }
 
     frame-is : length (take size cur) ≡ size
@@ -165,16 +167,17 @@ module _ (s starts : List ℕ) (n : ℕ) (switches : List Settings) (clock frame
     next-whole = sym (l .next-long)
 
     abbrev T : Settings
-    T = settingsRead (between s from to)
+    T = settingsAt w starts i
 
     abbrev state : State
     state = stateOf clock T (kindBy replied) (take size cur)
 
     module _ (more : k < 80) where
-      pub step-ready : StepReady starts n clock (take size cur) next trace k
+      pub step-ready : StepReady w starts n i clock (take size cur) next trace k
       step-ready =
           record {
-            within = ready .within;
+            sound = ready .sound;
+            within = l .within;
             six = ready .six;
             short = rw frame-is (l .small);
             room = omega (arith, l .next-long);
@@ -184,14 +187,14 @@ module _ (s starts : List ℕ) (n : ℕ) (switches : List Settings) (clock frame
       fuel : 128 - k ≡ suc (128 - (k + 1))
       fuel = omega arith
 
-      module _ (r : Onward) (next′ trace′ : List ℕ) (did : Stepped s switches k state next next′ trace trace′ r) where
+      module _ (r : Onward) (next′ trace′ : List ℕ) (did : Stepped w starts n k state next next′ trace trace′ r) where
         entered : trace′ ≡ put trace₀ 0 (traceOctets (l .done ++ (state ∷ [])))
         entered =
-            let n : length (traceOctets (l .done)) ≡ 8 * length (l .done) = length-trace (l .done) in
+            let long : length (traceOctets (l .done)) ≡ 8 * length (l .done) = length-trace (l .done) in
             did .traced
             ∙ rw (l .is, trace-snoc (l .done) state)
-            (put-put trace₀ 0 (traceOctets (l .done)) (omega (arith, n, l .long, ready .room)) (k * 8) (entryOctets state)
-            (omega (arith, n, l .long)) (omega (arith, entry-length state, ready .room)))
+            (put-put trace₀ 0 (traceOctets (l .done)) (omega (arith, long, l .long, ready .room)) (k * 8) (entryOctets state)
+            (omega (arith, long, l .long)) (omega (arith, entry-length state, ready .room)))
 
         pub trace-same : length trace′ ≡ length trace₀
         trace-same = rw (did .traced) (length-put trace (k * 8) (entryOctets state) (omega (arith, entry-length state, ready .room, l .same)) ∙ l .same)
@@ -201,19 +204,19 @@ module _ (s starts : List ℕ) (n : ℕ) (switches : List Settings) (clock frame
 
         pub run-ends : r ≡ Ends → Ran whole trace₀ trace′ (k + 1)
         run-ends e =
-            let q = sym (did .onward) ∙ ap (goesBy s) e in
+            let q = sym (did .onward) ∙ ap (goesBy w starts) e in
             let all : l .done ++ (state ∷ []) ≡ whole =
             ap (λ (t : List State). l .done ++ t) (sym (run-stops switches clock (128 - (k + 1)) T (kindBy replied) (take size cur) q))
             ∙ (rw fuel at (l .rest)) in
             record { counted = sym one-more ∙ ap length all; traced = entered ∙ ap (λ (t : List State). put trace₀ 0 (traceOctets t)) all }
 
-        module _ (from′ to′ : ℕ) (replied′ : Bool) (size′ : ℕ) (e : r ≡ To from′ to′ replied′ size′) where
+        module _ (i′ : ℕ) (replied′ : Bool) (size′ : ℕ) (e : r ≡ To i′ replied′ size′) where
           onward : (size′ ≡ length (state .answer .octets))
               × (runFrom (suc (128 - (k + 1))) switches clock T (kindBy replied) (take size cur)
-              ≡ state ∷ runFrom (128 - (k + 1)) switches clock (settingsRead (between s from′ to′)) (kindBy replied′) (state .answer .octets))
+              ≡ state ∷ runFrom (128 - (k + 1)) switches clock (settingsAt w starts i′) (kindBy replied′) (state .answer .octets))
           onward =
-              run-goes switches clock (128 - (k + 1)) T (kindBy replied) (take size cur) (settingsRead (between s from′ to′)) (kindBy replied′) size′
-              (sym (did .onward) ∙ ap (goesBy s) e)
+              run-goes switches clock (128 - (k + 1)) T (kindBy replied) (take size cur) (settingsAt w starts i′) (kindBy replied′) size′
+              (sym (did .onward) ∙ ap (goesBy w starts) e)
 
           next-same : length next′ ≡ 2048
           next-same = rw (did .wrote) (length-put next 0 (state .answer .octets) (omega (arith, did .fits, l .next-long)) ∙ l .next-long)
@@ -231,7 +234,7 @@ module _ (s starts : List ℕ) (n : ℕ) (switches : List Settings) (clock frame
           sent = rw (onward .0, did .wrote) (take-put next (state .answer .octets))
 
           pub run-on-with : (cur′ : List ℕ) → cur′ ≡ putFitting cur 0 (take size′ next′)
-              → RunSoFar s switches clock frame (settingsRead (between s start end)) trace₀ trace′ cur′ next′ size′ from′ to′ replied′ (k + 1)
+              → RunSoFar w starts n first clock frame trace₀ trace′ cur′ next′ size′ i′ replied′ (k + 1)
           run-on-with cur′ c =
               let room : length (take size′ next′) ≤ length cur = rw (← next-part) (omega (arith, size-small, l .cur-long)) in
               let begins : take size′ cur′ ≡ state .answer .octets = (rw (← next-part) at (copied-begins cur cur′ (take size′ next′) c room)) ∙ sent in
@@ -240,6 +243,7 @@ module _ (s starts : List ℕ) (n : ℕ) (switches : List Settings) (clock frame
                 long = one-more;
                 is = entered;
                 rest = rw (begins, append-assoc (l .done)) (ap (λ (t : List State). l .done ++ t) (sym (rw fuel (onward .1))) ∙ l .rest);
+                within = rw e at (did .within);
                 most = omega arith;
                 small = size-small;
                 cur-long = copied-long cur cur′ (take size′ next′) c room ∙ l .cur-long;

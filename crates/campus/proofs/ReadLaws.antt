@@ -1,18 +1,20 @@
--- What the loop over a description's fields keeps, from the first field to the verdict: the places read so far stand for the switches, and the
--- rest of the fields decides as the whole does. By one law of fields and of descriptions for each step. Assumes nothing.
+-- What the loop over a description's fields keeps, from the first field to the verdict: the words stand for the switches read so far, and the rest of
+-- the fields decides as the whole does. By one law of fields and of descriptions for each step. Assumes nothing.
 use mathlib.Core.Path.{_≡_, refl, sym, ap, _∙_}
-use mathlib.Core.List.{List, [], _∷_, foldl}
-use mathlib.Core.Bool.{true, false, not}
+use mathlib.Core.List.{List, [], _∷_}
+use mathlib.Core.Bool.{Bool, true, false, not}
+use mathlib.Core.Logic.{_⊎_, inl, inr}
 use mathlib.Core.Option.{Option, none, some}
-use Prim.Native.Nat.{ℕ, zero, suc, _+_, _-_, _<_, _≤_}
+use Prim.Native.Nat.{ℕ, suc, _+_, _-_, _*_, _<_, _≤_}
 use native.Mathlib.Omega.{arith}
-use borrow.Author.Tests.{eq-eqb, ne-eqb, eqb-true, le-leb, lt-leb, le-ltb, lt-ltb, ltb-true, leb-true, leb-false, not-false}
+use borrow.Author.Needs.{needs}
+use borrow.Author.Tests.{eq-eqb, ne-eqb, eqb-true, eqb-false, le-leb, lt-leb, le-ltb, lt-ltb, ltb-true, leb-true, leb-false, not-false}
 use lib.Dec.{leb, eqb}
-use lib.ListN.{length, getD, set, drop, length-set}
-use lib.Seq.{getD-set-same, getD-set-other}
-use Rattle.rules.specs.Octets.{be16, part}
+use lib.ListN.{length, drop, length-append}
+use Rattle.rules.specs.Octets.{if_then_else_, be16, part}
 use Rattle.rules.specs.Fields.{Field, field, cut, fieldAt, fieldsFrom, fields, lengthGood}
-use Rattle.rules.specs.Settings.{Settings, switchOf, withField, settingsRead}
+use Rattle.rules.specs.Settings as S
+use Rattle.rules.specs.Settings.{Settings, switchOf, withField}
 use Rattle.rules.specs.Campus.{Described, switchNamed, known, placeGood, valueGood, nicknameNew, roomGood, serialNew, entryKnown, fieldRefusal, onLatest, withNext, refused, accepted, describedFrom, described, fileMost}
 use Rattle.rules.specs.declared.FieldRead.{FieldRead}
 use Rattle.rules.specs.declared.FieldRead.the-variants.{Taken, Cut}
@@ -21,106 +23,15 @@ use Rattle.rules.proofs.FrameLaws.{none-given}
 use Rattle.rules.proofs.OctetLaws.{length-part}
 use Rattle.rules.proofs.FieldLaws.{field-read, fields-end, fields-cut, fields-on}
 use Rattle.rules.proofs.DescriptionLaws.{described-end, described-none, described-on, described-refused}
+use Rattle.handler.proofs.Taken.{taken}
 use Rattle.campus.specs.declared.reading.Reading.{Reading}
-use Rattle.campus.specs.Places.{between, switchesTo, clockAt, readBy, entryValue, describedBy, codeAfter, clockedBy, openedBy, startsBy, readingOf, ReadDone}
-use Rattle.campus.proofs.PartLaws.{between-is, length-between, field-in, value-in}
-use Rattle.campus.proofs.RecordLaws.{read-on}
-use Rattle.campus.proofs.SwitchLaws.{switches-none, switches-more, length-switches}
+use Rattle.campus.specs.Places.{between, clockAt, entryValue, describedBy, codeAfter, clockedBy, countedBy}
+use Rattle.campus.specs.Stores.{endOf, spanOf, Stores, Kept, soFar, Took, wordsFor, Accepts, ReadDone}
+use Rattle.campus.proofs.StoresLaws.{span-none, span-more, span-most, end-is, stores-sound}
 
--- the settings read from `start` to `end`, as the fields from `at` on give them from `S`
-pub record Past (s : List ℕ) (start at end : ℕ) (S : Settings) : Type 0 where
-  pub fuel : ℕ
-  pub enough : end ≤ at + fuel
-  pub gives : settingsRead (between s start end) ≡ foldl withField S (fieldsFrom (suc fuel) (between s start end) (at - start))
-
--- a field ends at `at`, so that what is read from `start` to there goes on from there
-pub record Boundary (s : List ℕ) (start at : ℕ) : Type 0 where
-  pub before : start ≤ at
-  pub within : at ≤ length s
-  pub past : (end : ℕ) → at ≤ end → end ≤ length s → Past s start at end (settingsRead (between s start at))
-
--- once a field is read
-record Next (s : List ℕ) (start at : ℕ) (S : Settings) : Type 0 where
-  pub is : settingsRead (between s start at) ≡ S
-  pub boundary : Boundary s start at
-
-next-from : (s : List ℕ) (start at : ℕ) (S : Settings) → start ≤ at → at ≤ length s → ((end : ℕ) → at ≤ end → end ≤ length s → Past s start at end S) → Next s start at S
-next-from s start at S before within past =
-    record { is = is; boundary = record { before = before; within = within; past = λ end h w. rw is (past end h w) } }
-  where
-    is : settingsRead (between s start at) ≡ S
-    is =
-        let p = past at (omega arith) within in
-        p .gives ∙ ap (foldl withField S) (fields-end (p .fuel) (between s start at) (at - start) (omega (arith, length-between s start at before within)))
-
-module _ (s : List ℕ) (at tag size next : ℕ) (e : fieldAt s at ≡ Taken tag size next) where
-  -- a switch's first field
-  opening : Next s at next (switchOf (part s (at + 3) size))
-  opening =
-      let i = field-read s at tag size next e in
-      next-from s at next (switchOf (part s (at + 3) size)) (omega (arith, i)) (i .within) past
-    where
-      past : (end : ℕ) → next ≤ end → end ≤ length s → Past s at next end (switchOf (part s (at + 3) size))
-      past end h w =
-          let i = field-read s at tag size next e in
-          let order : at ≤ end = omega (arith, i) in
-          let z : at + 0 ≡ at = omega arith in
-          let e0 : fieldAt s (at + 0) ≡ Taken tag size next = rw z e in
-          let l = length-between s at end order w in
-          let v : part (between s at end) 3 size ≡ part s (at + 3) size = value-in s at end order w 0 tag size next e0 h ∙ ap (λ (x : ℕ). part s (x + 3) size) z in
-          let k : next - at - 3 ≡ size = omega (arith, i) in
-          let less : suc (end - at - 1) ≡ length (between s at end) = omega (arith, i, l) in
-          record {
-            fuel = end - at - 1;
-            enough = omega (arith, i);
-            gives = rw less (read-on (between s at end) (field-in s at end order w 0 tag size next e0 h) ∙ rw (k, v));
-          }
-
-  -- a further field of it
-  reading-on : (start : ℕ) → Boundary s start at → Next s start next (withField (settingsRead (between s start at)) (field tag (part s (at + 3) size)))
-  reading-on start b =
-      let i = field-read s at tag size next e in
-      next-from s start next (withField (settingsRead (between s start at)) (field tag (part s (at + 3) size))) (omega (arith, i, b .before)) (i .within) past
-    where
-      past : (end : ℕ) → next ≤ end → end ≤ length s → Past s start next end (withField (settingsRead (between s start at)) (field tag (part s (at + 3) size)))
-      past end h w =
-          let i = field-read s at tag size next e in
-          let p = b .past end (omega (arith, i)) w in
-          let order : start ≤ end = omega (arith, i, b .before) in
-          let z : start + (at - start) ≡ at = omega (arith, b .before) in
-          let e0 : fieldAt s (start + (at - start)) ≡ Taken tag size next = rw z e in
-          let l = length-between s start end order w in
-          let v : part (between s start end) (at - start + 3) size ≡ part s (at + 3) size = value-in s start end order w (at - start) tag size next e0 h ∙ ap (λ (x : ℕ). part s (x + 3) size) z in
-          let less : suc (p .fuel - 1) ≡ p .fuel = omega (arith, i, p .enough) in
-          record {
-            fuel = p .fuel - 1;
-            enough = omega (arith, i, p .enough);
-            gives = rw (less, ← v) (p .gives ∙ ap (foldl withField (settingsRead (between s start at))) (fields-on (p .fuel) (between s start end) (at - start) tag size (next - start) (omega (arith, i, l, b .before)) (field-in s start end order w (at - start) tag size next e0 h)));
-          }
-
--- a place behind the first n changes nothing
-switches-set : (s starts : List ℕ) (n a m end : ℕ) → m ≤ n → switchesTo s (set starts n a) m end ≡ switchesTo s starts m end
-switches-set s starts n a zero end h = switches-none s (set starts n a) end ∙ sym (switches-none s starts end)
-switches-set s starts n a (suc m) end h =
-    let same : getD (set starts n a) m 0 ≡ getD starts m 0 = getD-set-other starts n m a 0 (λ e. absurd (omega arith)) in
-    switches-more s (set starts n a) m end ∙ rw same (ap (λ (l : List Settings). settingsRead (between s (getD starts m 0) end) ∷ l) (switches-set s starts n a m (getD starts m 0) (omega arith))) ∙ sym (switches-more s starts m end)
-
--- the latest switch with one more field, or without a change
-module _ (s starts : List ℕ) (at tag size next : ℕ) (e : fieldAt s at ≡ Taken tag size next) where
-  latest-with : (n : ℕ) → ((m : ℕ) → n ≡ suc m → Boundary s (getD starts m 0) at)
-      → switchesTo s starts n next ≡ onLatest (λ S. withField S (field tag (part s (at + 3) size))) (switchesTo s starts n at)
-  latest-with zero b = rw (switches-none s starts next, switches-none s starts at)
-  latest-with (suc m) b =
-      rw (switches-more s starts m next, switches-more s starts m at)
-      (ap (λ (S : Settings). S ∷ switchesTo s starts m (getD starts m 0)) (reading-on s at tag size next e (getD starts m 0) (b m refl) .is))
-
-passed-over : (S : Settings) (tag : ℕ) (v : List ℕ) → tag ≡ 4 → withField S (field tag v) ≡ S
-unfolding withField
-passed-over S tag v e = rw e
-
-on-same : (tag : ℕ) (v : List ℕ) (l : List Settings) → tag ≡ 4 → onLatest (λ S. withField S (field tag v)) l ≡ l
-on-same tag v [] e = refl
-on-same tag v (S ∷ l) e = ap (λ (T : Settings). T ∷ l) (passed-over S tag v e)
+pub between-is : (s : List ℕ) (start end : ℕ) → start ≤ end → end ≤ length s → between s start end ≡ part s start (end - start)
+unfolding between
+between-is s start end order within = rw (le-leb start end order, le-leb end (length s) within)
 
 -- what a field that is not refused says
 record Passed (d : Described) (tag : ℕ) (v : List ℕ) : Type 0 where
@@ -205,181 +116,294 @@ module _ (s : List ℕ) (at : ℕ) (h : at < length s) (d : Described) (k : know
           (λ b. refuses (field tag (part s (at + 3) size)) (fieldsFrom g s next) 43 (fields-on g s at tag size next h e) (refusal-place d tag (part s (at + 3) size) (rw l b) k) (code-place s at h tag size next e b) (λ q. absurd (omega (arith, q))))
           (λ b. refuses (field tag (part s (at + 3) size)) (fieldsFrom g s next) 42 (fields-on g s at tag size next h e) (refusal-length d tag (part s (at + 3) size) (rw l b)) (code-length s at h tag size next e b) (λ q. absurd (omega (arith, q))))
 
+clock-known : (s : List ℕ) (clock : ℕ) → known (clockAt s clock) ≡ not (eqb clock 0)
+unfolding clockAt
+clock-known s clock = by-test (eqb clock 0) (λ e. rw e) (λ e. rw e)
+
+-- the switches with one more field
+module _ (l : List Settings) (c : Option (List ℕ)) (tag : ℕ) (v : List ℕ) where
+  abbrev after : List Settings
+  after = withNext (soFar l c) (field tag v) .switches
+
+  next-1 : tag ≡ 1 → withNext (soFar l c) (field tag v) ≡ soFar (switchOf v ∷ l) c
+  unfolding withNext
+  next-1 e = rw e
+
+  next-4 : tag ≡ 4 → withNext (soFar l c) (field tag v) ≡ soFar l (some v)
+  unfolding withNext
+  next-4 e = rw e
+
+  next-5 : tag ≡ 5 → withNext (soFar l c) (field tag v) ≡ record { switches = l; clock = c; entry = switchNamed l (be16 v 0); frame = drop 2 v }
+  unfolding withNext
+  next-5 e = rw e
+
+  next-other : (tag ≡ 1 → ⊥) → (tag ≡ 4 → ⊥) → (tag ≡ 5 → ⊥) → withNext (soFar l c) (field tag v) ≡ soFar (onLatest (λ T. withField T (field tag v)) l) c
+  unfolding withNext
+  next-other x y z = rw (ne-eqb tag 1 x, ne-eqb tag 4 y, ne-eqb tag 5 z)
+
+  after-1 : eqb tag 1 ≡ true → after ≡ switchOf v ∷ l
+  after-1 a = ap (λ (x : Described). x .switches) (next-1 (eqb-true tag 1 a))
+
+  after-other : eqb tag 1 ≡ false → (after ≡ l) ⊎ (after ≡ onLatest (λ T. withField T (field tag v)) l)
+  after-other a =
+      by-test (eqb tag 4) (λ b. inl (ap (λ (x : Described). x .switches) (next-4 (eqb-true tag 4 b)))) (λ b.
+      by-test (eqb tag 5) (λ e. inl (ap (λ (x : Described). x .switches) (next-5 (eqb-true tag 5 e)))) (λ e.
+      inr (ap (λ (x : Described). x .switches) (next-other (eqb-false tag 1 a) (eqb-false tag 4 b) (eqb-false tag 5 e)))))
+
+  on-long : (change : Settings → Settings) (m : List Settings) → length (onLatest change m) ≡ length m
+  on-long change [] = refl
+  on-long change (T ∷ m) = refl
+
+  other-long : eqb tag 1 ≡ false → length after ≡ length l
+  other-long a = go (after-other a)
+    where
+      go : (after ≡ l) ⊎ (after ≡ onLatest (λ T. withField T (field tag v)) l) → length after ≡ length l
+      go (inl e) = ap length e
+      go (inr e) = ap length e ∙ on-long (λ T. withField T (field tag v)) l
+
+  pub after-count : length after ≡ countedBy (length l) tag
+  unfolding countedBy
+  after-count = by-test (eqb tag 1) (λ a. ap length (after-1 a) ∙ rw a (omega arith)) (λ a. other-long a ∙ rw a)
+
+  hops-with : (T : Settings) → length (withField T (field tag v) .hops) ≤ length (T .hops) + 1
+  unfolding withField
+  hops-with T =
+      by-test (eqb tag 2) (λ a. rw (a, length-append (T .hops)) (omega arith)) (λ a.
+      by-test (eqb tag 3) (λ b. rw (a, b) (omega arith)) (λ b. rw (a, b) (omega arith)))
+
+  on-span : (m : List Settings) → spanOf (onLatest (λ T. withField T (field tag v)) m) ≤ spanOf m + 3
+  on-span [] = omega (arith, span-none)
+  on-span (T ∷ m) = omega (arith, span-more T m, span-more (withField T (field tag v)) m, hops-with T)
+
+  eight-long : (k : ℕ) → lengthGood 1 k ≡ true → k ≡ 8
+  unfolding lengthGood
+  eight-long k e = eqb-true k 8 e
+
+  pub after-span : lengthGood tag (length v) ≡ true → spanOf after ≤ spanOf l + (3 + length v)
+  after-span good =
+      by-test (eqb tag 1)
+      (λ a. omega (arith, ap spanOf (after-1 a), span-more (switchOf v) l, eight-long (length v) (rw (eqb-true tag 1 a) at good)))
+      (λ a. go (after-other a))
+    where
+      go : (after ≡ l) ⊎ (after ≡ onLatest (λ T. withField T (field tag v)) l) → spanOf after ≤ spanOf l + (3 + length v)
+      go (inl e) = omega (arith, ap spanOf e)
+      go (inr e) = omega (arith, ap spanOf e, on-span l)
+
+  pub after-few : roomGood (soFar l c) tag ≡ true → length l ≤ 16 → countedBy (length l) tag ≤ 16
+  unfolding countedBy
+  after-few r h = by-test (eqb tag 1) (λ a. rw a (omega (arith, room-left (soFar l c) (rw (eqb-true tag 1 a) at r)))) (λ a. rw a h)
+
 -- what is told
-module _ (s starts : List ℕ) (code n clock place : ℕ) where
-  told-accepted : code ≡ 0 → accepted (describedBy s starts n clock place) ≡ described s → readingOf s starts (record { code = code; n = n; clock = clock; place = place }) ≡ described s
-  unfolding readingOf
-  told-accepted z q = rw (eq-eqb code 0 z) q
+module _ (s w starts : List ℕ) where
+  pub refused-done : (r : Reading) (code : ℕ) → r ≡ record { code = code; n = 0; clock = 0; place = 0 } → (code ≡ 0 → ⊥) → refused code ≡ described s → ReadDone s w starts r
+  refused-done r code is z q = rw is (record { refuses = λ n. q; accepts = λ e. absurd (z e) })
 
-  told-refused : (code ≡ 0 → ⊥) → refused code ≡ described s → readingOf s starts (record { code = code; n = n; clock = clock; place = place }) ≡ described s
-  unfolding readingOf
-  told-refused z q = rw (ne-eqb code 0 z) q
-
-pub refused-done : (s starts : List ℕ) (r : Reading) (code : ℕ) → r ≡ record { code = code; n = 0; clock = 0; place = 0 } → (code ≡ 0 → ⊥) → refused code ≡ described s → ReadDone s starts r
-refused-done s starts r code is z q = rw is (record { told = told-refused s starts code 0 0 0 z q; few = omega arith; placed = λ e. absurd (z e) })
+  pub done-long : (r : Reading) → 32768 < length s → r ≡ record { code = 40; n = 0; clock = 0; place = 0 } → ReadDone s w starts r
+  unfolding described
+  done-long r h is = refused-done r 40 is (λ z. absurd (omega (arith, z))) (rw (lt-ltb fileMost (length s) h))
 
 -- what the loop keeps
-pub record Holding (s starts : List ℕ) (n clock at : ℕ) : Type 0 where
+pub record Holding (s w₀ starts₀ w starts : List ℕ) (n clock at : ℕ) : Type 0 where
   pub within : at ≤ length s
-  pub long : length starts ≡ 16
+  pub size : length w ≡ length w₀
+  pub starts-size : length starts ≡ length starts₀
+  pub sixteen : length starts ≡ 16
+  pub words : wordsFor (length s) ≤ length w
+  pub switches : List Settings
+  pub count : length switches ≡ n
   pub few : n ≤ 16
-  pub boundary : (m : ℕ) → n ≡ suc m → Boundary s (getD starts m 0) at
+  pub stores : Stores w starts switches
+  pub span : spanOf switches ≤ at
   pub fuel : ℕ
   pub enough : length s ≤ at + fuel
-  pub rest : describedFrom (readBy s starts n clock at) (fieldsFrom (suc fuel) s at) ≡ described s
+  pub rest : describedFrom (soFar switches (clockAt s clock)) (fieldsFrom (suc fuel) s at) ≡ described s
 
-module _ (s starts : List ℕ) where
-  pub file-long : 32768 < length s → refused 40 ≡ described s
-  unfolding described
-  file-long h = rw (lt-ltb fileMost (length s) h)
-
-  from-start : length s ≤ 32768 → describedFrom (readBy s starts 0 0 0) (fieldsFrom (suc (length s)) s 0) ≡ described s
-  unfolding described fields switchesTo clockAt
+module _ (s w₀ starts₀ : List ℕ) where
+  from-start : length s ≤ 32768 → describedFrom (soFar [] (clockAt s 0)) (fieldsFrom (suc (length s)) s 0) ≡ described s
+  unfolding described fields clockAt
   from-start h = rw (le-ltb fileMost (length s) h)
 
-  pub holding-begin : length s ≤ 32768 → length starts ≡ 16 → Holding s starts 0 0 0
-  holding-begin h l =
+  pub holding-begin : length s ≤ 32768 → length starts₀ ≡ 16 → wordsFor (length s) ≤ length w₀ → Holding s w₀ starts₀ w₀ starts₀ 0 0 0
+  holding-begin h l e =
       record {
         within = omega arith;
-        long = l;
+        size = refl;
+        starts-size = refl;
+        sixteen = l;
+        words = e;
+        switches = [];
+        count = refl;
         few = omega arith;
-        boundary = λ m e. absurd (omega (arith, e));
+        stores = tt;
+        span = omega (arith, span-none);
         fuel = length s;
         enough = omega arith;
         rest = from-start h;
       }
 
-  module _ (n clock at : ℕ) (h : Holding s starts n clock at) where
-    abbrev d : Described
-    d = readBy s starts n clock at
+  module _ (w starts : List ℕ) (n clock at : ℕ) (h : Holding s w₀ starts₀ w starts n clock at) where
+    pub holding-words : length w ≡ length w₀
+    holding-words = h .size
 
-    pub reading-ended : length s ≤ at → refused 43 ≡ described s
-    reading-ended l = sym (described-none d refl) ∙ ap (describedFrom d) (sym (fields-end (h .fuel) s at l)) ∙ h .rest
+    pub holding-starts : length starts ≡ length starts₀
+    holding-starts = h .starts-size
+
+    pub holding-few : n ≤ 16
+    holding-few = h .few
+
+    abbrev d : Described
+    d = soFar (h .switches) (clockAt s clock)
+
+    pub done-ended : (r : Reading) → length s ≤ at → r ≡ record { code = 43; n = 0; clock = 0; place = 0 } → ReadDone s w starts r
+    done-ended r l is =
+        refused-done s w starts r 43 is (λ z. absurd (omega (arith, z)))
+        (sym (described-none d refl) ∙ ap (describedFrom d) (sym (fields-end (h .fuel) s at l)) ∙ h .rest)
+
+    span-room : at < length s → spanOf (h .switches) + 6 ≤ length w
+    span-room more =
+        let most = span-most w starts (h .switches) (h .stores) in
+        by-test (leb (length s) 250)
+        (λ t. omega (arith, leb-true (length s) 250 t, rw t at (h .words), h .span))
+        (λ f. omega (arith, rw f at (h .words), most, h .count, h .few))
 
     module _ (more : at < length s) where
-      pub reading-cut : fieldAt s at ≡ Cut → refused 41 ≡ described s
-      unfolding fieldRefusal
-      reading-cut e = sym (described-refused d cut [] (λ z. absurd (omega (arith, z)))) ∙ ap (describedFrom d) (sym (fields-cut (h .fuel) s at more e)) ∙ h .rest
+      pub holding-kept : Kept w starts n
+      holding-kept =
+          record {
+            sixteen = h .sixteen;
+            few = h .few;
+            placed = stores-sound w starts (h .switches) (h .stores) n (h .count) (omega (arith, span-room more)) (omega (arith, h .sixteen, h .few)) .placed;
+            room = omega (arith, span-room more, ap (endOf w starts) (sym (h .count)), end-is w starts (h .switches) (h .stores));
+          }
 
-      module _ (tag size next : ℕ) (e : fieldAt s at ≡ Taken tag size next) where
-        abbrev v : List ℕ
-        v = part s (at + 3) (next - (at + 3))
+      module _ (read : FieldRead) (q : read ≡ fieldAt s at) where
+        pub done-cut : (r : Reading) → read ≡ Cut → r ≡ record { code = 41; n = 0; clock = 0; place = 0 } → ReadDone s w starts r
+        unfolding fieldRefusal
+        done-cut r e is =
+            refused-done s w starts r 41 is (λ z. absurd (omega (arith, z)))
+            (sym (described-refused d cut [] (λ z. absurd (omega (arith, z)))) ∙ ap (describedFrom d) (sym (fields-cut (h .fuel) s at more (sym q ∙ e))) ∙ h .rest)
 
-        the-size : next - (at + 3) ≡ size
-        the-size = let i = field-read s at tag size next e in omega (arith, i)
+        module _ (tag size next : ℕ) (t : read ≡ Taken tag size next) (code : ℕ) (w′ starts′ : List ℕ)
+            (took : Took w starts n clock tag (part s (at + 3) (next - (at + 3))) code w′ starts′) where
+          abbrev v : List ℕ
+          v = part s (at + 3) (next - (at + 3))
 
-        first-field : describedFrom d (field tag v ∷ fieldsFrom (h .fuel) s next) ≡ described s
-        first-field = rw the-size (ap (describedFrom d) (sym (fields-on (h .fuel) s at tag size next more e)) ∙ h .rest)
+          the-field : fieldAt s at ≡ Taken tag size next
+          the-field = sym q ∙ t
 
-        pub reading-refused : (code : ℕ) → code ≡ fieldRefusal d (field tag v) → (code ≡ 0 → ⊥) → refused code ≡ described s
-        reading-refused code c z = rw c (sym (described-refused d (field tag v) (fieldsFrom (h .fuel) s next) (λ q. z (c ∙ q))) ∙ first-field)
+          the-size : next - (at + 3) ≡ size
+          the-size = let i = field-read s at tag size next the-field in omega (arith, i)
 
-        module _ (passed : fieldRefusal d (field tag v) ≡ 0) where
-          pub has-room : tag ≡ 1 → n < 16
-          has-room one = rw (length-switches s starts n at) at (room-left d (rw one at (passes d tag v passed .has-room)))
+          v-long : length v ≡ next - (at + 3)
+          v-long = let i = field-read s at tag size next the-field in length-part s (at + 3) (next - (at + 3)) (omega (arith, i))
 
-          with-next : describedFrom (withNext d (field tag v)) (fieldsFrom (h .fuel) s next) ≡ described s
-          with-next = sym (described-on d (field tag v) (fieldsFrom (h .fuel) s next) passed) ∙ first-field
+          first-field : describedFrom d (field tag v ∷ fieldsFrom (h .fuel) s next) ≡ described s
+          first-field = rw the-size (ap (describedFrom d) (sym (fields-on (h .fuel) s at tag size next more the-field)) ∙ h .rest)
 
-          next-is : (tag ≡ 5 → ⊥) → readBy s (startsBy starts n tag at) (openedBy n tag) (clockedBy clock tag at) next ≡ withNext d (field tag v)
-          unfolding withNext startsBy openedBy clockedBy
-          next-is five = by-test (eqb tag 1) (λ a. opens-one (eqb-true tag 1 a)) (λ a. by-test (eqb tag 4) (λ b. rw (a, b) (clocks (eqb-true tag 4 b))) (λ b. rw (a, b, ne-eqb tag 5 five) others))
-            where
-              listed : (l l′ : List Settings) (c c′ : Option (List ℕ)) → l ≡ l′ → c ≡ c′
-                  → _≡_ {A = Described} (record { switches = l; clock = c; entry = none; frame = [] }) (record { switches = l′; clock = c′; entry = none; frame = [] })
-              listed l l′ c c′ p q = rw (p, q)
+          code-is : code ≡ fieldRefusal d (field tag v)
+          code-is = took .judged (h .switches) (clockAt s clock) (h .stores) (h .count) (clock-known s clock)
 
-              opens-one : tag ≡ 1 → readBy s (startsBy starts n tag at) (openedBy n tag) (clockedBy clock tag at) next ≡ withNext d (field tag v)
-              opens-one one =
-                  let q : n + 1 ≡ suc n = omega arith in
-                  let g : getD (set starts n at) n 0 ≡ at = getD-set-same starts n at 0 (omega (arith, has-room one, h .long)) in
-                  let w : settingsRead (between s at next) ≡ switchOf v = rw the-size (opening s at tag size next e .is) in
-                  rw one
-                  (listed (switchesTo s (set starts n at) (n + 1) next) (switchOf v ∷ switchesTo s starts n at) (clockAt s clock) (clockAt s clock)
-                  (rw (q, switches-more s (set starts n at) n next, g, switches-set s starts n at n at (omega arith), w)) refl)
+          pub took-words : length w′ ≡ length w₀
+          took-words = took .size ∙ h .size
 
-              clocks : tag ≡ 4 → _≡_ {A = Described} (record { switches = switchesTo s starts n next; clock = clockAt s (at + 3); entry = none; frame = [] }) (record { switches = switchesTo s starts n at; clock = some v; entry = none; frame = [] })
-              clocks four =
-                  let i = field-read s at tag size next e in
-                  let lv : length v ≡ next - (at + 3) = length-part s (at + 3) (next - (at + 3)) (omega (arith, i)) in
-                  let six : next - (at + 3) ≡ 6 = sym lv ∙ six-long (length v) (rw four at (passes d tag v passed .its-length)) in
-                  listed (switchesTo s starts n next) (switchesTo s starts n at) (clockAt s (at + 3)) (some v)
-                  (latest-with s starts at tag size next e n (h .boundary) ∙ on-same tag (part s (at + 3) size) (switchesTo s starts n at) four)
-                  (clock-there s at ∙ rw six)
+          pub took-starts : length starts′ ≡ length starts₀
+          took-starts = took .starts-size ∙ h .starts-size
 
-              others : _≡_ {A = Described} (record { switches = switchesTo s starts n next; clock = clockAt s clock; entry = none; frame = [] }) (record { switches = onLatest (λ S. withField S (field tag v)) (switchesTo s starts n at); clock = clockAt s clock; entry = none; frame = [] })
-              others =
-                  listed (switchesTo s starts n next) (onLatest (λ S. withField S (field tag v)) (switchesTo s starts n at)) (clockAt s clock) (clockAt s clock)
-                  (rw the-size (latest-with s starts at tag size next e n (h .boundary))) refl
+          pub done-refused : (r : Reading) → (code ≡ 0 → ⊥) → r ≡ record { code = code; n = 0; clock = 0; place = 0 } → ReadDone s w′ starts′ r
+          done-refused r z is =
+              refused-done s w′ starts′ r code is z
+              (rw code-is (sym (described-refused d (field tag v) (fieldsFrom (h .fuel) s next) (λ y. z (code-is ∙ y))) ∙ first-field))
 
-          next-boundary : (m : ℕ) → openedBy n tag ≡ suc m → Boundary s (getD (startsBy starts n tag at) m 0) next
-          unfolding openedBy startsBy
-          next-boundary m o = by-test (eqb tag 1) (λ a. rw a (one (eqb-true tag 1 a) (rw a at o))) (λ a. rw a (reading-on s at tag size next e (getD starts m 0) (h .boundary m (rw a at o)) .boundary))
-            where
-              one : tag ≡ 1 → n + 1 ≡ suc m → Boundary s (getD (set starts n at) m 0) next
-              one t o′ =
-                  let q : m ≡ n = omega (arith, o′) in
-                  let g : getD (set starts n at) n 0 ≡ at = getD-set-same starts n at 0 (omega (arith, has-room t, h .long)) in
-                  rw (q, g) (opening s at tag size next e .boundary)
+          module _ (z : code ≡ 0) where
+            passed : fieldRefusal d (field tag v) ≡ 0
+            passed = sym code-is ∙ z
 
-          opened-few : openedBy n tag ≤ 16
-          unfolding openedBy
-          opened-few = by-test (eqb tag 1) (λ a. rw a (omega (arith, has-room (eqb-true tag 1 a)))) (λ a. rw a (h .few))
+            with-next : describedFrom (withNext d (field tag v)) (fieldsFrom (h .fuel) s next) ≡ described s
+            with-next = sym (described-on d (field tag v) (fieldsFrom (h .fuel) s next) passed) ∙ first-field
 
-          starts-long : length (startsBy starts n tag at) ≡ 16
-          unfolding startsBy
-          starts-long = by-test (eqb tag 1) (λ a. rw (a, length-set) (h .long)) (λ a. rw a (h .long))
+            stored : Stores w′ starts′ (withNext d (field tag v) .switches)
+            stored = took .stored (h .switches) (clockAt s clock) (h .stores) (h .count) z
 
-          pub holding-on : (tag ≡ 5 → ⊥) → (clock′ n′ : ℕ) (starts′ : List ℕ) → clock′ ≡ clockedBy clock tag at → n′ ≡ openedBy n tag → starts′ ≡ startsBy starts n tag at → Holding s starts′ n′ clock′ next
-          holding-on five clock′ n′ starts′ ec en es =
-              let i = field-read s at tag size next e in
-              let less : suc (h .fuel - 1) ≡ h .fuel = omega (arith, i, h .enough) in
-              rw (ec, en, es)
-              (record {
-                within = i .within;
-                long = starts-long;
-                few = opened-few;
-                boundary = next-boundary;
-                fuel = h .fuel - 1;
-                enough = omega (arith, i, h .enough);
-                rest = rw (less, next-is five) with-next;
-              })
+            next-is : (tag ≡ 5 → ⊥) → soFar (withNext d (field tag v) .switches) (clockAt s (clockedBy clock tag at)) ≡ withNext d (field tag v)
+            unfolding withNext clockedBy
+            next-is five =
+                by-test (eqb tag 1) (λ a. rw (eqb-true tag 1 a)) (λ a.
+                by-test (eqb tag 4) (λ b. rw (a, b, clock-there s at) (the-clock (eqb-true tag 4 b))) (λ b. rw (a, b, ne-eqb tag 5 five)))
+              where
+                the-clock : tag ≡ 4 → _≡_ {A = Described} (soFar (h .switches) (some (part s (at + 3) 6))) (soFar (h .switches) (some v))
+                the-clock four =
+                    let six : next - (at + 3) ≡ 6 = sym v-long ∙ six-long (length v) (rw four at (passes d tag v passed .its-length)) in
+                    rw six
 
-          -- the entry field, and what stands behind it
-          module _ (five : tag ≡ 5) where
-            abbrev entered : Described
-            entered = record { switches = switchesTo s starts n at; clock = clockAt s clock; entry = switchNamed (switchesTo s starts n at) (be16 v 0); frame = drop 2 v }
-
-            entered-is : withNext d (field tag v) ≡ entered
-            unfolding withNext
-            entered-is = rw five
-
-            entered-rest : describedFrom entered (fieldsFrom (h .fuel) s next) ≡ described s
-            entered-rest = rw (← entered-is) with-next
-
-            entered-known : known (entered .entry) ≡ true
-            entered-known = entry-there d v (rw five at (passes d tag v passed .is-known))
-
-            whole-value : length s ≤ next → entryValue s at ≡ v
-            whole-value l =
-                let i = field-read s at tag size next e in
-                let q : length s ≡ next = omega (arith, i) in
-                between-is s (at + 3) (length s) (omega (arith, i)) (omega arith) ∙ ap (λ (x : ℕ). part s (at + 3) (x - (at + 3))) q
-
-            pub holding-entered : (r : Reading) (code : ℕ) → code ≡ codeAfter s next → r ≡ record { code = code; n = n; clock = clock; place = at } → ReadDone s starts r
-            holding-entered r code c is =
-                let i = field-read s at tag size next e in
+            pub holding-on : (tag ≡ 5 → ⊥) → (clock′ n′ : ℕ) → clock′ ≡ clockedBy clock tag at → n′ ≡ countedBy n tag → Holding s w₀ starts₀ w′ starts′ n′ clock′ next
+            holding-on five clock′ n′ ec en =
+                let i = field-read s at tag size next the-field in
                 let less : suc (h .fuel - 1) ≡ h .fuel = omega (arith, i, h .enough) in
-                rw (is, c)
-                (record {
-                  told = by-test (leb (length s) next)
-                      (λ b.
-                      let l = leb-true (length s) next b in
-                      told-accepted s starts (codeAfter s next) n clock at (code-end s next l)
-                      (rw (whole-value l) (sym (described-end entered entered-known) ∙ ap (describedFrom entered) (sym (rw less at (fields-end (h .fuel - 1) s next l))) ∙ entered-rest)))
-                      (λ b.
-                      let w = behind s next (leb-false (length s) next b) entered entered-known (h .fuel - 1) in
-                      told-refused s starts (codeAfter s next) n clock at (w .1) (sym (w .0) ∙ (rw less entered-rest)));
-                  few = h .few;
-                  placed = λ z. omega (arith, i);
-                })
+                let cn : countedBy (length (h .switches)) tag ≡ n′ = ap (λ (k : ℕ). countedBy k tag) (h .count) ∙ sym en in
+                record {
+                  within = i .within;
+                  size = took-words;
+                  starts-size = took-starts;
+                  sixteen = took .starts-size ∙ h .sixteen;
+                  words = omega (arith, h .words, took .size);
+                  switches = withNext d (field tag v) .switches;
+                  count = after-count (h .switches) (clockAt s clock) tag v ∙ cn;
+                  few = omega (arith, cn, after-few (h .switches) (clockAt s clock) tag v (passes d tag v passed .has-room) (omega (arith, h .count, h .few)));
+                  stores = stored;
+                  span = omega (arith, after-span (h .switches) (clockAt s clock) tag v (passes d tag v passed .its-length), h .span, v-long, i);
+                  fuel = h .fuel - 1;
+                  enough = omega (arith, i, h .enough);
+                  rest = rw (less, ec, next-is five) with-next;
+                }
+
+            -- the entry field, and what stands behind it
+            module _ (five : tag ≡ 5) where
+              abbrev entered : Described
+              entered = record { switches = h .switches; clock = clockAt s clock; entry = switchNamed (h .switches) (be16 v 0); frame = drop 2 v }
+
+              entered-is : withNext d (field tag v) ≡ entered
+              unfolding withNext
+              entered-is = rw five
+
+              entered-rest : describedFrom entered (fieldsFrom (h .fuel) s next) ≡ described s
+              entered-rest = rw (← entered-is) with-next
+
+              entered-known : known (entered .entry) ≡ true
+              entered-known = entry-there d v (rw five at (passes d tag v passed .is-known))
+
+              whole-value : length s ≤ next → entryValue s at ≡ v
+              whole-value l =
+                  let i = field-read s at tag size next the-field in
+                  let e : length s ≡ next = omega (arith, i) in
+                  between-is s (at + 3) (length s) (omega (arith, i)) (omega arith) ∙ ap (λ (x : ℕ). part s (at + 3) (x - (at + 3))) e
+
+              pub done-entered : (after : ℕ) → after ≡ codeAfter s next → ReadDone s w′ starts′ (record { code = after; n = n; clock = clock; place = at })
+              done-entered after c =
+                  let i = field-read s at tag size next the-field in
+                  let less : suc (h .fuel - 1) ≡ h .fuel = omega (arith, i, h .enough) in
+                  rw c
+                  (by-test (leb (length s) next)
+                  (λ b. whole (leb-true (length s) next b))
+                  (λ b.
+                  let x = behind s next (leb-false (length s) next b) entered entered-known (h .fuel - 1) in
+                  record { refuses = λ y. sym (x .0) ∙ (rw less entered-rest); accepts = λ y. absurd (x .1 y) }))
+                where
+                  whole : length s ≤ next → ReadDone s w′ starts′ (record { code = codeAfter s next; n = n; clock = clock; place = at })
+                  whole l =
+                      let i = field-read s at tag size next the-field in
+                      let less : suc (h .fuel - 1) ≡ h .fuel = omega (arith, i, h .enough) in
+                      record {
+                        refuses = λ y. absurd (y (code-end s next l));
+                        accepts = λ y.
+                            record {
+                              switches = h .switches;
+                              is = sym (rw (whole-value l) (sym (described-end entered entered-known) ∙ ap (describedFrom entered) (sym (rw less at (fields-end (h .fuel - 1) s next l))) ∙ entered-rest));
+                              stores = rw (ap (λ (x : Described). x .switches) entered-is) at stored;
+                              count = h .count;
+                              sixteen = took .starts-size ∙ h .sixteen;
+                              span = omega (arith, span-room more, took .size);
+                              placed = omega (arith, i);
+                            };
+                      }
+
+pub ruleset read-laws = (needs, taken, done-long, done-ended, done-cut, done-refused, holding-begin, holding-words, holding-starts, holding-few, holding-kept, took-words, took-starts, holding-on)

@@ -2,33 +2,40 @@
 -- each need, over what the calls before it ensure, for `search` to cite. Assumes nothing.
 use mathlib.Core.Path.{_≡_, refl, sym, ap, _∙_}
 use mathlib.Core.List.{List, [], _∷_, _++_}
-use mathlib.Core.Bool.{Bool}
-use mathlib.Core.Option.{none, some}
-use Prim.Native.Nat.{ℕ, _+_, _*_, _/_, _%_, _<_, _≤_}
+use mathlib.Core.Bool.{Bool, true, _&&_}
+use mathlib.Core.Option.{Option, none, some}
+use Prim.Native.Nat.{ℕ, zero, suc, _+_, _-_, _*_, _/_, _%_, _<_, _≤_}
 use native.Mathlib.Omega.{arith}
 use borrow.Author.Needs.{needs}
-use borrow.Author.Tests.{ne-eqb}
-use lib.ListN.{length}
+use borrow.Author.Tests.{eq-eqb, ne-eqb, eqb-true, eqb-false}
+use lib.Dec.{eqb}
+use lib.ListN.{length, getD, take, drop, length-drop}
+use lib.Seq.{take-all, getD-drop}
 use Rattle.rules.specs.Octets.{put}
-use Rattle.rules.specs.Settings.{Settings, Ways, waysOf, settingsRead}
+use Rattle.rules.specs.Settings.{Settings, Ways, waysOf}
 use Rattle.rules.specs.Header.{hopCount, readFrame}
 use Rattle.rules.specs.Handling.{handling, handledWith, outputAfter}
 use Rattle.rules.specs.Campus.{switchNamed, Kind, reply, State, kindAfter, hopReceived, egressReceived, kindOctet, entryOctets}
 use Rattle.rules.specs.declared.Header.{Header}
 use Rattle.rules.specs.declared.FrameRead.{FrameRead}
 use Rattle.rules.specs.declared.FrameRead.the-variants.{Trill, Unreadable}
+use Rattle.rules.proofs.TestLaws.{by-test}
 use Rattle.rules.proofs.HandlingLaws.{frame-handled}
 use Rattle.rules.proofs.HandledLaws.{handling-bounded}
 use Rattle.octets.specs.Copy.{putFitting}
 use Rattle.octets.proofs.Ends.{put-fits}
 use Rattle.handler.specs.declared.Routed.{Routed}
 use Rattle.handler.specs.Shapes.{routedOf}
+use Rattle.handler.specs.Store.{waysIn, storeGood, handledIn}
+use Rattle.handler.proofs.StoreLaws.{good-whole}
 use Rattle.campus.specs.declared.received.HopEgress.{HopEgress}
 use Rattle.campus.specs.declared.running.Onward.{Onward}
+use Rattle.campus.specs.declared.running.Onward.the-variants.{To, Ends}
 use Rattle.campus.specs.declared.switches.Named.{Named}
 use Rattle.campus.specs.declared.switches.Named.the-variants.{At, Nowhere}
-use Rattle.campus.specs.Places.{between, switchBy, switchesTo}
-use Rattle.campus.specs.Steps.{receivedOf, kindBy, entryBy, Goes, stops, goes, goesBy, towardsBy, goesOn, StepReady, stateOf, Stepped}
+use Rattle.campus.specs.Stores.{storeAt, settingsAt, switchesIn, numberIn, Placed, SoundAt, Sound}
+use Rattle.campus.specs.Steps.{receivedOf, kindBy, entryBy, Goes, stops, goes, goesBy, Within, towardsBy, goesOn, HandledBy, StepReady, stateOf, Stepped}
+use Rattle.campus.proofs.SwitchLaws.{number-none, number-here, number-before}
 
 -- hop count and egress of a frame, by what it is read as
 module _ (f : List ℕ) (read : FrameRead) (is : read ≡ readFrame f) where
@@ -53,19 +60,71 @@ module _ (trace trace′ : List ℕ) (at nickname : ℕ) (replied : Bool) (numbe
 
 pub ruleset put-entry-laws = (needs, entry-put)
 
+-- the switch found is the one that the words say
+module _ (w starts : List ℕ) (x : ℕ) where
+  name-here : (i : ℕ) → settingsAt w starts i .nickname ≡ getD w (getD starts i 0) 0
+  name-here i =
+      let z : getD starts i 0 + 0 ≡ getD starts i 0 = omega arith in
+      getD-drop (getD starts i 0) w 0 0 ∙ ap (λ (k : ℕ). getD w k 0) z
+
+  -- by the number
+  abbrev Told : ℕ → Named → Option Settings → Type 0
+  Told n Nowhere o = o ≡ none
+  Told n (At i) o = (i < n) × (o ≡ some (settingsAt w starts i))
+
+  told-more : (n : ℕ) (r : Named) (o : Option Settings) → Told n r o → Told (suc n) r o
+  told-more n Nowhere o t = t
+  told-more n (At i) o t = (omega (arith, t .0), t .1)
+
+  told-first : (n : ℕ) → getD w (getD starts n 0) 0 ≡ x → switchNamed (switchesIn w starts (suc n)) x ≡ some (settingsAt w starts n)
+  unfolding switchNamed switchesIn
+  told-first n e = rw (eq-eqb (settingsAt w starts n .nickname) x (name-here n ∙ e))
+
+  told-next : (n : ℕ) → (getD w (getD starts n 0) 0 ≡ x → ⊥) → switchNamed (switchesIn w starts (suc n)) x ≡ switchNamed (switchesIn w starts n) x
+  unfolding switchNamed switchesIn
+  told-next n h = rw (switchNamed, ne-eqb (settingsAt w starts n .nickname) x (λ e. h (sym (name-here n) ∙ e)))
+
+  told-none : switchNamed (switchesIn w starts 0) x ≡ none
+  unfolding switchNamed switchesIn
+  told-none = refl
+
+told : (w starts : List ℕ) (x n : ℕ) → Told w starts x n (numberIn w starts n x) (switchNamed (switchesIn w starts n) x)
+told w starts x zero = rw (number-none w starts x) (told-none w starts x)
+told w starts x (suc n) = go (told w starts x n)
+  where
+    go : Told w starts x n (numberIn w starts n x) (switchNamed (switchesIn w starts n) x) → Told w starts x (suc n) (numberIn w starts (suc n) x) (switchNamed (switchesIn w starts (suc n)) x)
+    go t =
+        by-test (eqb (getD w (getD starts n 0) 0) x)
+        (λ a.
+        let e = eqb-true (getD w (getD starts n 0) 0) x a in
+        rw (number-here w starts x n e) (omega arith, told-first w starts x n e))
+        (λ a.
+        let h = eqb-false (getD w (getD starts n 0) 0) x a in
+        rw (number-before w starts x n h, told-next w starts x n h) (told-more w starts x n (numberIn w starts n x) (switchNamed (switchesIn w starts n) x) t))
+
 -- the switch that a frame goes to, by whether the campus has it
-module _ (s : List ℕ) (switches : List Settings) (kind : Kind) (via size : ℕ) (found : Named) (is : switchBy s found ≡ switchNamed switches via) where
-  pub towards-none : found ≡ Nowhere → stops ≡ towardsBy switches kind via size
+module _ (w starts : List ℕ) (n : ℕ) (kind : Kind) (via size : ℕ) (found : Named) (is : found ≡ numberIn w starts n via) where
+  pub towards-none : found ≡ Nowhere → stops ≡ towardsBy (switchesIn w starts n) kind via size
   unfolding towardsBy
-  towards-none e = let n : none ≡ switchNamed switches via = sym (ap (switchBy s) e) ∙ is in rw (towardsBy, ← n)
+  towards-none e =
+      let q : switchNamed (switchesIn w starts n) via ≡ none = rw (← is, e) at (told w starts via n) in
+      rw (towardsBy, q)
 
-  pub towards-some : (start end : ℕ) → found ≡ At start end → goes (settingsRead (between s start end)) kind size ≡ towardsBy switches kind via size
-  unfolding towardsBy
-  towards-some start end e =
-      let n : some (settingsRead (between s start end)) ≡ switchNamed switches via = sym (ap (switchBy s) e) ∙ is in
-      rw (towardsBy, ← n)
+  module _ (i : ℕ) (e : found ≡ At i) where
+    there : (i < n) × (switchNamed (switchesIn w starts n) via ≡ some (settingsAt w starts i))
+    there = rw (← is, e) at (told w starts via n)
 
-pub ruleset towards-laws = (needs, towards-none, towards-some)
+    pub towards-some : goes (settingsAt w starts i) kind size ≡ towardsBy (switchesIn w starts n) kind via size
+    unfolding towardsBy
+    towards-some = rw (towardsBy, there .1)
+
+pub towards-within : (w starts : List ℕ) (n via i : ℕ) (found : Named) → found ≡ At i → found ≡ numberIn w starts n via → i < n
+towards-within w starts n via i found e is = (rw (← is, e) at (told w starts via n)) .0
+
+pub sound-placed : (w starts : List ℕ) (n : ℕ) → Sound w starts n → Placed w starts n
+sound-placed w starts n s = s .placed
+
+pub ruleset towards-laws = (needs, sound-placed, towards-none, towards-some, towards-within)
 
 -- by the answer's number
 module _ (switches : List Settings) (kind : Kind) (number via size : ℕ) where
@@ -94,34 +153,77 @@ module _ (switches : List Settings) (kind : Kind) (number via size : ℕ) where
 
 pub ruleset sent-on-laws = (needs, sent-50, sent-53, sent-54, sent-none)
 
+-- a store's nickname, and a handling by it
+module _ (w starts : List ℕ) (i : ℕ) (s : SoundAt w starts i) where
+  pub sound-listed : i < length starts
+  sound-listed = s .listed
+
+  pub sound-start : getD starts i 0 < length w
+  sound-start = s .start
+
+  pub sound-from : getD starts i 0 ≤ length w
+  sound-from = omega (arith, s .start)
+
+  pub nickname-is : getD w (getD starts i 0) 0 ≡ settingsAt w starts i .nickname
+  nickname-is = sym (name-here w starts 0 i)
+
+  pub nickname-small : getD w (getD starts i 0) 0 < 65536
+  nickname-small = omega (arith, nickname-is, good-whole (storeAt w starts i) (s .good) .named)
+
+  handled-in : (clock : List ℕ) (room : ℕ) (f : List ℕ) → handledIn (storeAt w starts i) clock room f ≡ handledWith (waysOf (settingsAt w starts i)) clock room f
+  unfolding handledIn
+  handled-in clock room f = rw (handledIn, s .good) (ap (λ (x : Ways). handledWith x clock room f) (s .says))
+
+  pub handled-by : (clock frame out out′ : List ℕ) (r : Routed)
+      → r ≡ routedOf (handledIn (take (length w - getD starts i 0) (drop (getD starts i 0) w)) clock (length out) frame)
+      → out′ ≡ outputAfter out (handledIn (take (length w - getD starts i 0) (drop (getD starts i 0) w)) clock (length out) frame)
+      → HandledBy (settingsAt w starts i) clock frame out out′ r
+  handled-by clock frame out out′ r a b =
+      let whole : take (length w - getD starts i 0) (drop (getD starts i 0) w) ≡ storeAt w starts i = take-all (length w - getD starts i 0) (drop (getD starts i 0) w) (omega (arith, length-drop (getD starts i 0) w)) in
+      let h : handledIn (take (length w - getD starts i 0) (drop (getD starts i 0) w)) clock (length out) frame ≡ handledWith (waysOf (settingsAt w starts i)) clock (length out) frame =
+      ap (λ (x : List ℕ). handledIn x clock (length out) frame) whole ∙ handled-in clock (length out) frame in
+      record { answer = a ∙ ap routedOf h; after = b ∙ ap (outputAfter out) h }
+
+pub ruleset nickname-of-laws = (needs, sound-listed, sound-start, nickname-is, nickname-small)
+
+pub ruleset handled-laws = (needs, sound-listed, sound-from, handled-by)
+
 -- what is left of a handling
-module _ (starts : List ℕ) (n : ℕ) (clock frame out trace : List ℕ) (k : ℕ) (ready : StepReady starts n clock frame out trace k) where
-  handled-so : (S : Ways) → handledWith S clock (length out) frame ≡ handling S clock frame
-  handled-so S = frame-handled S clock (length out) frame (ready .six) (ready .room) (ready .short)
+module _ (w starts : List ℕ) (n i : ℕ) (clock frame out trace : List ℕ) (k : ℕ) (ready : StepReady w starts n i clock frame out trace k) where
+  abbrev T : Settings
+  T = settingsAt w starts i
 
-  module _ (fields : List ℕ) (a : Routed) (is : a ≡ routedOf (handledWith (waysOf (settingsRead fields)) clock (length out) frame)) where
-    answered : a ≡ routedOf (handling (waysOf (settingsRead fields)) clock frame)
-    answered = is ∙ ap routedOf (handled-so (waysOf (settingsRead fields)))
+  pub step-sound : SoundAt w starts i
+  step-sound = ready .sound .each i (ready .within)
 
-    pub step-number : (number : ℕ) → number ≡ a .answer .number → number < 64
-    step-number number e = rw (e, answered) (handling-bounded (waysOf (settingsRead fields)) clock frame (ready .six) (ready .short) .number-small)
+  pub step-all : Sound w starts n
+  step-all = ready .sound
 
-    module _ (out′ : List ℕ) (w : out′ ≡ outputAfter out (handledWith (waysOf (settingsRead fields)) clock (length out) frame))
-        (s : List ℕ) (start end : ℕ) (held : fields ≡ between s start end) (switches : List Settings) (replied : Bool) where
-      abbrev state : State
-      state = stateOf clock (settingsRead (between s start end)) (kindBy replied) frame
+  pub step-room : k * 8 + 8 ≤ length trace
+  step-room = ready .entry-room
 
-      pub step-done : (nickname : ℕ) → nickname ≡ settingsRead fields .nickname
-          → (trace′ : List ℕ) → trace′ ≡ put trace (k * 8) (entryBy nickname (kindBy replied) (a .answer .number) frame)
-          → (r : Onward) → goesBy s r ≡ goesOn switches (kindBy replied) (a .answer .number) (a .via) (a .answer .written)
-          → Stepped s switches k state out out′ trace trace′ r
-      unfolding entryOctets
-      step-done nickname named trace′ e r g =
-          record {
-            wrote = w ∙ rw (handled-so (waysOf (settingsRead fields)), held);
-            fits = handling-bounded (waysOf (settingsRead (between s start end))) clock frame (ready .six) (ready .short) .fits;
-            traced = e ∙ rw (named, answered, held);
-            onward = g ∙ rw (answered, held);
-          }
+  handled-so : handledWith (waysOf T) clock (length out) frame ≡ handling (waysOf T) clock frame
+  handled-so = frame-handled (waysOf T) clock (length out) frame (ready .six) (ready .room) (ready .short)
 
-pub ruleset step-laws = (needs, step-number, step-done)
+  module _ (out′ : List ℕ) (a : Routed) (h : HandledBy (settingsAt w starts i) clock frame out out′ a) where
+    answered : a ≡ routedOf (handling (waysOf T) clock frame)
+    answered = h .answer ∙ ap routedOf handled-so
+
+    pub step-number : a .answer .number < 64
+    step-number = rw answered (handling-bounded (waysOf T) clock frame (ready .six) (ready .short) .number-small)
+
+    pub step-done : (replied : Bool) (nickname : ℕ) → nickname ≡ settingsAt w starts i .nickname
+        → (trace′ : List ℕ) → trace′ ≡ put trace (k * 8) (entryBy nickname (kindBy replied) (a .answer .number) frame)
+        → (r : Onward) → goesBy w starts r ≡ goesOn (switchesIn w starts n) (kindBy replied) (a .answer .number) (a .via) (a .answer .written) → Within n r
+        → Stepped w starts n k (stateOf clock (settingsAt w starts i) (kindBy replied) frame) out out′ trace trace′ r
+    unfolding entryOctets
+    step-done replied nickname named trace′ e r g within =
+        record {
+          wrote = h .after ∙ rw handled-so;
+          fits = handling-bounded (waysOf T) clock frame (ready .six) (ready .short) .fits;
+          traced = e ∙ rw (named, answered);
+          onward = g ∙ rw answered;
+          within = within;
+        }
+
+pub ruleset step-laws = (needs, step-sound, step-all, step-room, step-number, step-done)

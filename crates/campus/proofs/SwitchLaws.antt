@@ -1,139 +1,117 @@
--- The switches of a description by their places, and the tests of one field by what the code knows, by computation and induction on the
--- number of switches. Assumes nothing.
+-- The stores of a description's switches as the code reads and writes them: one law for each need, over what the tests and calls before it say. By
+-- computation. Assumes nothing.
 use mathlib.Core.Path.{_≡_, refl, sym, ap, _∙_}
-use mathlib.Core.List.{List, [], _∷_}
+use mathlib.Core.List.{List, [], _∷_, _++_}
 use mathlib.Core.Bool.{Bool, true, false, not}
-use mathlib.Core.Option.{Option, none, some}
-use Prim.Native.Nat.{ℕ, zero, suc}
-use borrow.Author.Tests.{eq-eqb, ne-eqb, eqb-true}
-use lib.Dec.{eqb}
-use lib.ListN.{length, getD}
-use Rattle.rules.specs.Fields.{field, lengthGood}
-use Rattle.rules.specs.Settings.{Settings, hopOf, settingsRead}
-use Rattle.rules.specs.Campus.{Described, switchNamed, known, placeGood, valueGood, nicknameNew, roomGood, serialNew, entryKnown, fieldRefusal}
-use Rattle.rules.proofs.TestLaws.{by-test, and-yes}
-use Rattle.campus.specs.Records.{tallyOf, latestBy}
-use Rattle.campus.specs.Places.{between, switchesTo, clockAt, readBy, placeBy, roomBy, newBy, knownBy, contextBy}
+use Prim.Native.Nat.{ℕ, zero, suc, _+_, _-_, _*_, _≤_, _<_}
+use native.Mathlib.Omega.{arith}
+use borrow.Author.Needs.{needs}
+use borrow.Author.Tests.{eq-eqb, ne-eqb}
+use mathlib.Core.List.{append-nil}
+use borrow.Rule.Slice.PartMut.{putMid, postOf}
+use lib.ListN.{length, getD, take, drop, length-drop, drop-of-length-le}
+use lib.Seq.{take-all}
+use Rattle.campus.specs.declared.switches.Named.{Named}
+use Rattle.campus.specs.declared.switches.Named.the-variants.{At, Nowhere}
+use Rattle.handler.specs.Extend.{Opens, Extends}
+use Rattle.campus.specs.Stores.{numberIn, foundBy, endOf, Placed, Kept, PartOpens, PartExtends}
 
--- by the nickname of the latest
-module _ (S : Settings) (l : List Settings) (nickname : ℕ) where
-  named-first : S .nickname ≡ nickname → some S ≡ switchNamed (S ∷ l) nickname
-  unfolding switchNamed
-  named-first e = rw (eq-eqb (S .nickname) nickname e)
+-- looking for a nickname, from the latest back
+module _ (w starts : List ℕ) (nickname : ℕ) where
+  pub number-none : numberIn w starts 0 nickname ≡ Nowhere
+  unfolding numberIn
+  number-none = refl
 
-  named-next : (S .nickname ≡ nickname → ⊥) → switchNamed (S ∷ l) nickname ≡ switchNamed l nickname
-  unfolding switchNamed
-  named-next h = rw (switchNamed, ne-eqb (S .nickname) nickname h)
+  pub number-here : (n : ℕ) → getD w (getD starts n 0) 0 ≡ nickname → numberIn w starts (suc n) nickname ≡ At n
+  unfolding numberIn
+  number-here n e = rw (eq-eqb (getD w (getD starts n 0) 0) nickname e)
 
-named-none : (nickname : ℕ) → switchNamed [] nickname ≡ none
-unfolding switchNamed
-named-none nickname = refl
+  pub number-before : (n : ℕ) → (getD w (getD starts n 0) 0 ≡ nickname → ⊥) → numberIn w starts (suc n) nickname ≡ numberIn w starts n nickname
+  unfolding numberIn
+  number-before n h = rw (numberIn, ne-eqb (getD w (getD starts n 0) 0) nickname h)
 
-module _ (s starts : List ℕ) where
-  pub switches-none : (end : ℕ) → switchesTo s starts 0 end ≡ []
-  unfolding switchesTo
-  switches-none end = refl
+pub record Seeking (w starts : List ℕ) (n nickname i : ℕ) : Type 0 where
+  pub within : i ≤ n
+  pub same : numberIn w starts i nickname ≡ numberIn w starts n nickname
 
-  pub switches-more : (n end : ℕ) → switchesTo s starts (suc n) end ≡ settingsRead (between s (getD starts n 0) end) ∷ switchesTo s starts n (getD starts n 0)
-  unfolding switchesTo
-  switches-more n end = refl
+module _ (w starts : List ℕ) (n nickname : ℕ) where
+  pub seek-begin : Seeking w starts n nickname n
+  seek-begin = record { within = omega arith; same = refl }
 
-  pub length-switches : (n end : ℕ) → length (switchesTo s starts n end) ≡ n
-  length-switches zero end = ap length (switches-none end)
-  length-switches (suc n) end = ap length (switches-more n end) ∙ ap suc (length-switches n (getD starts n 0))
+  module _ (i : ℕ) (k : Seeking w starts n nickname i) where
+    pub seek-end : i ≤ 0 → Nowhere ≡ numberIn w starts n nickname
+    seek-end z =
+        let e : i ≡ 0 = omega arith in
+        sym (number-none w starts nickname) ∙ (rw e at (k .same))
 
-  -- looking for a nickname, from the latest back
-  module _ (nickname m i to : ℕ) (e : suc m ≡ i) where
-    pub find-here : settingsRead (between s (getD starts m 0) to) .nickname ≡ nickname
-        → some (settingsRead (between s (getD starts m 0) to)) ≡ switchNamed (switchesTo s starts i to) nickname
-    find-here h = rw (← e, switches-more m to) (named-first (settingsRead (between s (getD starts m 0) to)) (switchesTo s starts m (getD starts m 0)) nickname h)
+    module _ (more : 0 < i) where
+      one-less : suc (i - 1) ≡ i
+      one-less = omega arith
 
-    pub find-on : (settingsRead (between s (getD starts m 0) to) .nickname ≡ nickname → ⊥)
-        → switchNamed (switchesTo s starts m (getD starts m 0)) nickname ≡ switchNamed (switchesTo s starts i to) nickname
-    find-on h = rw (← e, switches-more m to) (sym (named-next (settingsRead (between s (getD starts m 0) to)) (switchesTo s starts m (getD starts m 0)) nickname h))
+      pub seek-here : getD w (getD starts (i - 1) 0) 0 ≡ nickname → At (i - 1) ≡ numberIn w starts n nickname
+      seek-here e = sym (rw one-less at (number-here w starts nickname (i - 1) e)) ∙ k .same
 
-  pub find-none : (nickname i to : ℕ) → i ≡ 0 → none ≡ switchNamed (switchesTo s starts i to) nickname
-  find-none nickname i to e = rw (e, switches-none to) (sym (named-none nickname))
+      pub seek-on : (getD w (getD starts (i - 1) 0) 0 ≡ nickname → ⊥) → Seeking w starts n nickname (i - 1)
+      seek-on h = record { within = omega (arith, k .within); same = sym (rw one-less at (number-before w starts nickname (i - 1) h)) ∙ k .same }
 
--- the tests, by the switches so far
-not-not : (b : Bool) → not (not b) ≡ b
-not-not true = refl
-not-not false = refl
+      module _ (p : Placed w starts n) where
+        pub seek-listed : i - 1 < length starts
+        seek-listed = omega (arith, k .within, p .long)
 
-module _ (c : Option (List ℕ)) (tag : ℕ) (v : List ℕ) where
-  abbrev so-far : List Settings → Described
-  so-far l = record { switches = l; clock = c; entry = none; frame = [] }
+        pub seek-within : getD starts (i - 1) 0 < length w
+        seek-within = p .within (i - 1) (omega (arith, k .within))
 
-  place-is : (l : List Settings) (n clock : ℕ) → length l ≡ n → known c ≡ not (eqb clock 0) → placeGood (so-far l) tag ≡ placeBy n clock tag
-  unfolding placeGood placeBy
-  place-is l n clock h k =
-      by-test (eqb tag 2)
-      (λ a. rw (eqb-true tag 2 a, h) (and-yes (not (eqb n 0))))
-      (λ a.
-      by-test (eqb tag 3)
-      (λ b. rw (eqb-true tag 3 b, h) (and-yes (not (eqb n 0))))
-      (λ b. by-test (eqb tag 4) (λ d. rw (a, b, d, k) (not-not (eqb clock 0))) (λ d. rw (a, b, d))))
+pub ruleset find-laws = (needs, seek-begin, seek-end, seek-here, seek-on, seek-listed, seek-within)
 
-  room-is : (l : List Settings) (n : ℕ) → length l ≡ n → roomGood (so-far l) tag ≡ roomBy n tag (latestBy l tag v .count)
-  unfolding roomGood roomBy latestBy tallyOf
-  room-is [] n h = by-test (eqb tag 1) (λ a. rw (a, ← h)) (λ a. by-test (eqb tag 2) (λ b. rw (a, b)) (λ b. rw (a, b)))
-  room-is (S ∷ l) n h = by-test (eqb tag 1) (λ a. rw (a, ← h)) (λ a. by-test (eqb tag 2) (λ b. rw (a, b)) (λ b. rw (a, b)))
+-- where the latest store ends
+module _ (w starts : List ℕ) (n : ℕ) where
+  pub end-none : n ≡ 0 → 0 ≡ endOf w starts n
+  unfolding endOf
+  end-none e = rw e
 
-  serial-is : (l : List Settings) → serialNew (so-far l) tag v ≡ not (latestBy l tag v .met)
-  unfolding serialNew latestBy tallyOf
-  serial-is [] = refl
-  serial-is (S ∷ l) = by-test (eqb tag 2) (λ b. rw b) (λ b. rw b)
+  module _ (z : n ≡ 0 → ⊥) where
+    pub end-some : getD starts (n - 1) 0 + 4 + 2 * getD w (getD starts (n - 1) 0 + 3) 0 ≡ endOf w starts n
+    unfolding endOf
+    end-some =
+        let e : n ≡ suc (n - 1) = omega (arith, z) in
+        sym (ap (endOf w starts) e)
 
-  context-is : (l : List Settings) (n clock : ℕ) → length l ≡ n → known c ≡ not (eqb clock 0)
-      → lengthGood tag (length v) ≡ true → placeBy n clock tag ≡ true → valueGood tag v ≡ true → contextBy n l tag v ≡ fieldRefusal (so-far l) (field tag v)
-  unfolding fieldRefusal contextBy nicknameNew newBy entryKnown knownBy
-  context-is l n clock h k a b d = rw (a, place-is l n clock h k, b, d, room-is l n h, serial-is l, not-not (latestBy l tag v .met))
+    module _ (k : Kept w starts n) where
+      pub end-listed : n - 1 < length starts
+      end-listed = omega (arith, z, k .sixteen, k .few)
 
-  length-bad : (l : List Settings) → lengthGood tag (length v) ≡ false → 42 ≡ fieldRefusal (so-far l) (field tag v)
-  unfolding fieldRefusal
-  length-bad l a = rw a
+      pub end-within : getD starts (n - 1) 0 + 3 < length w
+      end-within = omega (arith, end-some, k .room)
 
-  place-bad : (l : List Settings) (n clock : ℕ) → length l ≡ n → known c ≡ not (eqb clock 0) → lengthGood tag (length v) ≡ true → placeBy n clock tag ≡ false → 43 ≡ fieldRefusal (so-far l) (field tag v)
-  unfolding fieldRefusal
-  place-bad l n clock h k a b = rw (a, place-is l n clock h k, b)
+      module _ (bound : ℕ) (fits : length w < bound) where
+        pub end-three : getD starts (n - 1) 0 + 3 < bound
+        end-three = omega (arith, end-within)
 
-  value-bad : (l : List Settings) (n clock : ℕ) → length l ≡ n → known c ≡ not (eqb clock 0) → lengthGood tag (length v) ≡ true → placeBy n clock tag ≡ true → valueGood tag v ≡ false → 44 ≡ fieldRefusal (so-far l) (field tag v)
-  unfolding fieldRefusal
-  value-bad l n clock h k a b d = rw (a, place-is l n clock h k, b, d)
+        pub end-four : getD starts (n - 1) 0 + 4 < bound
+        end-four = omega (arith, end-within)
 
-clock-known : (s : List ℕ) (clock : ℕ) → known (clockAt s clock) ≡ not (eqb clock 0)
-unfolding clockAt
-clock-known s clock = by-test (eqb clock 0) (λ e. rw e) (λ e. rw e)
+        pub end-twice : 2 * getD w (getD starts (n - 1) 0 + 3) 0 < bound
+        end-twice = omega (arith, end-some, k .room)
 
--- 42 to 48, by what the code knows
-module _ (s starts : List ℕ) (n clock at tag : ℕ) (v : List ℕ) where
-  pub refuse-length : lengthGood tag (length v) ≡ false → 42 ≡ fieldRefusal (readBy s starts n clock at) (field tag v)
-  refuse-length = length-bad (clockAt s clock) tag v (switchesTo s starts n at)
+        pub end-sum : getD starts (n - 1) 0 + 4 + 2 * getD w (getD starts (n - 1) 0 + 3) 0 < bound
+        end-sum = omega (arith, end-some, k .room)
 
-  pub refuse-place : lengthGood tag (length v) ≡ true → placeBy n clock tag ≡ false → 43 ≡ fieldRefusal (readBy s starts n clock at) (field tag v)
-  refuse-place = place-bad (clockAt s clock) tag v (switchesTo s starts n at) n clock (length-switches s starts n at) (clock-known s clock)
+pub ruleset end-of-laws = (needs, end-none, end-some, end-listed, end-within, end-three, end-four, end-twice, end-sum)
 
-  pub refuse-value : lengthGood tag (length v) ≡ true → placeBy n clock tag ≡ true → valueGood tag v ≡ false → 44 ≡ fieldRefusal (readBy s starts n clock at) (field tag v)
-  refuse-value = value-bad (clockAt s clock) tag v (switchesTo s starts n at) n clock (length-switches s starts n at) (clock-known s clock)
+-- a part of the words up to their end, lent and taken back
+module _ (w : List ℕ) (at : ℕ) (v : List ℕ) where
+  lent : take (length w - at) (drop at w) ≡ drop at w
+  lent = take-all (length w - at) (drop at w) (omega (arith, length-drop at w))
 
-  pub refuse-context : lengthGood tag (length v) ≡ true → placeBy n clock tag ≡ true → valueGood tag v ≡ true
-      → contextBy n (switchesTo s starts n at) tag v ≡ fieldRefusal (readBy s starts n clock at) (field tag v)
-  refuse-context = context-is (clockAt s clock) tag v (switchesTo s starts n at) n clock (length-switches s starts n at) (clock-known s clock)
+  back : (u : List ℕ) → putMid at (length w - at) w u ≡ take at w ++ u
+  back u =
+      let none : postOf at (length w - at) w ≡ [] = drop-of-length-le (drop at w) {i = length w - at} (omega (arith, length-drop at w)) in
+      rw (none, append-nil u)
 
--- the latest switch's records
-module _ (s starts : List ℕ) (n end tag : ℕ) (v : List ℕ) where
-  pub latest-other : (tag ≡ 2 → ⊥) → record { count = 0; met = false } ≡ latestBy (switchesTo s starts n end) tag v
-  unfolding latestBy
-  latest-other h = go (switchesTo s starts n end)
-    where
-      go : (l : List Settings) → record { count = 0; met = false } ≡ latestBy l tag v
-      go [] = refl
-      go (S ∷ l) = rw (ne-eqb tag 2 h)
+  pub part-opens : (r : Bool) (u : List ℕ) → Opens (take (length w - at) (drop at w)) v r u → PartOpens w at v r (putMid at (length w - at) w u)
+  part-opens r u o = let p : Opens (drop at w) v r u = rw lent at o in rw (back u) (record { answer = p .answer; words = ap (λ (x : List ℕ). take at w ++ x) (p .words) })
 
-  pub latest-none : n ≡ 0 → record { count = 0; met = false } ≡ latestBy (switchesTo s starts n end) tag v
-  unfolding latestBy
-  latest-none e = rw (e, switches-none s starts end)
+  pub part-extends : (tag r : ℕ) (u : List ℕ) → Extends (take (length w - at) (drop at w)) tag v r u → PartExtends w at tag v r (putMid at (length w - at) w u)
+  part-extends tag r u o = let p : Extends (drop at w) tag v r u = rw lent at o in rw (back u) (record { code = p .code; words = ap (λ (x : List ℕ). take at w ++ x) (p .words) })
 
-  pub latest-some : (m : ℕ) → suc m ≡ n → tag ≡ 2 → tallyOf (settingsRead (between s (getD starts m 0) end) .hops) (hopOf v) ≡ latestBy (switchesTo s starts n end) tag v
-  unfolding latestBy
-  latest-some m e t = rw (← e, switches-more s starts m end, t)
+pub ruleset part-laws = (needs, part-opens, part-extends)

@@ -1,6 +1,6 @@
 -- What the contracts of `campus` cite beside the rules.
 pub mod Places
-pub mod Records
+pub mod Stores
 pub mod Steps
 pub mod Done
 pub mod Print

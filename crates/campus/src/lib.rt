@@ -5,12 +5,12 @@ mod received;
 mod refusals;
 mod running;
 mod switches;
-mod tally;
 
 ghost use Prim.Native.Nat.{_≤_};
 ghost use lib.ListN.{length};
 ghost use Rattle.rules.specs.Text.{printed};
 ghost use Rattle.campus.specs.Print.{PutAt};
+ghost use Rattle.campus.specs.Stores.{wordsFor};
 ghost use Rattle.campus.specs.Done.{CampusDone, TextDone};
 
 // What the caller is answered: 0 or the code that refuses, and the number of trace entries.
@@ -20,6 +20,26 @@ pub struct Outcome {
     pub count: u32,
 }
 
+// The run, with words lent for the stores of the switches: a field of n octets takes up n words at most.
+fn run_in(description: &[u8], words: &mut [u64], trace: &mut [u8]) -> Outcome
+    requires { ⌜ (wordsFor (length (now description)) ≤ length (now words)) × (640 ≤ length (now trace)) ⌝ }
+    ensures { λ r. ⌜ CampusDone (now (description .entry)) (now (trace .entry)) (now (trace .exit)) (r .code) (r .count) ⌝ }
+{
+    let mut starts = [0usize; 16];
+    let r = reading::read(description, words, &mut starts);
+    if r.code != 0 {
+        return Outcome {
+            code: r.code,
+            count: 0,
+        };
+    }
+    let count = running::run(description, words, &starts, r.n, r.clock, r.place, trace);
+    Outcome {
+        code: 0,
+        count: count,
+    }
+}
+
 #[no_mangle]
 pub extern "C" fn campus_run(description: &[u8], trace: &mut [u8]) -> Outcome
     ensures { λ r. ⌜ CampusDone (now (description .entry)) (now (trace .entry)) (now (trace .exit)) (r .code) (r .count) ⌝ }
@@ -27,19 +47,12 @@ pub extern "C" fn campus_run(description: &[u8], trace: &mut [u8]) -> Outcome
     if trace.len() < 640 {
         return Outcome { code: 49, count: 0 };
     }
-    let mut starts = [0usize; 16];
-    let r = reading::read(description, &mut starts);
-    if r.code != 0 {
-        return Outcome {
-            code: r.code,
-            count: 0,
-        };
+    if description.len() <= 250 {
+        let mut few = [0u64; 256];
+        return run_in(description, &mut few, trace);
     }
-    let count = running::run(description, &starts, r.n, r.clock, r.place, trace);
-    Outcome {
-        code: 0,
-        count: count,
-    }
+    let mut words = [0u64; 2118];
+    run_in(description, &mut words, trace)
 }
 
 // Runs a description and writes what is printed of it, and answers how long that is.

@@ -1,10 +1,11 @@
-// The description's fields, read once: the code that refuses it, or what the run needs.
+// The description's fields, read once, each switch into its store: the code that refuses it, or what the run needs.
 use crate::refusals;
 use rules::FieldRead;
 ghost use mathlib.Core.Path.{_≡_};
 ghost use Prim.Native.Nat.{_+_, _≤_, _<_};
 ghost use lib.ListN.{length};
-ghost use Rattle.campus.specs.Places.{codeAfter, clockedBy, openedBy, startsBy, ReadDone};
+ghost use Rattle.campus.specs.Places.{codeAfter, clockedBy, countedBy};
+ghost use Rattle.campus.specs.Stores.{wordsFor, ReadDone};
 
 // 0 with the number of switches, the place of the clock or 0, and the place of the entry field; or the code that refuses.
 pub struct Reading {
@@ -57,21 +58,20 @@ fn clocked(clock: usize, tag: u8, at: usize, next: usize) -> usize
     at + 3
 }
 
-// The number of switches, and where their fields start, once the field at a place is read.
-fn opened(starts: &mut [usize], n: usize, tag: u8, at: usize) -> usize
-    requires { ⌜ (length (now starts) ≡ 16) × (n ≤ 16) × (tag ≡ 1 → n < 16) ⌝ }
-    ensures { λ r. ⌜ (r ≡ openedBy n tag) × (now (starts .exit) ≡ startsBy (now (starts .entry)) n tag at) ⌝ }
+// The number of switches once a field is read.
+fn counted(n: usize, tag: u8) -> usize
+    requires { ⌜ n ≤ 16 ⌝ }
+    ensures { λ r. ⌜ r ≡ countedBy n tag ⌝ }
 {
     if tag != 1 {
         return n;
     }
-    starts[n] = at;
     n + 1
 }
 
-pub fn read(s: &[u8], starts: &mut [usize]) -> Reading
-    requires { ⌜ length (now starts) ≡ 16 ⌝ }
-    ensures { λ r. ⌜ ReadDone (now (s .entry)) (now (starts .exit)) r ⌝ }
+pub fn read(s: &[u8], w: &mut [u64], starts: &mut [usize]) -> Reading
+    requires { ⌜ (length (now starts) ≡ 16) × (wordsFor (length (now s)) ≤ length (now w)) ⌝ }
+    ensures { λ r. ⌜ ReadDone (now (s .entry)) (now (w .exit)) (now (starts .exit)) r ⌝ }
 {
     if 32768 < s.len() {
         return refused(40);
@@ -88,7 +88,7 @@ pub fn read(s: &[u8], starts: &mut [usize]) -> Reading
         else {
             return refused(41);
         };
-        let code = refusals::field_refusal(s, starts, n, clock, at, tag, &s[at + 3..next]);
+        let code = refusals::take(w, starts, n, clock, tag, &s[at + 3..next]);
         if code != 0 {
             return refused(code);
         }
@@ -101,7 +101,7 @@ pub fn read(s: &[u8], starts: &mut [usize]) -> Reading
             };
         }
         clock = clocked(clock, tag, at, next);
-        n = opened(starts, n, tag, at);
+        n = counted(n, tag);
         at = next;
     }
     refused(43)

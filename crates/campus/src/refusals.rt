@@ -1,16 +1,14 @@
-// The tests of one field of a description, 42 to 48 in their order.
+// The tests of one field of a description, 42 to 48 in their order; a field that passes is taken into the store of its switch.
 use crate::switches;
 use crate::switches::Named;
-use crate::tally;
-use crate::tally::Tally;
 ghost use mathlib.Core.Path.{_≡_};
-ghost use Prim.Native.Nat.{_≤_};
+ghost use mathlib.Core.Bool.{true};
+ghost use Prim.Native.Nat.{_<_};
 ghost use lib.ListN.{length};
 ghost use Rattle.rules.specs.Octets as O;
 ghost use Rattle.rules.specs.Fields as F;
-ghost use Rattle.rules.specs.Campus as C;
-ghost use Rattle.campus.specs.Places.{switchesTo, readBy, placeBy, roomBy, newBy, knownBy, contextBy};
-ghost use Rattle.campus.specs.Records.{latestBy};
+ghost use Rattle.campus.specs.Stores.{knownIn, Placed, Kept, OfSettings, Took};
+ghost use Rattle.campus.specs.Places.{placeBy};
 
 pub fn length_good(tag: u8, size: usize) -> bool
     ensures { λ r. ⌜ r ≡ F.lengthGood tag size ⌝ }
@@ -51,124 +49,50 @@ fn place_good(n: usize, clock: usize, tag: u8) -> bool
     true
 }
 
-fn value_good(tag: u8, v: &[u8]) -> bool
-    ensures { λ r. ⌜ r ≡ C.valueGood tag (now (v .entry)) ⌝ }
+// Whether one of the first n switches has the nickname at the start of `v`.
+fn nickname_known(w: &[u64], starts: &[usize], n: usize, v: &[u8]) -> bool
+    requires { ⌜ Placed (now w) (now starts) n ⌝ }
+    ensures { λ r. ⌜ r ≡ knownIn (now (w .entry)) (now (starts .entry)) n (O.be16 (now (v .entry)) 0) ⌝ }
 {
-    if tag == 1 {
-        return octets::switch_good(v);
-    }
-    if tag == 2 {
-        return octets::hop_good(v);
-    }
-    if tag == 3 {
-        return octets::octet(v, 0) <= 1;
-    }
-    true
-}
-
-// Whether one of the first n switches has the nickname at the start of `v`; the fields of the last of them end at `end`.
-fn nickname_known(s: &[u8], starts: &[usize], n: usize, end: usize, v: &[u8]) -> bool
-    requires { ⌜ n ≤ length (now starts) ⌝ }
-    ensures { λ r. ⌜ r ≡ C.known (C.switchNamed (switchesTo (now (s .entry)) (now (starts .entry)) n end) (O.be16 (now (v .entry)) 0)) ⌝ }
-{
-    let Named::At { start: _, end: _ } = switches::find(
-        s,
-        starts,
-        n,
-        end,
-        octets::be16(v, 0) as u32,
-    ) else {
+    let Named::At(_) = switches::find(w, starts, n, octets::be16(v, 0) as u32) else {
         return false;
     };
     true
 }
 
-// The records of the latest switch, where the field is one more.
-fn latest(s: &[u8], starts: &[usize], n: usize, end: usize, tag: u8, v: &[u8]) -> Tally
-    requires { ⌜ n ≤ length (now starts) ⌝ }
-    ensures { λ r. ⌜ r ≡ latestBy (switchesTo (now (s .entry)) (now (starts .entry)) n end) tag (now (v .entry)) ⌝ }
+// Tag 1. The words behind the last store are free, so that a switch refused for its nickname may stand there.
+fn open(w: &mut [u64], starts: &mut [usize], n: usize, clock: usize, v: &[u8]) -> u32
+    requires { ⌜ Kept (now w) (now starts) n × (F.lengthGood 1 (length (now v)) ≡ true) ⌝ }
+    ensures { λ r. ⌜ Took (now (w .entry)) (now (starts .entry)) n clock 1 (now (v .entry)) r (now (w .exit)) (now (starts .exit)) ⌝ }
 {
-    if tag != 2 {
-        return Tally {
-            count: 0,
-            met: false,
-        };
+    let known = nickname_known(w, starts, n, v);
+    let end = switches::end_of(w, starts, n);
+    if !switches::open(w, end, v) {
+        return 44;
     }
-    if n == 0 {
-        return Tally {
-            count: 0,
-            met: false,
-        };
-    }
-    let start = starts[n - 1];
-    tally::tally_of(switches::between(s, start, end), octets::hop_of(v))
-}
-
-fn room_good(n: usize, tag: u8, count: usize) -> bool
-    ensures { λ r. ⌜ r ≡ roomBy n tag count ⌝ }
-{
-    if tag == 1 {
-        return n < 16;
-    }
-    if tag == 2 {
-        return count < 64;
-    }
-    true
-}
-
-fn nickname_new(s: &[u8], starts: &[usize], n: usize, end: usize, tag: u8, v: &[u8]) -> bool
-    requires { ⌜ n ≤ length (now starts) ⌝ }
-    ensures { λ r. ⌜ r ≡ newBy (switchesTo (now (s .entry)) (now (starts .entry)) n end) tag (now (v .entry)) ⌝ }
-{
-    if tag != 1 {
-        return true;
-    }
-    !nickname_known(s, starts, n, end, v)
-}
-
-fn entry_known(s: &[u8], starts: &[usize], n: usize, end: usize, tag: u8, v: &[u8]) -> bool
-    requires { ⌜ n ≤ length (now starts) ⌝ }
-    ensures { λ r. ⌜ r ≡ knownBy (switchesTo (now (s .entry)) (now (starts .entry)) n end) tag (now (v .entry)) ⌝ }
-{
-    if tag != 5 {
-        return true;
-    }
-    nickname_known(s, starts, n, end, v)
-}
-
-// 45 to 48, or 0.
-fn context_refusal(s: &[u8], starts: &[usize], n: usize, end: usize, tag: u8, v: &[u8]) -> u32
-    requires { ⌜ n ≤ length (now starts) ⌝ }
-    ensures { λ r. ⌜ r ≡ contextBy n (switchesTo (now (s .entry)) (now (starts .entry)) n end) tag (now (v .entry)) ⌝ }
-{
-    if !nickname_new(s, starts, n, end, tag, v) {
+    if known {
         return 45;
     }
-    let t = latest(s, starts, n, end, tag, v);
-    if !room_good(n, tag, t.count) {
+    if n == 16 {
         return 46;
     }
-    if t.met {
-        return 47;
-    }
-    if !entry_known(s, starts, n, end, tag, v) {
-        return 48;
-    }
+    starts[n] = end;
     0
 }
 
-// 42 to 48, or 0; the fields of the latest switch end at the field's own place.
-pub fn field_refusal(
-    s: &[u8],
-    starts: &[usize],
-    n: usize,
-    clock: usize,
-    at: usize,
-    tag: u8,
-    v: &[u8],
-) -> u32
-    requires { ⌜ n ≤ length (now starts) ⌝ }
-    ensures { λ r. ⌜ r ≡ C.fieldRefusal (readBy (now (s .entry)) (now (starts .entry)) n clock at) (F.field tag (now (v .entry))) ⌝ }
+// Tags 2 and 3, of the latest switch.
+fn extend(w: &mut [u64], starts: &[usize], n: usize, clock: usize, tag: u8, v: &[u8]) -> u32
+    requires { ⌜ Kept (now w) (now starts) n × (0 < n) × OfSettings tag (length (now v)) ⌝ }
+    ensures { λ r. ⌜ Took (now (w .entry)) (now (starts .entry)) n clock tag (now (v .entry)) r (now (w .exit)) (now (starts .entry)) ⌝ }
+{
+    let at = starts[n - 1];
+    switches::extend(w, at, tag, v)
+}
+
+// 42 to 48, or 0.
+pub fn take(w: &mut [u64], starts: &mut [usize], n: usize, clock: usize, tag: u8, v: &[u8]) -> u32
+    requires { ⌜ Kept (now w) (now starts) n ⌝ }
+    ensures { λ r. ⌜ Took (now (w .entry)) (now (starts .entry)) n clock tag (now (v .entry)) r (now (w .exit)) (now (starts .exit)) ⌝ }
 {
     if !length_good(tag, v.len()) {
         return 42;
@@ -176,8 +100,17 @@ pub fn field_refusal(
     if !place_good(n, clock, tag) {
         return 43;
     }
-    if !value_good(tag, v) {
-        return 44;
+    if tag == 1 {
+        return open(w, starts, n, clock, v);
     }
-    context_refusal(s, starts, n, at, tag, v)
+    if tag == 4 {
+        return 0;
+    }
+    if tag == 5 {
+        if !nickname_known(w, starts, n, v) {
+            return 48;
+        }
+        return 0;
+    }
+    extend(w, starts, n, clock, tag, v)
 }

@@ -1,62 +1,56 @@
-// The switches of a description, by the places where their fields start: the fields of one end where those of the next start.
-use rules::FieldRead;
+// The switches of a description: a store for each, one behind the other in one row of words. `starts` says where each begins; what stands behind a
+// store is read as its hints, which any words may be.
 ghost use mathlib.Core.Path.{_≡_};
-ghost use Prim.Native.Nat.{_≤_};
-ghost use lib.ListN.{length};
-ghost use Rattle.rules.specs.Settings.{settingsRead};
-ghost use Rattle.rules.specs.Campus.{switchNamed};
-ghost use Rattle.campus.specs.Places as P;
+ghost use mathlib.Core.List.{_++_};
+ghost use Prim.Native.Nat.{_+_, _≤_, _<_};
+ghost use lib.ListN.{length, take, drop, getD};
+ghost use Rattle.handler.specs.Extend.{Opens, Extends};
+ghost use Rattle.campus.specs.Stores.{numberIn, endOf, Placed, Kept, PartOpens, PartExtends};
 
-// The fields of the switch of a nickname, or no such switch.
+// The number of a switch, or no such switch.
 pub enum Named {
-    At { start: usize, end: usize },
+    At(usize),
     Nowhere,
 }
 
-// The octets from place to place, or none where these are out of order or past the end.
-pub fn between(s: &[u8], start: usize, end: usize) -> &[u8]
-    ensures { λ r. ⌜ now r ≡ P.between (now (s .entry)) start end ⌝ }
+// The latest of the first n switches that has this nickname.
+pub fn find(w: &[u64], starts: &[usize], n: usize, nickname: u32) -> Named
+    requires { ⌜ Placed (now w) (now starts) n ⌝ }
+    ensures { λ r. ⌜ r ≡ numberIn (now (w .entry)) (now (starts .entry)) n nickname ⌝ }
 {
-    if end < start {
-        return &s[..0];
-    }
-    if s.len() < end {
-        return &s[..0];
-    }
-    &s[start..end]
-}
-
-pub fn nickname_of(fields: &[u8]) -> u16
-    ensures { λ r. ⌜ r ≡ settingsRead (now (fields .entry)) .nickname ⌝ }
-{
-    let FieldRead::Taken {
-        tag: _,
-        length: _,
-        next,
-    } = octets::field_at(fields, 0)
-    else {
-        return 0;
-    };
-    octets::be16(&fields[3..next], 0)
-}
-
-// The latest of the first n switches that has this nickname; the fields of the last of them end at `end`.
-pub fn find(s: &[u8], starts: &[usize], n: usize, end: usize, nickname: u32) -> Named
-    requires { ⌜ n ≤ length (now starts) ⌝ }
-    ensures { λ r. ⌜ P.switchBy (now (s .entry)) r ≡ switchNamed (P.switchesTo (now (s .entry)) (now (starts .entry)) n end) nickname ⌝ }
-{
-    let mut to = end;
     let mut i = n;
     while 0 < i {
         i -= 1;
-        let from = starts[i];
-        if nickname_of(between(s, from, to)) as u32 == nickname {
-            return Named::At {
-                start: from,
-                end: to,
-            };
+        let at = starts[i];
+        if w[at] == nickname as u64 {
+            return Named::At(i);
         }
-        to = from;
     }
     Named::Nowhere
+}
+
+// Where the store of the latest of n switches ends.
+pub fn end_of(w: &[u64], starts: &[usize], n: usize) -> usize
+    requires { ⌜ Kept (now w) (now starts) n ⌝ }
+    ensures { λ r. ⌜ r ≡ endOf (now (w .entry)) (now (starts .entry)) n ⌝ }
+{
+    if n == 0 {
+        return 0;
+    }
+    let at = starts[n - 1];
+    at + 4 + 2 * w[at + 3] as usize
+}
+
+pub fn open(w: &mut [u64], at: usize, v: &[u8]) -> bool
+    requires { ⌜ at ≤ length (now w) ⌝ }
+    ensures { λ r. ⌜ PartOpens (now (w .entry)) at (now (v .entry)) r (now (w .exit)) ⌝ }
+{
+    handler::store_open(&mut w[at..], v)
+}
+
+pub fn extend(w: &mut [u64], at: usize, tag: u8, v: &[u8]) -> u32
+    requires { ⌜ at ≤ length (now w) ⌝ }
+    ensures { λ r. ⌜ PartExtends (now (w .entry)) at tag (now (v .entry)) r (now (w .exit)) ⌝ }
+{
+    handler::store_extend(&mut w[at..], tag, v)
 }

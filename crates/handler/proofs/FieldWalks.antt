@@ -2,26 +2,24 @@
 -- of fields for each step, and by induction on the fields. Assumes nothing.
 use mathlib.Core.Path.{_≡_, refl, sym, ap, _∙_}
 use mathlib.Core.List.{List, [], _∷_, _++_, foldl, foldl-append}
-use mathlib.Core.Bool.{Bool, true, false, not, true≢false}
+use mathlib.Core.Bool.{Bool, true, false, not}
 use Prim.Native.Nat.{ℕ, suc, _+_, _-_, _≤_, _<_}
 use native.Mathlib.Omega.{arith}
-use borrow.Author.Needs.{needs}
 use borrow.Author.Tests.{lt-ltb, le-ltb, ltb-true, ltb-false, eq-eqb, ne-eqb, eqb-true, eqb-false}
 use lib.Dec.{ltb, eqb}
 use lib.ListN.{length}
-use Rattle.rules.specs.Octets.{octet, be16, part}
+use Rattle.rules.specs.Octets.{octet, part}
 use Rattle.rules.specs.Fields.{Field, field, cut, fieldAt, fieldsFrom, fields}
-use Rattle.rules.specs.Settings.{Settings, newer, ruling, nextHop, switchOf, hopOf, withField, opened, settingsRead, waysOf}
+use Rattle.rules.specs.Settings.{Settings, newer, ruling, switchOf, hopOf, withField, opened, settingsRead, waysOf}
 use Rattle.rules.specs.declared.NextHop.{NextHop}
 use Rattle.rules.specs.declared.Ruling.{Ruling}
 use Rattle.rules.specs.declared.Ruling.the-variants.{Found, Absent}
 use Rattle.rules.specs.declared.FieldRead.{FieldRead}
 use Rattle.rules.specs.declared.FieldRead.the-variants.{Taken, Cut}
 use Rattle.rules.proofs.TestLaws.{by-test}
-use Rattle.rules.proofs.OctetLaws.{be16-part}
 use Rattle.rules.proofs.FieldLaws.{field-read, fields-end, fields-cut, fields-on}
 use Rattle.handler.specs.Shapes.{ownOf, ruledBy, flaggedBy, FoldedFrom}
-use Rattle.handler.proofs.Taken.{its, taken}
+use Rattle.handler.proofs.Taken.{its}
 use Rattle.handler.proofs.JudgeLaws.{with-hop, with-other, first}
 
 -- the record that rules once one more is seen
@@ -55,29 +53,11 @@ module _ (d : ℕ) (best : Ruling) where
     unfolding ruledBy
     ruled-hop e = rw e
 
-    pub ruled-newer : (r : Ruling) → r ≡ newer d best (hopOf v) → tag ≡ 2 → r ≡ ruledBy d best (field tag v)
-    ruled-newer r is e = is ∙ ruled-hop e
-
     pub ruled-other : (tag ≡ 2 → ⊥) → best ≡ ruledBy d best (field tag v)
     unfolding ruledBy
     ruled-other h = rw (ne-eqb tag 2 h)
 
--- a record of another destination
-abbrev pub Passed : ℕ → List ℕ → ℕ → ℕ → ℕ → Type 0
-Passed d s at tag size = (size ≡ 14) × ((best : Ruling) → best ≡ ruledBy d best (field tag (part s (at + 3) size)))
-
-pub passed-by : (d : ℕ) (s : List ℕ) (at tag size word : ℕ) → tag ≡ 2 → size ≡ 14 → word ≡ be16 s (at + 3) → not (eqb word d) ≡ true → Passed d s at tag size
-passed-by d s at tag size word two long is other =
-    let v = part s (at + 3) size in
-    let different : word ≡ d → ⊥ = λ e. true≢false (sym other ∙ ap not (eq-eqb word d e)) in
-    let named : be16 v 0 ≡ d → ⊥ = λ e. different (is ∙ sym (be16-part s (at + 3) size (omega arith)) ∙ e) in
-    (long, λ best. newer-other d (hopOf v) best named ∙ ruled-hop d best tag v two)
-
 module _ (strip : Bool) where
-  pub flagged-cut : flaggedBy strip cut ≡ strip
-  unfolding flaggedBy
-  flagged-cut = refl
-
   module _ (tag : ℕ) (v : List ℕ) where
     pub flagged-so : tag ≡ 3 → not (eqb (octet v 0) 0) ≡ flaggedBy strip (field tag v)
     unfolding flaggedBy
@@ -109,11 +89,6 @@ module _ {A : Type 0} (step : A → Field → A) (start : A) (s : List ℕ) (fro
         ap (foldl step acc) (sym (fields-end (l .fuel) s at h)) ∙ l .gives
 
     module _ (h : at < length s) (read : FieldRead) (f : read ≡ fieldAt s at) where
-      pub fold-cut : read ≡ Cut → step acc cut ≡ acc → FoldedFrom step start s from acc
-      fold-cut e c g k =
-          let l = w .left g k in
-          sym c ∙ ap (foldl step acc) (sym (fields-cut (l .fuel) s at h (sym f ∙ e))) ∙ l .gives
-
       module _ (tag size next : ℕ) (t : read ≡ Taken tag size next) where
         pub fold-on : (acc′ : A) → acc′ ≡ step acc (field tag (part s (at + 3) (next - (at + 3)))) → Folding step start s from next acc′
         fold-on acc′ a =
@@ -130,25 +105,6 @@ module _ {A : Type 0} (step : A → Field → A) (start : A) (s : List ℕ) (fro
                     gives = rw (a, the-size, less) (ap (foldl step acc) (sym (fields-on (l .fuel) s at tag size next h (sym f ∙ t))) ∙ l .gives);
                   };
             }
-
-        -- a record that changes nothing
-        fold-over : size ≡ 14 → acc ≡ step acc (field tag (part s (at + 3) size)) → Folding step start s from (at + 17) acc
-        fold-over k same =
-            let i = its s at tag size next read t f in
-            let ends : at + 17 ≡ next = omega (arith, i) in
-            let the-size : next - (at + 3) ≡ size = omega (arith, i) in
-            rw ends (fold-on acc (rw the-size same))
-
-module _ (s : List ℕ) (from at : ℕ) (h : at < length s) (read : FieldRead) (f : read ≡ fieldAt s at) (tag size next : ℕ) (t : read ≡ Taken tag size next) (b : Bool) (is : b ≡ true) where
-  pub ruled-over : (d : ℕ) (best : Ruling) → Folding (ruledBy d) Absent s from at best → (b ≡ true → Passed d s at tag size) → Folding (ruledBy d) Absent s from (at + 17) best
-  ruled-over d best w p = fold-over (ruledBy d) Absent s from at best w h read f tag size next t (p is .0) (p is .1 best)
-
-  pub flagged-over : (strip : Bool) → Folding flaggedBy false s from at strip → (b ≡ true → (tag ≡ 2) × (size ≡ 14)) → Folding flaggedBy false s from (at + 17) strip
-  flagged-over strip w p = fold-over flaggedBy false s from at strip w h read f tag size next t (p is .1) (flagged-other strip tag _ (omega (arith, p is .0)))
-
-pub ruleset ruling-from-laws = (needs, fold-begin, fold-end, fold-cut, fold-on, taken, ruled-cut, ruled-newer, ruled-other, ruled-over)
-
-pub ruleset flag-from-laws = (needs, fold-begin, fold-end, fold-cut, fold-on, taken, flagged-cut, flagged-over)
 
 -- the settings read, by the first field
 opened-cut : opened cut ≡ switchOf []
@@ -237,31 +193,10 @@ ruling-fold : (d : ℕ) (S : Settings) (fs : List Field) → ruling (foldl withF
 ruling-fold d S [] = refl
 ruling-fold d S (f ∷ fs) = ruling-fold d (withField S f) fs ∙ ap (λ (b : Ruling). foldl (ruledBy d) b fs) (ruling-with d S f)
 
--- there is no next hop, or the record that rules
-module _ (S : Settings) (d : ℕ) where
-  hop-none : ruling (S .hops) d ≡ Absent → Absent ≡ nextHop S d
-  unfolding nextHop
-  hop-none e = rw (nextHop, e)
-
-  module _ (r : NextHop) (e : ruling (S .hops) d ≡ Found r) where
-    hop-withdrawn : r .neighbour ≡ 0 → Absent ≡ nextHop S d
-    unfolding nextHop
-    hop-withdrawn z = rw (nextHop, e, eq-eqb (r .neighbour) 0 z)
-
-    hop-found : (r .neighbour ≡ 0 → ⊥) → Found r ≡ nextHop S d
-    unfolding nextHop
-    hop-found n = rw (nextHop, e, ne-eqb (r .neighbour) 0 n)
-
 -- of settings whose first field is cut
 module _ (s : List ℕ) (e : fieldAt s 0 ≡ Cut) where
   pub own-cut : record { nickname = 0; mac = 0 } ≡ ownOf (waysOf (settingsRead s))
   own-cut = ap (λ (S : Settings). ownOf (waysOf S)) (sym (read-cut s e))
-
-  pub strip-cut : false ≡ settingsRead s .strip
-  strip-cut = ap (λ (S : Settings). S .strip) (sym (read-cut s e))
-
-  pub hop-cut : (d : ℕ) → Absent ≡ nextHop (settingsRead s) d
-  hop-cut d = hop-none (settingsRead s) d (rw (read-cut s e) (ruling-none d))
 
 -- and of settings whose first field is taken
 module _ (s : List ℕ) {tag size next : ℕ} (e : fieldAt s 0 ≡ Taken tag size next) where
@@ -280,13 +215,3 @@ module _ (s : List ℕ) {tag size next : ℕ} (e : fieldAt s 0 ≡ Taken tag siz
         ∙ ruling-fold d (switchOf (part s 3 (next - 3))) (fieldsFrom (length s) s next)
         ∙ ap (λ (c : Ruling). foldl (ruledBy d) c (fieldsFrom (length s) s next)) (ruling-none d)
         ∙ sym (rest-folded s e (ruledBy d) Absent b f)
-
-    pub no-hop : b ≡ Absent → Absent ≡ nextHop (settingsRead s) d
-    no-hop a = hop-none (settingsRead s) d (rules ∙ a)
-
-    module _ (r : NextHop) (is : b ≡ Found r) where
-      pub hop-gone : r .neighbour ≡ 0 → Absent ≡ nextHop (settingsRead s) d
-      hop-gone = hop-withdrawn (settingsRead s) d r (rules ∙ is)
-
-      pub hop-there : (r .neighbour ≡ 0 → ⊥) → Found r ≡ nextHop (settingsRead s) d
-      hop-there = hop-found (settingsRead s) d r (rules ∙ is)

@@ -7,17 +7,19 @@ use mathlib.Core.Bool.{Bool, true, false, _||_, _&&_, true≢false, false≢true
 use native.Mathlib.Omega.{arith}
 use native.Mathlib.Nat.{zero-add, add-zero}
 use borrow.Author.Needs.{needs}
-use lib.ListN.{length, getD, set, length-set, length-append}
-use lib.Seq.{getD-set-same, getD-set-other}
+use lib.ListN.{length, getD, set, take, drop, length-set, length-append, List·getD-append}
+use lib.Seq.{getD-set-same, getD-set-other, getD-take, getD-drop, getD-append-add, length-take-le, ext-getD}
 use lib.Dec.{eqb, leb, ltb}
 use borrow.Author.Tests.{lt-ltb, le-ltb, eqb-true, eqb-false, leb-true, leb-false, ltb-true, ltb-false, eq-eqb, ne-eqb}
+use Rattle.rules.specs.Octets.{part, put}
+use Rattle.rules.proofs.OctetLaws.{length-put, length-part}
 use Rattle.rules.proofs.TestLaws.{by-test, and-true, or-yes, or-no, or-assoc}
 use Rattle.rules.specs.declared.NextHop.{NextHop}
 use Rattle.rules.specs.declared.Ruling.{Ruling}
 use Rattle.rules.specs.declared.Ruling.the-variants.{Found, Absent}
 use Rattle.rules.specs.Settings as S
 use Rattle.handler.specs.Store.{keyAt, valueAt, rankAt, destAt, hopOf, hopAt, hopsFrom, Ordered, StandsFor}
-use Rattle.handler.specs.Insert.{storeKey, storeValue, metAt, PlaceFor, Shifted, PutIn, With, Inserted}
+use Rattle.handler.specs.Insert.{storeKey, storeValue, placeFor, metAt, metIn, putIn, insertedIn, PlaceFor, Shifted, PutIn, With}
 use Rattle.handler.proofs.RulingLaws.{row-slide, hops-split, fold-append}
 
 -- the fields of a record are in range, as those read from octets are
@@ -38,20 +40,41 @@ module _ (w : List ℕ) (n rank p : ℕ) where
   unfolding metAt
   met-there h = simp (lt-ltb p n h)
 
--- the loop of `place_for`
-pub above-one-more : (w : List ℕ) (n rank i : ℕ) → 0 < i → ((j : ℕ) → i ≤ j → j < n → rank ≤ rankAt w j) → rank ≤ getD w (2 + 2 * i) 0 / 65536 → (j : ℕ) → i - 1 ≤ j → j < n → rank ≤ rankAt w j
-above-one-more w n rank i p above h j a b = by-test (leb i j) (λ t. above j (leb-true i j t) b) here
-  where
-    here : leb i j ≡ false → rank ≤ rankAt w j
-    here f =
-        let m : j < i = leb-false i j f in
-        let e : 2 + 2 * i ≡ 4 + 2 * j = omega arith in
-        (rw e at h)
+-- the place for a rank
+module _ (w : List ℕ) (rank n : ℕ) where
+  pub place-none : placeFor w rank 0 ≡ 0
+  unfolding placeFor
+  place-none = refl
 
-pub below-it : (w : List ℕ) (rank i : ℕ) → getD w (2 + 2 * i) 0 / 65536 < rank → (j : ℕ) → suc j ≡ i → rankAt w j < rank
-below-it w rank i h j e =
-    let m : 2 + 2 * i ≡ 4 + 2 * j = omega arith in
-    (rw m at h)
+  pub place-here : rankAt w n < rank → placeFor w rank (suc n) ≡ suc n
+  unfolding placeFor
+  place-here h = rw (lt-ltb (rankAt w n) rank h)
+
+  pub place-below : rank ≤ rankAt w n → placeFor w rank (suc n) ≡ placeFor w rank n
+  unfolding placeFor
+  place-below h = rw (placeFor, le-ltb (rankAt w n) rank h)
+
+place-more : (w : List ℕ) (rank n : ℕ) → PlaceFor w n rank (placeFor w rank n) → PlaceFor w (suc n) rank (placeFor w rank (suc n))
+place-more w rank n p = by-test (ltb (rankAt w n) rank) (λ t. here (ltb-true (rankAt w n) rank t)) (λ f. below (ltb-false (rankAt w n) rank f))
+  where
+    here : rankAt w n < rank → PlaceFor w (suc n) rank (placeFor w rank (suc n))
+    here h = rw (place-here w rank n h) (record { within = omega arith; above = λ j a b. absurd (omega arith); below = λ j e. last j (omega (arith, e)) })
+      where
+        last : (j : ℕ) → j ≡ n → rankAt w j < rank
+        last j e = rw e h
+
+    below : rank ≤ rankAt w n → PlaceFor w (suc n) rank (placeFor w rank (suc n))
+    below h = rw (place-below w rank n h) (record { within = omega (arith, p .within); above = λ j a b. above j a b; below = p .below })
+      where
+        above : (j : ℕ) → placeFor w rank n ≤ j → j < suc n → rank ≤ rankAt w j
+        above j a b =
+            by-test (ltb j n) (λ t. p .above j a (ltb-true j n t)) (λ f.
+            let e : j ≡ n = omega (arith, ltb-false j n f) in
+            rw e h)
+
+pub placed : (w : List ℕ) (rank n : ℕ) → PlaceFor w n rank (placeFor w rank n)
+placed w rank zero = rw (place-none w rank 0) (record { within = omega arith; above = λ j a b. absurd (omega arith); below = λ j e. absurd (omega (arith, e)) })
+placed w rank (suc n) = place-more w rank n (placed w rank n)
 
 -- the loop of `shift`, from behind: the words from i on are moved
 pub record Shifting (w : List ℕ) (to i : ℕ) (v : List ℕ) : Type 0 where
@@ -88,22 +111,6 @@ pub shifting-end : (w : List ℕ) (from to i : ℕ) (v : List ℕ) → i ≡ fro
 shifting-end w from to i v e s =
     record { size = s .size; before = λ j h. s .before j (omega arith); moved = λ j a b. s .moved j (omega arith) b; beyond = s .beyond }
 
--- the two ways out of `insert`
-module _ (w : List ℕ) (n key value p : ℕ) (place : PlaceFor w n (key / 65536) p) where
-  pub insert-refused : metAt w n (key / 65536) p ≡ true → Inserted w n key value false w
-  unfolding metAt
-  insert-refused m =
-      let b = and-true (ltb p n) (eqb (rankAt w p) (key / 65536)) m in
-      record { put-in = λ e. absurd (false≢true e); refused = λ e. (refl, (p, ltb-true p n (b .0), eqb-true (rankAt w p) (key / 65536) (b .1))) }
-
-  not-met : metAt w n (key / 65536) p ≡ false → p < n → key / 65536 < rankAt w p
-  not-met m h =
-      let e = eqb-false (rankAt w p) (key / 65536) (met-there w n (key / 65536) p h ∙ m) in
-      by-test (leb (rankAt w p) (key / 65536)) (λ t. absurd (e (omega (arith, leb-true (rankAt w p) (key / 65536) t, place .above p (omega arith) h)))) (λ f. leb-false (rankAt w p) (key / 65536) f)
-
-  pub insert-done : (v : List ℕ) → metAt w n (key / 65536) p ≡ false → PutIn w n key value p v → Inserted w n key value true v
-  insert-done v m put = record { put-in = λ e. (p, record { place = place; fresh = not-met m; put = put }); refused = λ e. absurd (true≢false e) }
-
 -- two words written where the records were moved up
 pub put-done : (w : List ℕ) (n key value p : ℕ) (v : List ℕ) → p ≤ n → 6 + 2 * n ≤ length w → Shifted w (4 + 2 * p) (4 + 2 * n) v → PutIn w n key value p (set (set v (4 + 2 * p) key) (5 + 2 * p) value)
 put-done w n key value p v within room s = record { shifted = all; here-key = one; here-value = two }
@@ -126,6 +133,127 @@ put-done w n key value p v within room s = record { shifted = all; here-key = on
           moved = λ j a b. other (j + 2) (λ e. absurd (omega arith)) (λ e. absurd (omega arith)) ∙ s .moved j a b;
           beyond = λ j h. other j (λ e. absurd (omega arith)) (λ e. absurd (omega arith)) ∙ s .beyond j h;
         }
+
+-- a word of a buffer after something was written into it
+module _ (d : List ℕ) (at : ℕ) (s : List ℕ) (room : at + length s ≤ length d) where
+  head-long : length (take at d ++ s) ≡ at + length s
+  head-long = length-append (take at d) s ∙ ap (λ (k : ℕ). k + length s) (length-take-le at d (omega arith))
+
+  put-before : (j : ℕ) → j < at → getD (put d at s) j 0 ≡ getD d j 0
+  unfolding put
+  put-before j h =
+      List·getD-append (take at d ++ s) (drop (at + length s) d) 0 j (omega (arith, head-long))
+      ∙ List·getD-append (take at d) s 0 j (omega (arith, length-take-le at d (omega arith)))
+      ∙ getD-take at d j 0 h
+
+  put-inside : (j k : ℕ) → j ≡ at + k → k < length s → getD (put d at s) j 0 ≡ getD s k 0
+  unfolding put
+  put-inside j k e h =
+      let t : length (take at d) ≡ at = length-take-le at d (omega arith) in
+      rw e
+      (List·getD-append (take at d ++ s) (drop (at + length s) d) 0 (at + k) (omega (arith, head-long))
+      ∙ ap (λ (m : ℕ). getD (take at d ++ s) (m + k) 0) (sym t)
+      ∙ getD-append-add (take at d) s k 0)
+
+  put-beyond : (j k : ℕ) → j ≡ at + length s + k → getD (put d at s) j 0 ≡ getD d j 0
+  unfolding put
+  put-beyond j k e =
+      rw e
+      (ap (λ (m : ℕ). getD (take at d ++ s ++ drop (at + length s) d) (m + k) 0) (sym head-long)
+      ∙ getD-append-add (take at d ++ s) (drop (at + length s) d) k 0
+      ∙ getD-drop (at + length s) d k 0)
+
+-- the words with a record put in, word by word
+module _ (w : List ℕ) (n key value p : ℕ) (within : p ≤ n) (room : 6 + 2 * n ≤ length w) where
+  abbrev at : ℕ
+  at = 4 + 2 * p
+
+  abbrev moved-up : List ℕ
+  moved-up = part w at (2 * (n - p))
+
+  up-long : length moved-up ≡ 2 * (n - p)
+  up-long = length-part w at (2 * (n - p)) (omega arith)
+
+  abbrev new : List ℕ
+  new = key ∷ value ∷ moved-up
+
+  new-room : at + length new ≤ length w
+  new-room = omega (arith, up-long)
+
+  pub put-in : PutIn w n key value p (putIn w n key value p)
+  unfolding putIn
+  put-in =
+      record {
+        shifted =
+            record {
+              size = length-put w at new new-room;
+              before = λ j h. put-before w at new new-room j h;
+              moved = λ j a b. up j a b;
+              beyond = λ j h. put-beyond w at new new-room j (j - (6 + 2 * n)) (omega (arith, up-long));
+            };
+        here-key = put-inside w at new new-room at 0 (omega arith) (omega arith);
+        here-value = put-inside w at new new-room (5 + 2 * p) 1 (omega arith) (omega arith);
+      }
+    where
+      up : (j : ℕ) → at ≤ j → j < 4 + 2 * n → getD (put w at new) (j + 2) 0 ≡ getD w j 0
+      up j a b =
+          let e : at + (j - at) ≡ j = omega arith in
+          put-inside w at new new-room (j + 2) (suc (suc (j - at))) (omega arith) (omega (arith, up-long))
+          ∙ getD-take (2 * (n - p)) (drop at w) (j - at) 0 (omega arith)
+          ∙ getD-drop at w (j - at) 0
+          ∙ ap (λ (k : ℕ). getD w k 0) e
+
+  -- and there are no other such words
+  pub put-is : (v : List ℕ) → PutIn w n key value p v → v ≡ putIn w n key value p
+  put-is v q = ext-getD 0 v (putIn w n key value p) (q .shifted .size ∙ sym (put-in .shifted .size)) (λ j h. same j)
+    where
+      same : (j : ℕ) → getD v j 0 ≡ getD (putIn w n key value p) j 0
+      same j =
+          by-test (ltb j at) (λ t. q .shifted .before j (ltb-true j at t) ∙ sym (put-in .shifted .before j (ltb-true j at t))) (λ f.
+          let l = ltb-false j at f in
+          by-test (eqb j at) (λ t. rw (eqb-true j at t) (q .here-key ∙ sym (put-in .here-key))) (λ g.
+          by-test (eqb j (5 + 2 * p)) (λ t. rw (eqb-true j (5 + 2 * p) t) (q .here-value ∙ sym (put-in .here-value))) (λ h.
+          behind j (omega (arith, l, eqb-false j at g, eqb-false j (5 + 2 * p) h)))))
+        where
+          behind : (j : ℕ) → 6 + 2 * p ≤ j → getD v j 0 ≡ getD (putIn w n key value p) j 0
+          behind j l =
+              by-test (ltb j (6 + 2 * n)) (λ t.
+              let u = ltb-true j (6 + 2 * n) t in
+              let e : j - 2 + 2 ≡ j = omega arith in
+              (rw e at (q .shifted .moved (j - 2) (omega arith) (omega arith))) ∙ sym (rw e at (put-in .shifted .moved (j - 2) (omega arith) (omega arith))))
+              (λ f. q .shifted .beyond j (omega (arith, ltb-false j (6 + 2 * n) f)) ∙ sym (put-in .shifted .beyond j (omega (arith, ltb-false j (6 + 2 * n) f))))
+
+-- a record in its place
+module _ (w : List ℕ) (n key value : ℕ) where
+  abbrev rank : ℕ
+  rank = key / 65536
+
+  abbrev place : ℕ
+  place = placeFor w rank n
+
+  pub inserted-met : metIn w n rank ≡ true → insertedIn w n key value ≡ w
+  unfolding insertedIn
+  inserted-met m = rw m
+
+  module _ (m : metIn w n rank ≡ false) where
+    pub inserted-new : insertedIn w n key value ≡ putIn w n key value place
+    unfolding insertedIn
+    inserted-new = rw m
+
+    fresh : place < n → rank < rankAt w place
+    unfolding metIn
+    fresh h =
+        let e = eqb-false (rankAt w place) rank (met-there w n rank place h ∙ m) in
+        omega (arith, e, placed w rank n .above place (omega arith) h)
+
+    pub with-record : 6 + 2 * n ≤ length w → With w n key value place (insertedIn w n key value)
+    with-record room = rw inserted-new (record { place = placed w rank n; fresh = fresh; put = put-in w n key value place (placed w rank n .within) room })
+
+  pub met-record : metIn w n rank ≡ true → (place < n) × (rankAt w place ≡ rank)
+  unfolding metIn metAt
+  met-record m =
+      let b = and-true (ltb place n) (eqb (rankAt w place) rank) m in
+      (ltb-true place n (b .0), eqb-true (rankAt w place) rank (b .1))
 
 by-place : {X : Type 0} (p i : ℕ) → (i < p → X) → (i ≡ p → X) → ((k : ℕ) → i ≡ suc k → p ≤ k → X) → X
 by-place p i a b c =
@@ -291,7 +419,10 @@ row-unmet w r (suc k) i h =
 
 -- THE INSERTION: a record put in among records that stand for settings' makes them stand for these with it; it is refused exactly if
 -- its serial was met
-module _ (w : List ℕ) (n : ℕ) (r : NextHop) (v : List ℕ) (hops : List NextHop) (few : n < 64) (fits : Fitting r) (s : StandsFor w n hops) where
+module _ (w : List ℕ) (n : ℕ) (r : NextHop) (hops : List NextHop) (few : n < 64) (room : 6 + 2 * n ≤ length w) (fits : Fitting r) (s : StandsFor w n hops) where
+  abbrev v : List ℕ
+  v = insertedIn w n (storeKey r) (storeValue r)
+
   apart : (p : ℕ) → With w n (storeKey r) (storeValue r) p v → (j : ℕ) → j < n → hopAt w j .destination ≡ r .destination → hopAt w j .serial ≡ r .serial → ⊥
   apart p t j h x y =
       let e = rank-of w j r fits x y in
@@ -308,22 +439,25 @@ module _ (w : List ℕ) (n : ℕ) (r : NextHop) (v : List ℕ) (hops : List Next
         same-met = λ x. met-append x hops (r ∷ []) ∙ ap (λ (b : Bool). b || S.serialMet x (r ∷ [])) (s .same-met x) ∙ sym (met-with w n (storeKey r) (storeValue r) p v (s .ordered) t r is-r x);
       }
 
-  pub met-refused : Inserted w n (storeKey r) (storeValue r) false v → S.serialMet r hops ≡ true
-  met-refused i =
-      let t = i .refused refl in
-      let x = of-rank w (t .1 .0) r fits (t .1 .2) in
-      rw (s .same-met r, row-met w r n 0 (t .1 .0) (omega arith) (omega (arith, t .1 .1)) (x .0) (x .1))
+  met-so : metIn w n (storeKey r / 65536) ≡ true → S.serialMet r hops ≡ true
+  met-so m =
+      let t = met-record w n (storeKey r) (storeValue r) m in
+      let x = of-rank w (placeFor w (storeKey r / 65536) n) r fits (t .1) in
+      rw (s .same-met r, row-met w r n 0 (placeFor w (storeKey r / 65536) n) (omega arith) (omega (arith, t .0)) (x .0) (x .1))
 
-  pub unmet-put : Inserted w n (storeKey r) (storeValue r) true v → S.serialMet r hops ≡ false
-  unmet-put i =
-      let t = i .put-in refl in
-      rw (s .same-met r, row-unmet w r n 0 (λ j a c. apart (t .0) (t .1) j (omega arith)))
+  unmet-so : metIn w n (storeKey r / 65536) ≡ false → S.serialMet r hops ≡ false
+  unmet-so m =
+      let t = with-record w n (storeKey r) (storeValue r) m room in
+      rw (s .same-met r, row-unmet w r n 0 (λ j a c. apart (placeFor w (storeKey r / 65536) n) t j (omega arith)))
 
-  pub stands-more : Inserted w n (storeKey r) (storeValue r) true v → StandsFor v (suc n) (hops ++ (r ∷ []))
-  stands-more i = let t = i .put-in refl in put-stands (t .0) (t .1)
+  pub met-is : metIn w n (storeKey r / 65536) ≡ S.serialMet r hops
+  met-is = by-test (metIn w n (storeKey r / 65536)) (λ t. t ∙ sym (met-so t)) (λ f. f ∙ sym (unmet-so f))
+
+  pub stands-more : metIn w n (storeKey r / 65536) ≡ false → StandsFor (insertedIn w n (storeKey r) (storeValue r)) (suc n) (hops ++ (r ∷ []))
+  stands-more m = put-stands (placeFor w (storeKey r / 65536) n) (with-record w n (storeKey r) (storeValue r) m room)
 
 -- words that agree from the first record on
-module _ (w v : List ℕ) (n : ℕ) (few : n ≤ 64) (same : (j : ℕ) → 4 ≤ j → j < 132 → getD v j 0 ≡ getD w j 0) where
+module _ (w v : List ℕ) (n : ℕ) (few : n ≤ 64) (same : (j : ℕ) → 4 ≤ j → j < 4 + 2 * n → getD v j 0 ≡ getD w j 0) where
   hop-same : (i : ℕ) → i < n → hopAt v i ≡ hopAt w i
   unfolding hopAt
   hop-same i h = rw (same (4 + 2 * i) (omega arith) (omega arith), same (5 + 2 * i) (omega arith) (omega arith))

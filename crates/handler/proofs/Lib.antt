@@ -18,5 +18,6 @@ pub mod WayOutLaws
 pub mod RulingLaws
 pub mod LookupLaws
 pub mod InsertLaws
+pub mod ExtendLaws
 pub mod PrepareLaws
 pub mod ScanLaws

@@ -1,21 +1,21 @@
 -- Settings octets into a store as the code does it: one law for each need of the loops, of one more field, and of the whole. By position, and by the
 -- laws of insertion, of fields and of settings for each step. Assumes nothing.
 use Prim.Native.Nat.{ℕ, suc, _+_, _-_, _*_, _/_, _%_, _≤_, _<_}
-use mathlib.Core.Path.{_≡_, refl, sym, ap, _∙_, fun-ext}
+use mathlib.Core.Path.{_≡_, refl, sym, ap, _∙_}
 use mathlib.Core.List.{List, [], _∷_, _++_}
 use mathlib.Core.Bool.{Bool, true, false, not, _&&_, true≢false, false≢true}
 use mathlib.Core.Option.{Option, none, some}
 use native.Mathlib.Omega.{arith}
 use native.Mathlib.Numerals.{add-one}
 use borrow.Author.Needs.{needs}
-use borrow.Author.Tests.{lt-ltb, le-ltb, le-leb, eq-eqb, ne-eqb, eqb-true, eqb-false, leb-true, leb-false, not-true, not-false}
+use borrow.Author.Tests.{lt-ltb, le-ltb, lt-leb, le-leb, eq-eqb, ne-eqb, ltb-true, leb-true, not-true, not-false}
 use lib.Dec.{ltb, leb, eqb}
 use lib.ListN.{length, getD, set, drop, length-set, List·getD-append}
 use lib.Bits.{bitOr}
 use lib.Seq.{getD-set-same, getD-set-other, paste, paste-zero, paste-suc, take-length, drop-at}
 use Rattle.octets.proofs.Bits.{or-add}
 use Rattle.rules.specs.Octets as O
-use Rattle.rules.specs.Octets.{put, octet, be16, be48, part}
+use Rattle.rules.specs.Octets.{if_then_else_, put, octet, be16, be48, part}
 use Rattle.rules.specs.Fields.{Field, field, cut, fieldAt, fieldsFrom, fields, hopSize, lengthGood}
 use Rattle.rules.specs.Settings as S
 use Rattle.rules.specs.Settings.{Settings, hopGood, withField, continues, settingsFrom, settingsOf, opens, opened, switchOf, waysOf, nicknameValid, macGood, switchGood}
@@ -24,40 +24,50 @@ use Rattle.rules.specs.Campus.{known}
 use Rattle.rules.specs.declared.NextHop.{NextHop}
 use Rattle.rules.specs.declared.FieldRead.{FieldRead}
 use Rattle.rules.specs.declared.FieldRead.the-variants.{Taken, Cut}
-use Rattle.rules.proofs.TestLaws.{by-test, and-true, and-no}
+use Rattle.rules.proofs.TestLaws.{by-test, and-true}
 use Rattle.rules.proofs.OctetLaws.{put-front, length-put}
 use Rattle.rules.proofs.FieldLaws.{field-read, fields-end, fields-cut, fields-on}
 use Rattle.rules.proofs.SettingsLaws.{from-on, from-bad, from-read}
 use Rattle.rules.proofs.HandlingLaws.{settings-good}
 use Rattle.handler.specs.declared.way.Own.{Own}
-use Rattle.handler.specs.Keys.{keyOf, flagTaken}
-use Rattle.handler.specs.Store.{nicknameIn, countIn, rankAt, hopsFrom, placeIn, hopFor, waysIn, storeGood, handledIn, StandsFor, Stands, Roomy, Takes, Filled, Fills, Hinted, preparing, Prepared}
-use Rattle.handler.specs.Insert.{storeKey, storeValue, metAt, PlaceFor, Shifted, PutIn, Inserted}
+use Rattle.handler.specs.Keys.{keyOf}
+use Rattle.handler.specs.Store.{countIn, waysIn, storeGood, handledIn, Stands, Roomy, Filled, Fills, Hinted, preparing, Prepared}
+use Rattle.handler.specs.Insert.{storeKey, storeValue, placeFor, metAt, metIn, putIn, insertedIn, Shifted}
+use Rattle.handler.specs.Extend.{withSwitch, opensIn, Opens, roomIn, countBy, metBy, addedTo, recordCode, flagCode, extending, extended, Extends}
 use Rattle.handler.proofs.Taken.{taken, taken-first}
-use Rattle.handler.proofs.KeyLaws.{field-flag, flag-tag}
-use Rattle.handler.proofs.JudgeLaws.{continues-flag, continues-other, continues-cut, first, settings-open, settings-shut, settings-bad, settings-cut}
+use Rattle.handler.proofs.JudgeLaws.{continues-cut, first, settings-open, settings-shut, settings-bad, settings-cut}
 use Rattle.handler.proofs.FieldWalks.{own-fold, opened-field}
-use Rattle.handler.proofs.InsertLaws.{met-past, met-there, above-one-more, below-it, Shifting, shifting-begin, shifting-on, shifting-end, insert-refused, insert-done, put-done, fitting, met-refused, unmet-put, stands-more, stands-same}
-use Rattle.handler.proofs.LookupLaws.{serves}
+use Rattle.handler.proofs.InsertLaws.{met-past, met-there, place-none, place-here, place-below, placed, Shifting, shifting-begin, shifting-on, shifting-end, put-done, put-is, inserted-met, inserted-new, with-record}
+use Rattle.handler.proofs.ExtendLaws.{Ample, extending-2, extending-3, extending-other, extended-not, extended-2, extended-3, record-long, extending-continues, extended-stands, extended-long, extended-few, switch-stands, switch-counts, switch-long, says, is-good, stands-too}
 
 -- the place for a rank, from behind
 pub record Placing (w : List ℕ) (n rank i : ℕ) : Type 0 where
   pub within : i ≤ n
-  pub above : (j : ℕ) → i ≤ j → j < n → rank ≤ rankAt w j
+  pub same : placeFor w rank i ≡ placeFor w rank n
 
 module _ (w : List ℕ) (n rank : ℕ) where
   pub placing-begin : Placing w n rank n
-  placing-begin = record { within = omega arith; above = λ j a b. absurd (omega arith) }
+  placing-begin = record { within = omega arith; same = refl }
 
   module _ (i : ℕ) (p : Placing w n rank i) where
-    pub placing-found : getD w (2 + 2 * i) 0 / 65536 < rank → PlaceFor w n rank i
-    placing-found h = record { within = p .within; above = p .above; below = below-it w rank i h }
+    module _ (z : 0 < i) where
+      one-less : suc (i - 1) ≡ i
+      one-less = omega arith
 
-    pub placing-on : 0 < i → rank ≤ getD w (2 + 2 * i) 0 / 65536 → Placing w n rank (i - 1)
-    placing-on z h = record { within = omega (arith, p .within); above = above-one-more w n rank i z (p .above) h }
+      word-is : 2 + 2 * i ≡ 4 + 2 * (i - 1)
+      word-is = omega arith
 
-    pub placing-end : i ≤ 0 → PlaceFor w n rank 0
-    placing-end z = record { within = omega arith; above = λ j a b. p .above j (omega arith) b; below = λ j e. absurd (omega arith) }
+      pub placing-found : getD w (2 + 2 * i) 0 / 65536 < rank → i ≡ placeFor w rank n
+      placing-found h = sym (rw one-less at (place-here w rank (i - 1) (rw word-is at h))) ∙ p .same
+
+      pub placing-on : rank ≤ getD w (2 + 2 * i) 0 / 65536 → Placing w n rank (i - 1)
+      placing-on h =
+          record { within = omega (arith, p .within); same = sym (rw one-less at (place-below w rank (i - 1) (rw word-is at h))) ∙ p .same }
+
+    pub placing-end : i ≤ 0 → 0 ≡ placeFor w rank n
+    placing-end z =
+        let e : i ≡ 0 = omega arith in
+        sym (place-none w rank n) ∙ (rw e at (p .same))
 
 pub ruleset place-for-laws = (needs, placing-begin, placing-found, placing-on, placing-end)
 
@@ -86,21 +96,30 @@ pub ruleset shift-laws = (needs, moving-begin, moving-on, moving-end)
 pub ruleset met-laws = (needs, met-past, met-there)
 
 -- the two ways out of an insertion
-module _ (w : List ℕ) (n key value p rank : ℕ) (r : rank ≡ key / 65536) (place : PlaceFor w n rank p) where
-  placed : PlaceFor w n (key / 65536) p
-  placed = rw r at place
+module _ (w : List ℕ) (n key value p rank : ℕ) (r : rank ≡ key / 65536) (place : p ≡ placeFor w rank n) (m : Bool) (is : m ≡ metAt w n rank p) where
+  met-in : m ≡ metIn w n (key / 65536)
+  unfolding metIn
+  met-in = rw (← r, ← place) is
 
-  module _ (m : Bool) (is : m ≡ metAt w n rank p) where
-    pub inserted-not : m ≡ true → Inserted w n key value false w
-    inserted-not t = insert-refused w n key value p placed (sym (rw r at is) ∙ t)
+  pub inserted-not : m ≡ true → false ≡ not (metIn w n (key / 65536))
+  inserted-not t = rw (← met-in, t)
 
-    pub inserted-so : (v : List ℕ) → m ≡ false → PutIn w n key value p v → Inserted w n key value true v
-    inserted-so v t put = insert-done w n key value p placed v (sym (rw r at is) ∙ t) put
+  pub inserted-same : m ≡ true → w ≡ insertedIn w n key value
+  inserted-same t = sym (inserted-met w n key value (sym met-in ∙ t))
 
-pub place-within : (w : List ℕ) (n rank p : ℕ) → PlaceFor w n rank p → p ≤ n
-place-within w n rank p e = e .within
+  module _ (t : m ≡ false) where
+    pub inserted-so : true ≡ not (metIn w n (key / 65536))
+    inserted-so = rw (← met-in, t)
 
-pub ruleset insert-laws = (needs, inserted-not, inserted-so, place-within)
+    pub inserted-put : (v : List ℕ) → v ≡ putIn w n key value p → v ≡ insertedIn w n key value
+    inserted-put v e =
+        let q : p ≡ placeFor w (key / 65536) n = place ∙ ap (λ (x : ℕ). placeFor w x n) r in
+        e ∙ ap (putIn w n key value) q ∙ sym (inserted-new w n key value (sym met-in ∙ t))
+
+pub place-within : (w : List ℕ) (n rank p : ℕ) → p ≡ placeFor w rank n → p ≤ n
+place-within w n rank p e = rw e (placed w rank n .within)
+
+pub ruleset insert-laws = (needs, inserted-not, inserted-same, inserted-so, inserted-put, place-within)
 
 module _ (p : ℕ) (v w : List ℕ) (from to n : ℕ) (s : Shifted w from to v) (within : p ≤ n) (room : 6 + 2 * n ≤ length w) where
   pub key-room : 4 + 2 * p < length v
@@ -109,7 +128,10 @@ module _ (p : ℕ) (v w : List ℕ) (from to n : ℕ) (s : Shifted w from to v) 
   pub value-room : (key : ℕ) → 5 + 2 * p < length (set v (4 + 2 * p) key)
   value-room key = rw length-set (omega (arith, s .size))
 
-pub ruleset put-at-laws = (needs, put-done, key-room, value-room)
+pub put-at-is : (w : List ℕ) (n key value p : ℕ) (v : List ℕ) → p ≤ n → 6 + 2 * n ≤ length w → Shifted w (4 + 2 * p) (4 + 2 * n) v → set (set v (4 + 2 * p) key) (5 + 2 * p) value ≡ putIn w n key value p
+put-at-is w n key value p v within room s = put-is w n key value p within room (set (set v (4 + 2 * p) key) (5 + 2 * p) value) (put-done w n key value p v within room s)
+
+pub ruleset put-at-laws = (needs, put-at-is, key-room, value-room)
 
 pub value-made : (v : List ℕ) (mac neighbour : ℕ) → mac ≡ be48 v 4 → neighbour ≡ be16 v 2 → bitOr (mac * 65536 % 18446744073709551616) neighbour ≡ storeValue (S.hopOf v)
 value-made v mac neighbour a b = or-add (mac * 65536 % 18446744073709551616) 16 neighbour (omega arith) (omega arith) ∙ omega arith
@@ -119,141 +141,206 @@ key-made v key vlan a b = or-add (key * 65536 % 18446744073709551616) 16 vlan (o
 
 pub ruleset value-of-laws = (needs, value-made, key-made)
 
+-- room for one more record
+module _ (w : List ℕ) where
+  room-parts : roomIn w ≡ true → (4 ≤ length w) × (countIn w < 64) × (6 + 2 * countIn w ≤ length w)
+  unfolding roomIn
+  room-parts e =
+      let a = and-true (leb 4 (length w)) (ltb (countIn w) 64 && leb (6 + 2 * countIn w) (length w)) e in
+      let b = and-true (ltb (countIn w) 64) (leb (6 + 2 * countIn w) (length w)) (a .1) in
+      (leb-true 4 (length w) (a .0), ltb-true (countIn w) 64 (b .0), leb-true (6 + 2 * countIn w) (length w) (b .1))
+
+  no-room : roomIn w ≡ false → 64 ≡ countBy w
+  unfolding countBy
+  no-room e = rw e
+
+  some-room : roomIn w ≡ true → countIn w ≡ countBy w
+  unfolding countBy
+  some-room e = rw e
+
+  pub count-short : length w < 4 → 64 ≡ countBy w
+  unfolding roomIn
+  count-short h = no-room (rw (lt-leb 4 (length w) h))
+
+  module _ (a : 4 ≤ length w) where
+    pub count-full : 64 ≤ getD w 3 0 → 64 ≡ countBy w
+    unfolding roomIn
+    count-full h = no-room (rw (le-leb 4 (length w) a, le-ltb (getD w 3 0) 64 h))
+
+    module _ (b : getD w 3 0 < 64) where
+      pub count-cramped : length w < 6 + 2 * getD w 3 0 → 64 ≡ countBy w
+      unfolding roomIn
+      count-cramped h = no-room (rw (le-leb 4 (length w) a, lt-ltb (getD w 3 0) 64 b, lt-leb (6 + 2 * getD w 3 0) (length w) h))
+
+      pub count-so : 6 + 2 * getD w 3 0 ≤ length w → getD w 3 0 ≡ countBy w
+      unfolding roomIn
+      count-so h = some-room (rw (le-leb 4 (length w) a, lt-ltb (getD w 3 0) 64 b, le-leb (6 + 2 * getD w 3 0) (length w) h))
+
+pub ruleset count-laws = (needs, count-short, count-full, count-cramped, count-so)
+
+-- what the number says
+module _ (w : List ℕ) (n : ℕ) (is : n ≡ countBy w) where
+  full-so : n ≡ 64 → roomIn w ≡ false
+  full-so e = by-test (roomIn w) (λ t. absurd (omega (arith, is, some-room w t, room-parts w t))) (λ f. f)
+
+  room-so : (n ≡ 64 → ⊥) → roomIn w ≡ true
+  room-so h = by-test (roomIn w) (λ t. t) (λ f. absurd (h (is ∙ sym (no-room w f))))
+
+  counts-so : (n ≡ 64 → ⊥) → n ≡ countIn w
+  counts-so h = is ∙ sym (some-room w (room-so h))
+
 -- a record: one law for each way that it is refused, and one where it is taken
-module _ (T : Settings) (v : List ℕ) where
-  continues-record : continues T (field 2 v) ≡ (hopSize (length v) && (hopGood (S.hopOf v) && ltb (length (T .hops)) 64 && not (S.serialMet (S.hopOf v) (T .hops))))
-  unfolding continues lengthGood
-  continues-record = refl
-
-  with-record : withField T (field 2 v) ≡ S.withHop T (S.hopOf v)
-  unfolding withField
-  with-record = refl
-
-not-taken : {w : List ℕ} {f : Field} {v : List ℕ} → ((T : Settings) → Stands w T → false ≡ continues T f) → Takes w f false v
-not-taken e = record { judged = e; stands = λ T s t. absurd (false≢true t); roomy = λ t. absurd (false≢true t) }
-
 module _ (w v : List ℕ) where
-  pub admit-long : (sized : Bool) → sized ≡ hopSize (length v) → not sized ≡ true → Takes w (field 2 v) false w
-  admit-long sized is n = not-taken (λ T s. rw (continues-record T v, ← is, not-true sized n))
+  refused-2 : (code : ℕ) → 0 < code → recordCode w v ≡ code → Extends w 2 v code w
+  refused-2 code z e =
+      let is : extending w 2 v ≡ code = extending-2 w v ∙ e in
+      record { code = sym is; words = sym (extended-not w v 2 (λ q. absurd (omega (arith, q, is)))) }
 
-  pub admit-bad : (ok : Bool) → ok ≡ hopGood (S.hopOf v) → not ok ≡ true → Takes w (field 2 v) false w
-  admit-bad ok is n = not-taken (λ T s. rw (continues-record T v, ← is, not-true ok n, and-no))
+  long-2 : lengthGood 2 (length v) ≡ hopSize (length v)
+  unfolding lengthGood
+  long-2 = refl
 
-  pub admit-full : (n : ℕ) → n ≡ getD w 3 0 → n ≡ 64 → Takes w (field 2 v) false w
-  admit-full n is e =
-      not-taken (λ T s.
-      let many : length (T .hops) ≡ 64 = s .records .count ∙ sym is ∙ e in
-      rw (continues-record T v, many, and-no, and-no))
+  pub admit-long : (sized : Bool) → sized ≡ hopSize (length v) → not sized ≡ true → Extends w 2 v 42 w
+  unfolding recordCode
+  admit-long sized is t = refused-2 42 (omega arith) (rw (recordCode, long-2, ← is, t))
 
-  module _ (n key value : ℕ) (is : n ≡ getD w 3 0) (k : key ≡ storeKey (S.hopOf v)) (x : value ≡ storeValue (S.hopOf v)) (u : List ℕ) where
-    pub admit-met : (put : Bool) → Inserted w n key value put u → not put ≡ true → Roomy w → (n ≡ 64 → ⊥) → Takes w (field 2 v) false u
-    admit-met put i t roomy room =
-        not-taken (λ T s.
-        let j : Inserted w n (storeKey (S.hopOf v)) (storeValue (S.hopOf v)) false u = rw (not-true put t, k, x) at i in
-        let met = met-refused w n (S.hopOf v) u (T .hops) (omega (arith, roomy .most, room)) (fitting v) (rw (← is) at (s .records)) j in
-        rw (continues-record T v, met, and-no, and-no))
+  module _ (sized : Bool) (s-is : sized ≡ hopSize (length v)) (long : not sized ≡ false) (ok : Bool) (g : ok ≡ hopGood (S.hopOf v)) where
+    pub admit-bad : not ok ≡ true → Extends w 2 v 44 w
+    unfolding recordCode
+    admit-bad n = refused-2 44 (omega arith) (rw (recordCode, long-2, ← s-is, long, ← g, n))
 
-    module _ (right : Bool) (i-s : right ≡ hopSize (length v)) (long : not right ≡ false) (ok : Bool) (g : ok ≡ hopGood (S.hopOf v)) (t : not ok ≡ false) (room : n ≡ 64 → ⊥) (roomy : Roomy w) (put : Bool) (i : Inserted w n key value put u) (p : not put ≡ false) where
-      few : n < 64
-      few = omega (arith, roomy .most, room)
+    module _ (n : not ok ≡ false) (i : ℕ) (c : i ≡ countBy w) where
+      pub admit-full : i ≡ 64 → Extends w 2 v 46 w
+      unfolding recordCode
+      admit-full f = refused-2 46 (omega arith) (rw (recordCode, long-2, ← s-is, long, ← g, n, full-so w i c f))
 
-      its-in : Inserted w n (storeKey (S.hopOf v)) (storeValue (S.hopOf v)) true u
-      its-in = rw (not-false put p, k, x) at i
+      module _ (f : i ≡ 64 → ⊥) (put : Bool) (p : put ≡ not (metBy w v)) (u : List ℕ) (q : u ≡ addedTo w v) where
+        code-is : recordCode w v ≡ (if put then 0 else 47)
+        unfolding recordCode
+        code-is = rw (recordCode, long-2, ← s-is, long, ← g, n, room-so w i c f, p) (turned (metBy w v))
+          where
+            turned : (b : Bool) → _≡_ {A = ℕ} (if b then 47 else 0) (if not b then 0 else 47)
+            turned true = refl
+            turned false = refl
 
-      sized : length u ≡ length w
-      sized = its-in .put-in refl .1 .put .shifted .size
+        pub admit-met : not put ≡ true → Extends w 2 v 47 u
+        admit-met t =
+            let m : metBy w v ≡ true = not-false (metBy w v) (sym p ∙ not-true put t) in
+            rw (q, m) (refused-2 47 (omega arith) (code-is ∙ rw (not-true put t)))
 
-      kept : (j : ℕ) → j < 4 → getD u j 0 ≡ getD w j 0
-      kept j h = its-in .put-in refl .1 .put .shifted .before j (omega arith)
+        pub admit-taken : not put ≡ false → Extends w 2 v 0 u
+        admit-taken t =
+            let m : metBy w v ≡ false = not-true (metBy w v) (sym p ∙ not-false put t) in
+            let z : extending w 2 v ≡ 0 = extending-2 w v ∙ code-is ∙ rw (not-false put t) in
+            record { code = sym z; words = q ∙ rw m (sym (extended-2 w v z)) }
 
-      abbrev last : List ℕ
-      last = set u 3 (n + 1)
+module _ (w : List ℕ) (n : ℕ) (is : n ≡ countBy w) (h : n ≡ 64 → ⊥) where
+  pub admit-count : n ≡ countIn w
+  admit-count = counts-so w n is h
 
-      counts : countIn last ≡ n + 1
-      counts = getD-set-same u 3 (n + 1) 0 (omega (arith, sized, roomy .size))
+  pub admit-few : n < 64
+  admit-few = omega (arith, counts-so w n is h, room-parts w (room-so w n is h))
 
-      other : (j : ℕ) → (j ≡ 3 → ⊥) → getD last j 0 ≡ getD u j 0
-      other j ne = getD-set-other u 3 j (n + 1) 0 ne
+  pub admit-room : 6 + 2 * n ≤ length w
+  admit-room = omega (arith, counts-so w n is h, room-parts w (room-so w n is h))
 
-      takes : (T : Settings) → Stands w T → true ≡ continues T (field 2 v)
-      takes T s =
-          let unmet = unmet-put w n (S.hopOf v) u (T .hops) few (fitting v) (rw (← is) at (s .records)) its-in in
-          rw (continues-record T v, ← i-s, not-false right long, ← g, not-false ok t, lt-ltb (length (T .hops)) 64 (omega (arith, few, s .records .count)), unmet)
+-- words with one more record, or as they were, are as many
+pub added-long : (u w v : List ℕ) (n : ℕ) → u ≡ addedTo w v → n ≡ countBy w → (n ≡ 64 → ⊥) → length u ≡ length w
+added-long u w v n q is h =
+    by-test (metBy w v)
+    (λ t. ap length q ∙ rw t)
+    (λ t. ap length q ∙ rw t (record-long w v (record { few = room-parts w (room-so w n is h) .1; room = room-parts w (room-so w n is h) .2; new = t })))
 
-      stands-with : (T : Settings) → Stands w T → Stands last (withField T (field 2 v))
-      stands-with T s =
-          let more = stands-more w n (S.hopOf v) u (T .hops) few (fitting v) (rw (← is) at (s .records)) its-in in
-          let same = stands-same u last (suc n) (omega arith) (λ j a b. other j (omega arith)) (T .hops ++ (S.hopOf v ∷ [])) more in
-          let count : countIn last ≡ suc n = counts ∙ omega arith in
-          rw (with-record T v)
-          (record {
-            nickname = other 0 (omega arith) ∙ kept 0 (omega arith) ∙ s .nickname;
-            mac = ap (λ (y : ℕ). y / 65536) (other 1 (omega arith) ∙ kept 1 (omega arith)) ∙ s .mac;
-            strip = ap (λ (y : ℕ). not (eqb y 0)) (other 2 (omega arith) ∙ kept 2 (omega arith)) ∙ s .strip;
-            records = rw count same;
-          })
+pub ruleset admit-laws = (needs, admit-long, admit-bad, admit-full, admit-met, admit-taken, admit-count, admit-few, admit-room, added-long)
 
-      pub admit-taken : Takes w (field 2 v) true (set u 3 (n + 1))
-      admit-taken =
-          record { judged = takes; stands = λ T s e. stands-with T s; roomy = λ e. record { size = length-set u 3 (n + 1) ∙ sized ∙ roomy .size; most = omega (arith, counts, few) } }
+-- the record put in and counted
+module _ (w v : List ℕ) (n key value : ℕ) (c : n ≡ countIn w) (k : key ≡ storeKey (S.hopOf v)) (x : value ≡ storeValue (S.hopOf v))
+    (put : Bool) (p : put ≡ not (metIn w n (key / 65536))) (u : List ℕ) (q : u ≡ insertedIn w n key value) where
+  met-is : put ≡ not (metBy w v)
+  met-is = p ∙ rw (c, k)
 
-pub admit-room : (w : List ℕ) (n : ℕ) → Roomy w → n ≡ getD w 3 0 → (n ≡ 64 → ⊥) → 6 + 2 * n ≤ length w
-admit-room w n roomy is h = omega (arith, roomy .size, roomy .most, h)
+  pub add-met : not put ≡ true → false ≡ not (metBy w v)
+  add-met t = sym (not-true put t) ∙ met-is
 
-module _ {w : List ℕ} (roomy : Roomy w) where
-  pub roomy-size : length w ≡ 164
-  roomy-size = roomy .size
+  pub add-same : not put ≡ true → u ≡ addedTo w v
+  add-same t =
+      let m : metIn w n (key / 65536) ≡ true = not-false (metIn w n (key / 65536)) (sym p ∙ not-true put t) in
+      let b : metBy w v ≡ true = not-false (metBy w v) (sym met-is ∙ not-true put t) in
+      q ∙ inserted-met w n key value m ∙ rw b
 
-  pub roomy-three : 3 < length w
-  roomy-three = omega (arith, roomy .size)
+  module _ (t : not put ≡ false) where
+    pub add-taken : true ≡ not (metBy w v)
+    add-taken = sym (not-false put t) ∙ met-is
 
-pub put-size : (w : List ℕ) (n key value : ℕ) (v : List ℕ) (put : Bool) → Roomy w → Inserted w n key value put v → not put ≡ false → 3 < length v
-put-size w n key value v put roomy i p = omega (arith, roomy .size, (rw (not-false put p) at i) .put-in refl .1 .put .shifted .size)
+    pub add-words : set u 3 (n + 1) ≡ addedTo w v
+    add-words =
+        let b : metBy w v ≡ false = not-true (metBy w v) (sym met-is ∙ not-false put t) in
+        rw (b, q, k, x, c)
 
-pub ruleset admit-laws = (needs, admit-long, admit-bad, admit-full, admit-met, admit-taken, admit-room, roomy-three, put-size)
+pub add-size : (u w : List ℕ) (n key value : ℕ) → u ≡ insertedIn w n key value → 6 + 2 * n ≤ length w → length u ≡ length w
+add-size u w n key value q long =
+    by-test (metIn w n (key / 65536))
+    (λ t. ap length (q ∙ inserted-met w n key value t))
+    (λ t. ap length q ∙ with-record w n key value t long .put .shifted .size)
+
+pub add-three : (u w : List ℕ) (n key value : ℕ) → u ≡ insertedIn w n key value → 6 + 2 * n ≤ length w → 3 < length u
+add-three u w n key value q long = omega (arith, add-size u w n key value q long)
+
+pub ruleset add-laws = (needs, add-met, add-same, add-taken, add-words, add-size, add-three)
 
 -- a flag
-module _ (w : List ℕ) (tag : ℕ) (v : List ℕ) (two : tag ≡ 2 → ⊥) where
-  flag-judged : (T : Settings) → continues T (field tag v) ≡ flagTaken tag v
-  flag-judged T =
-      by-test (eqb tag 3) (λ e. rw (eqb-true tag 3 e) (continues-flag T v [] 0)) (λ e. continues-other T v [] 0 tag two (eqb-false tag 3 e))
-      ∙ field-flag [] 0 tag v two
+module _ (w v : List ℕ) where
+  refused-3 : (code : ℕ) → 0 < code → flagCode w v ≡ code → Extends w 3 v code w
+  refused-3 code z e =
+      let is : extending w 3 v ≡ code = extending-3 w v ∙ e in
+      record { code = sym is; words = sym (extended-not w v 3 (λ q. absurd (omega (arith, q, is)))) }
 
-  with-flag : (T : Settings) → tag ≡ 3 → withField T (field tag v) ≡ S.withStrip T (not (eqb (octet v 0) 0))
-  unfolding withField
-  with-flag T e = rw e
+  long-3 : lengthGood 3 (length v) ≡ eqb (length v) 1
+  unfolding lengthGood
+  long-3 = refl
 
-  module _ (ok : Bool) (is : ok ≡ flagTaken tag v) where
-    pub flag-not : not ok ≡ true → Takes w (field tag v) false w
-    flag-not n = not-taken (λ T s. sym (flag-judged T ∙ sym is ∙ not-true ok n))
+  pub flag-long : (length v ≡ 1 → ⊥) → Extends w 3 v 42 w
+  unfolding flagCode
+  flag-long h = refused-3 42 (omega arith) (rw (flagCode, long-3, ne-eqb (length v) 1 h))
 
-    pub flag-so : (b : ℕ) → b ≡ octet v 0 → Roomy w → not ok ≡ false → Takes w (field tag v) true (set w 2 b)
-    flag-so b e roomy n =
-        record {
-          judged = λ T s. sym (flag-judged T ∙ sym is ∙ not-false ok n);
-          stands = λ T s t. stands-flag T s;
-          roomy = λ t. record { size = length-set w 2 b ∙ roomy .size; most = omega (arith, other 3 (omega arith), roomy .most) };
-        }
-      where
-        other : (j : ℕ) → (j ≡ 2 → ⊥) → getD (set w 2 b) j 0 ≡ getD w j 0
-        other j ne = getD-set-other w 2 j b 0 ne
+  module _ (long : length v ≡ 1) (b : ℕ) (is : b ≡ octet v 0) where
+    pub flag-bad : 1 < b → Extends w 3 v 44 w
+    unfolding flagCode
+    flag-bad h = refused-3 44 (omega arith) (rw (flagCode, long-3, eq-eqb (length v) 1 long, ← is, lt-leb b 1 h))
 
-        stands-flag : (T : Settings) → Stands w T → Stands (set w 2 b) (withField T (field tag v))
-        stands-flag T s =
-            rw (with-flag T (flag-tag tag v (sym is ∙ not-false ok n)))
-            (record {
-              nickname = other 0 (omega arith) ∙ s .nickname;
-              mac = ap (λ (y : ℕ). y / 65536) (other 1 (omega arith)) ∙ s .mac;
-              strip = ap (λ (y : ℕ). not (eqb y 0)) (getD-set-same w 2 b 0 (omega (arith, roomy .size)) ∙ e);
-              records = rw (other 3 (omega arith)) (stands-same w (set w 2 b) (countIn w) (roomy .most) (λ j x y. other j (omega arith)) (T .hops) (s .records));
-            })
+    module _ (h : b ≤ 1) where
+      pub flag-short : length w < 4 → Extends w 3 v 46 w
+      unfolding flagCode
+      flag-short l = refused-3 46 (omega arith) (rw (flagCode, long-3, eq-eqb (length v) 1 long, ← is, le-leb b 1 h, lt-ltb (length w) 4 l))
 
-pub ruleset flag-laws = (needs, roomy-three, flag-not, flag-so)
+      pub flag-taken : 4 ≤ length w → (c : ℕ) → c ≡ octet v 0 → Extends w 3 v 0 (set w 2 c)
+      unfolding flagCode
+      flag-taken l c q =
+          let z : extending w 3 v ≡ 0 = extending-3 w v ∙ rw (flagCode, long-3, eq-eqb (length v) 1 long, ← is, le-leb b 1 h, le-ltb (length w) 4 l) in
+          record { code = sym z; words = rw q (sym (extended-3 w v z)) }
 
-pub take-record : (w : List ℕ) (tag : ℕ) (v : List ℕ) (r : Bool) (u : List ℕ) → tag ≡ 2 → Takes w (field 2 v) r u → Takes w (field tag v) r u
-take-record w tag v r u e t = rw e t
+pub ruleset flag-laws = (needs, flag-long, flag-bad, flag-short, flag-taken)
 
-pub ruleset take-laws = (needs, take-record)
+-- by the tag
+module _ (w : List ℕ) (tag : ℕ) (v : List ℕ) where
+  pub extend-2 : (r : ℕ) (u : List ℕ) → tag ≡ 2 → Extends w 2 v r u → Extends w tag v r u
+  extend-2 r u e t = rw e t
+
+  pub extend-3 : (r : ℕ) (u : List ℕ) → tag ≡ 3 → Extends w 3 v r u → Extends w tag v r u
+  extend-3 r u e t = rw e t
+
+  pub extend-other : (tag ≡ 2 → ⊥) → (tag ≡ 3 → ⊥) → Extends w tag v 43 w
+  extend-other a b =
+      let is = extending-other w v tag a b in
+      record { code = sym is; words = sym (extended-not w v tag (λ q. absurd (omega (arith, q, is)))) }
+
+  pub extend-long : (r : ℕ) (u : List ℕ) → Extends w tag v r u → length u ≡ length w
+  extend-long r u e = ap length (e .words) ∙ extended-long w tag v
+
+pub ruleset extend-laws = (needs, extend-2, extend-3, extend-other, extend-long)
+
+roomy-ample : (w : List ℕ) → Roomy w → Ample w
+roomy-ample w r = record { opened = omega (arith, r .size); room = λ h. omega (arith, r .size) }
 
 -- the fields from a place on: what is left decides as the whole does
 pub record Left (s : List ℕ) (whole : Option Settings) (w : List ℕ) (at : ℕ) : Type 0 where
@@ -294,95 +381,93 @@ module _ (s : List ℕ) (from : ℕ) (w : List ℕ) where
             roomy = λ e. absurd (false≢true e);
           }
 
-      module _ (tag size next : ℕ) (t : read ≡ Taken tag size next) (r : Bool) (u : List ℕ) (step : Takes v (field tag (part s (at + 3) (next - (at + 3)))) r u) where
+      module _ (tag size next : ℕ) (t : read ≡ Taken tag size next) (r : ℕ) (u : List ℕ) (step : Extends v tag (part s (at + 3) (next - (at + 3))) r u) where
         the-field : fieldAt s at ≡ Taken tag size next
         the-field = sym q ∙ t
 
         abbrev f : Field
         f = field tag (part s (at + 3) size)
 
-        stepped : Takes v f r u
+        abbrev value : List ℕ
+        value = part s (at + 3) size
+
+        stepped : Extends v tag value r u
         stepped =
             let i = field-read s at tag size next the-field in
             let same : next - (at + 3) ≡ size = omega (arith, i) in
             (rw same at step)
 
-        pub filling-bad : not r ≡ true → Fills s from w false u
+        judges : (T : Settings) → Stands v T → eqb r 0 ≡ continues T f
+        judges T st = rw (stepped .code) (extending-continues v T st (roomy-ample v (l .roomy)) tag value)
+
+        pub filling-bad : (r ≡ 0 → ⊥) → Fills s from w false u
         filling-bad n =
             record {
               filled = λ T g st k.
                   let x = l .left T g st k in
-                  let bad : continues (x .read) f ≡ false = sym (stepped .judged (x .read) (x .stands)) ∙ not-true r n in
+                  let bad : continues (x .read) f ≡ false = sym (judges (x .read) (x .stands)) ∙ ne-eqb r 0 n in
                   rw (← x .decides, fields-on (x .fuel) s at tag size next h the-field, from-bad (x .read) f (fieldsFrom (x .fuel) s next) bad);
               roomy = λ e. absurd (false≢true e);
             }
 
-        pub filling-on : not r ≡ false → length u ≡ length v → Filling s from w u next
-        filling-on n same =
+        pub filling-on : r ≡ 0 → Filling s from w u next
+        filling-on n =
             let i = field-read s at tag size next the-field in
+            let same : length u ≡ length v = ap length (stepped .words) ∙ extended-long v tag value in
             record {
               within = i .within;
-              roomy = stepped .roomy (not-false r n);
+              roomy = record { size = same ∙ l .roomy .size; most = rw (stepped .words) (extended-few v tag value (l .roomy .most)) };
               size = same ∙ l .size;
               left = λ T g st k.
                   let x = l .left T g st k in
                   let less : suc (x .fuel - 1) ≡ x .fuel = omega (arith, x .enough) in
-                  let ok : continues (x .read) f ≡ true = sym (stepped .judged (x .read) (x .stands)) ∙ not-false r n in
+                  let ok : continues (x .read) f ≡ true = sym (judges (x .read) (x .stands)) ∙ eq-eqb r 0 n in
                   record {
                     read = withField (x .read) f;
                     fuel = x .fuel - 1;
                     enough = omega (arith, x .enough, i);
                     decides = rw (less, ← from-on (x .read) f (fieldsFrom (x .fuel) s next) ok, ← fields-on (x .fuel) s at tag size next h the-field) (x .decides);
-                    stands = stepped .stands (x .read) (x .stands) (not-false r n);
+                    stands = rw (stepped .words) (extended-stands v (x .read) (x .stands) (roomy-ample v (l .roomy)) value tag (sym (stepped .code) ∙ n));
                   };
             }
 
-pub ruleset fill-from-laws = (needs, taken, filling-begin, filling-end, filling-cut, filling-bad, filling-on)
+pub ruleset fill-from-laws = (needs, taken, extend-long, filling-begin, filling-end, filling-cut, filling-bad, filling-on)
 
 -- the switch alone
-module _ (w v : List ℕ) (a x : ℕ) (long : length w ≡ 164) (ea : a ≡ be16 v 0) (ex : x ≡ be48 v 2) where
-  abbrev m : ℕ
-  m = bitOr (x * 65536 % 18446744073709551616) 8947
+module _ (w v : List ℕ) (a x : ℕ) (long : 4 ≤ length w) (ea : a ≡ be16 v 0) (ex : x ≡ be48 v 2) where
+  four-put : (l : List ℕ) (m : ℕ) → 4 ≤ length l → set (set (set (set l 0 a) 1 m) 2 0) 3 0 ≡ put l 0 (a ∷ m ∷ 0 ∷ 0 ∷ [])
+  unfolding put
+  four-put [] m h = absurd (omega arith)
+  four-put (b ∷ []) m h = absurd (omega arith)
+  four-put (b ∷ c ∷ []) m h = absurd (omega arith)
+  four-put (b ∷ c ∷ d ∷ []) m h = absurd (omega arith)
+  four-put (b ∷ c ∷ d ∷ e ∷ l) m h = refl
 
-  abbrev fresh : List ℕ
-  fresh = set (set (set (set w 0 a) 1 m) 2 0) 3 0
+  pub open-is : set (set (set (set w 0 a) 1 (bitOr (x * 65536 % 18446744073709551616) 8947)) 2 0) 3 0 ≡ withSwitch w v
+  open-is =
+      let e : bitOr (x * 65536 % 18446744073709551616) 8947 ≡ be48 v 2 * 65536 + 8947 =
+      or-add (x * 65536 % 18446744073709551616) 16 8947 (omega arith) (omega arith) ∙ omega arith in
+      four-put w (bitOr (x * 65536 % 18446744073709551616) 8947) long ∙ rw (e, ea)
 
-  word-1 : m / 65536 ≡ be48 v 2
-  word-1 =
-      let e : m ≡ x * 65536 % 18446744073709551616 + 8947 = or-add (x * 65536 % 18446744073709551616) 16 8947 (omega arith) (omega arith) in
-      rw e (omega arith)
+module _ (w : List ℕ) (long : 4 ≤ length w) where
+  pub four-1 : 1 < length w
+  four-1 = omega arith
 
-  long-2 : length (set (set w 0 a) 1 m) ≡ 164
-  long-2 = simp length-set long
+  pub four-2 : 2 < length w
+  four-2 = omega arith
 
-  at-3 : getD fresh 3 0 ≡ 0
-  at-3 = getD-set-same (set (set (set w 0 a) 1 m) 2 0) 3 0 0 (simp length-set (omega arith))
+  pub four-3 : 3 < length w
+  four-3 = omega arith
 
-  at-2 : getD fresh 2 0 ≡ 0
-  at-2 = getD-set-other (set (set (set w 0 a) 1 m) 2 0) 3 2 0 0 (omega arith) ∙ getD-set-same (set (set w 0 a) 1 m) 2 0 0 (omega (arith, long-2))
+pub ruleset open-laws = (needs, open-is, four-1, four-2, four-3)
 
-  behind : (j : ℕ) → j < 2 → getD fresh j 0 ≡ getD (set (set w 0 a) 1 m) j 0
-  behind j h = getD-set-other (set (set (set w 0 a) 1 m) 2 0) 3 j 0 0 (omega arith) ∙ getD-set-other (set (set w 0 a) 1 m) 2 j 0 0 (omega arith)
+-- a store opened for a switch is roomy, and stands for it
+module _ (w v u : List ℕ) (is : u ≡ withSwitch w v) (long : length w ≡ 164) where
+  pub open-stands : Stands u (switchOf v)
+  open-stands = rw is (switch-stands w v (omega arith))
 
-  at-1 : getD fresh 1 0 ≡ m
-  at-1 = behind 1 (omega arith) ∙ getD-set-same (set w 0 a) 1 m 0 (rw length-set (omega arith))
-
-  at-0 : getD fresh 0 0 ≡ a
-  at-0 = behind 0 (omega arith) ∙ getD-set-other (set w 0 a) 1 0 m 0 (omega arith) ∙ getD-set-same w 0 a 0 (omega arith)
-
-  none-stands : StandsFor fresh 0 []
-  unfolding hopsFrom
-  none-stands =
-      record { ordered = record { few = omega arith; rises = λ i j b c. absurd (omega arith) }; count = refl; same-ruling = λ d. refl; same-met = λ y. refl }
-
-  pub open-stands : Stands (set (set (set (set w 0 a) 1 (bitOr (x * 65536 % 18446744073709551616) 8947)) 2 0) 3 0) (switchOf v)
-  open-stands =
-      record { nickname = at-0 ∙ ea; mac = ap (λ (y : ℕ). y / 65536) at-1 ∙ word-1; strip = ap (λ (y : ℕ). not (eqb y 0)) at-2; records = rw at-3 none-stands }
-
-  pub open-roomy : Roomy (set (set (set (set w 0 a) 1 (bitOr (x * 65536 % 18446744073709551616) 8947)) 2 0) 3 0)
-  open-roomy = record { size = simp length-set long; most = omega (arith, at-3) }
-
-pub ruleset open-laws = (needs, open-stands, open-roomy)
+  pub open-roomy : Roomy u
+  open-roomy = rw is (record { size = switch-long w v (omega arith) ∙ long; most = omega (arith, switch-counts w v (omega arith)) })
 
 -- hints
 pub record Hinting (w : List ℕ) (n i : ℕ) (v : List ℕ) : Type 0 where
@@ -440,12 +525,7 @@ pub ruleset copy-laws = (needs, copying-begin, copying-on, copying-end)
 module _ (w v : List ℕ) (roomy : Roomy w) (h : Hinted w v) where
   hinted-stands : (T : Settings) → Stands w T → Stands v T
   hinted-stands T s =
-      record {
-        nickname = h .before 0 (omega arith) ∙ s .nickname;
-        mac = ap (λ (y : ℕ). y / 65536) (h .before 1 (omega arith)) ∙ s .mac;
-        strip = ap (λ (y : ℕ). not (eqb y 0)) (h .before 2 (omega arith)) ∙ s .strip;
-        records = rw (h .before 3 (omega arith)) (stands-same w v (countIn w) (roomy .most) (λ j a b. h .before j b) (T .hops) (s .records));
-      }
+      stands-too w v T (λ j b. h .before j (omega (arith, roomy .most))) s
 
   hinted-filled : (o : Option Settings) → Filled w o true → Filled v o true
   hinted-filled none e = e
@@ -497,7 +577,7 @@ module _ (s : List ℕ) (read : FieldRead) (q : read ≡ fieldAt s 0) where
         ∙ ap (λ (T : Settings). settingsFrom T (fieldsFrom (length s) s next)) (opened-field tag (part s 3 (next - 3)) ∙ ap switchOf (sym held)) in
         rw is-from (rw less at (fills .filled (switchOf v) (length s - 1) stands (omega (arith, i))))
 
-pub ruleset prepare-laws = (needs, taken, taken-first, prepare-cut, prepare-shut, prepare-filled)
+pub ruleset prepare-laws = (needs, taken, taken-first, open-stands, open-roomy, prepare-cut, prepare-shut, prepare-filled)
 
 -- a store that stands for good settings says what they say
 settings-named : (s : List ℕ) (T : Settings) → settingsOf s ≡ some T → nicknameValid (T .nickname) ≡ true
@@ -525,17 +605,6 @@ settings-named s T e = go (fields s) refl
         let z : _≡_ {A = ℕ} 0 1 = cc n in
         absurd (omega arith)
     go (field tag v ∷ fs) is = opened-so tag v fs is (opens (field tag v)) refl
-
-module _ (w : List ℕ) (T : Settings) (stands : Stands w T) where
-  says : waysIn w ≡ waysOf T
-  says =
-      let hops : (λ (d : ℕ). hopFor w (countIn w) d (placeIn w (countIn w) d)) ≡ S.nextHop T = fun-ext (λ d. serves w (countIn w) T (stands .records) d) in
-      λ i. record { nickname = stands .nickname i; mac = stands .mac i; strip = stands .strip i; hop = hops i }
-
-  is-good : nicknameValid (T .nickname) ≡ true → 164 ≤ length w → countIn w ≤ 64 → storeGood w ≡ true
-  unfolding storeGood
-  is-good v long few =
-      rw (le-leb 4 (length w) (omega arith), stands .nickname, v, le-leb (countIn w) 64 few, le-leb (4 + 2 * countIn w) (length w) (omega arith))
 
 -- the call: one law for each way out
 known-not : (w : List ℕ) (o : Option Settings) (ok : Bool) → Filled w o ok → ok ≡ false → o ≡ none
@@ -589,9 +658,9 @@ module _ (s store w : List ℕ) (ok : Bool) (f : Filled w (settingsOf s) ok) whe
         let e = its-known .is in
         let whole : out ≡ w ++ drop 164 store = p ∙ put-front store w ∙ ap (λ (k : ℕ). w ++ drop k store) long in
         let word : (j : ℕ) → j < 164 → getD out j 0 ≡ getD w j 0 = λ j h. ap (λ (l : List ℕ). getD l j 0) whole ∙ List·getD-append w (drop 164 store) 0 j (omega arith) in
-        let st = written out word T (its-known .stands) in
+        let st = stands-too w out T (λ j h. word j (omega (arith, its-known .stands .records .ordered .few))) (its-known .stands) in
         let size : length out ≡ length store = ap length p ∙ length-put store 0 w (omega arith) in
-        let good = is-good out T st (settings-named s T e) (omega arith) (st .records .ordered .few) in
+        let good = is-good out T st (settings-named s T e) (omega (arith, st .records .ordered .few)) in
         record {
           told = answer-done s (length store) T e room;
           refused = λ z. absurd (z refl);
@@ -599,14 +668,29 @@ module _ (s store w : List ℕ) (ok : Bool) (f : Filled w (settingsOf s) ok) whe
           handles = λ z clock r frame. in-good out good clock r frame ∙ ap (λ (W : S.Ways). handledWith W clock r frame) (says out T st) ∙ sym (settings-good s clock r frame T e);
           beyond = ap (drop 164) whole ∙ drop-at w (drop 164 store) 164 long;
         }
-      where
-        written : (out : List ℕ) → ((j : ℕ) → j < 164 → getD out j 0 ≡ getD w j 0) → (T : Settings) → Stands w T → Stands out T
-        written out word T st =
-            record {
-              nickname = word 0 (omega arith) ∙ st .nickname;
-              mac = ap (λ (y : ℕ). y / 65536) (word 1 (omega arith)) ∙ st .mac;
-              strip = ap (λ (y : ℕ). not (eqb y 0)) (word 2 (omega arith)) ∙ st .strip;
-              records = rw (word 3 (omega arith)) (stands-same w out (countIn w) (st .records .ordered .few) (λ j a b. word j (omega arith)) (T .hops) (st .records));
-            }
 
 pub ruleset trill-prepare-laws = (needs, prepared-bad, prepared-short, prepared-so)
+
+-- a store opened by a caller: one law for each way out
+module _ (w v : List ℕ) where
+  shut : opensIn w v ≡ false → Opens w v false w
+  shut e = record { answer = sym e; words = rw e }
+
+  pub store-short : length w < 4 → Opens w v false w
+  unfolding opensIn
+  store-short h = shut (rw (opensIn, lt-leb 4 (length w) h))
+
+  module _ (long : 4 ≤ length w) (o : Bool) (is : o ≡ opens (field 1 v)) where
+    opens-is : opensIn w v ≡ o
+    unfolding opensIn
+    opens-is = rw (opensIn, le-leb 4 (length w) long, is)
+
+    pub store-shut : not o ≡ true → Opens w v false w
+    store-shut n = shut (opens-is ∙ not-true o n)
+
+    pub store-opened : (u : List ℕ) → not o ≡ false → u ≡ withSwitch w v → Opens w v true u
+    store-opened u n e =
+        let t : opensIn w v ≡ true = opens-is ∙ not-false o n in
+        record { answer = sym t; words = rw t e }
+
+pub ruleset store-open-laws = (needs, store-short, store-shut, store-opened)

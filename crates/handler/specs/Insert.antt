@@ -1,10 +1,11 @@
 -- One more record among those of a store.
-use Prim.Native.Nat.{ℕ, suc, _+_, _*_, _/_, _≤_, _<_}
+use Prim.Native.Nat.{ℕ, zero, suc, _+_, _-_, _*_, _/_, _≤_, _<_}
 use mathlib.Core.Path.{_≡_}
-use mathlib.Core.List.{List}
-use mathlib.Core.Bool.{Bool, true, false, _&&_}
+use mathlib.Core.List.{List, _∷_}
+use mathlib.Core.Bool.{Bool, _&&_}
 use lib.Dec.{ltb, eqb}
 use lib.ListN.{length, getD}
+use Rattle.rules.specs.Octets.{if_then_else_, part, put}
 use Rattle.rules.specs.declared.NextHop.{NextHop}
 use Rattle.handler.specs.Store.{rankAt}
 
@@ -15,15 +16,32 @@ storeKey r = r .destination * 281474976710656 + r .serial * 65536 + r .vlan
 abbrev pub storeValue : NextHop → ℕ
 storeValue r = r .mac * 65536 + r .neighbour
 
+-- the place for a rank among n records: behind the last one below it
+unfoldable pub placeFor : List ℕ → ℕ → ℕ → ℕ
+placeFor w rank zero = 0
+placeFor w rank (suc n) = if ltb (rankAt w n) rank then suc n else placeFor w rank n
+
+-- whether the record at a place has the rank
+unfoldable pub metAt : List ℕ → ℕ → ℕ → ℕ → Bool
+metAt w n rank p = ltb p n && eqb (rankAt w p) rank
+
+-- whether a record in the place for the rank has it
+unfoldable pub metIn : List ℕ → ℕ → ℕ → Bool
+metIn w n rank = metAt w n rank (placeFor w rank n)
+
+-- the words with a record put in at place p of n: those from there on move up by two
+unfoldable pub putIn : List ℕ → ℕ → ℕ → ℕ → ℕ → List ℕ
+putIn w n key value p = put w (4 + 2 * p) (key ∷ value ∷ part w (4 + 2 * p) (2 * (n - p)))
+
+-- in its place, unless its rank was met
+unfoldable pub insertedIn : List ℕ → ℕ → ℕ → ℕ → List ℕ
+insertedIn w n key value = if metIn w n (key / 65536) then w else putIn w n key value (placeFor w (key / 65536) n)
+
 -- p: how many of the first n records are below the rank, if they are in order
 pub record PlaceFor (w : List ℕ) (n rank p : ℕ) : Type 0 where
   pub within : p ≤ n
   pub above : (j : ℕ) → p ≤ j → j < n → rank ≤ rankAt w j
   pub below : (j : ℕ) → suc j ≡ p → rankAt w j < rank
-
--- whether the record at that place has the rank
-unfoldable pub metAt : List ℕ → ℕ → ℕ → ℕ → Bool
-metAt w n rank p = ltb p n && eqb (rankAt w p) rank
 
 -- v: w with the words from `from` up to `to` two places up; the two at `from` are free
 pub record Shifted (w : List ℕ) (from to : ℕ) (v : List ℕ) : Type 0 where
@@ -43,8 +61,3 @@ pub record With (w : List ℕ) (n key value p : ℕ) (v : List ℕ) : Type 0 whe
   pub place : PlaceFor w n (key / 65536) p
   pub fresh : p < n → key / 65536 < rankAt w p
   pub put : PutIn w n key value p v
-
--- what an insertion leaves: a rank that was met is refused
-pub record Inserted (w : List ℕ) (n key value : ℕ) (r : Bool) (v : List ℕ) : Type 0 where
-  pub put-in : r ≡ true → (p : ℕ) × With w n key value p v
-  pub refused : r ≡ false → (v ≡ w) × ((j : ℕ) × (j < n) × (rankAt w j ≡ key / 65536))

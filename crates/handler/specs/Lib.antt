@@ -5,3 +5,4 @@ pub mod Keys
 pub mod Treatment
 pub mod Store
 pub mod Insert
+pub mod Extend

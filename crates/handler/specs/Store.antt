@@ -7,7 +7,7 @@ use mathlib.Core.Option.{Option, none, some}
 use lib.ListN.{length, getD, drop}
 use lib.Dec.{ltb, leb, eqb}
 use Rattle.rules.specs.Octets.{if_then_else_}
-use Rattle.rules.specs.Fields.{Field, fieldsFrom}
+use Rattle.rules.specs.Fields.{fieldsFrom}
 use Rattle.rules.specs.Settings as S
 use Rattle.rules.specs.Handling.{handledWith, handled}
 use Rattle.rules.specs.Answer as A
@@ -125,12 +125,6 @@ pub record Stands (w : List ℕ) (T : S.Settings) : Type 0 where
 pub record Roomy (w : List ℕ) : Type 0 where
   pub size : length w ≡ 164
   pub most : countIn w ≤ 64
-
--- one more field: it is taken exactly if it goes with the settings that the words stand for, and then they stand for these with it
-pub record Takes (w : List ℕ) (f : Field) (r : Bool) (v : List ℕ) : Type 0 where
-  pub judged : (T : S.Settings) → Stands w T → r ≡ S.continues T f
-  pub stands : (T : S.Settings) → Stands w T → r ≡ true → Stands v (S.withField T f)
-  pub roomy : r ≡ true → Roomy v
 
 -- the words once settings octets were read whole, if they are good
 abbrev pub Filled : List ℕ → Option S.Settings → Bool → Type 0

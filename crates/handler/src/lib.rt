@@ -16,10 +16,10 @@ mod way;
 use crate::way::WayOut;
 ghost use mathlib.Core.Path.{_≡_};
 ghost use lib.ListN.{length};
-ghost use Rattle.rules.specs.Settings.{settingsRead, waysOf};
 ghost use Rattle.rules.specs.WayOut.{wayOut};
-ghost use Rattle.rules.specs.Handling.{handled, handledWith, outputAfter, partOf};
+ghost use Rattle.rules.specs.Handling.{handled, outputAfter, partOf};
 ghost use Rattle.handler.specs.Store.{handledIn, wayOutIn, Prepared};
+ghost use Rattle.handler.specs.Extend.{Opens, Extends};
 ghost use Rattle.handler.specs.Shapes.{answerOf, routedOf, toldBy, WayDone};
 
 // What the C driver is answered.
@@ -35,17 +35,6 @@ pub struct Answer {
 pub struct Routed {
     pub answer: Answer,
     pub via: u32,
-}
-
-// The handling by what the settings fields say, unjudged: 1 for the clock, 2 and 3, then the answers of one handling.
-pub fn handle_fields(frame: &[u8], fields: &[u8], clock: &[u8], out: &mut [u8]) -> Routed
-    ensures { λ r. ⌜ (r ≡ routedOf (handledWith (waysOf (settingsRead (now (fields .entry)))) (now (clock .entry)) (length (now (out .entry))) (now (frame .entry))))
-        × (now (out .exit) ≡ outputAfter (now (out .entry)) (handledWith (waysOf (settingsRead (now (fields .entry)))) (now (clock .entry)) (length (now (out .entry))) (now (frame .entry)))) ⌝ }
-{
-    let own = settings::own_of(fields);
-    let e = handling::examine(own, clock, frame, out.len());
-    let t = settings::told(fields, own, handling::asked(e));
-    told(handling::carry_out(t, e, clock, frame, out))
 }
 
 // The handling by a prepared store.
@@ -127,6 +116,27 @@ pub extern "C" fn trill_prepare(settings: &[u8], store: &mut [u64]) -> u32
     }
     preparing::copy(store, &w);
     0
+}
+
+// A store made field by field: for the switch of a tag 1 value, as yet without records. False for fewer than 4 words or no good switch.
+pub fn store_open(store: &mut [u64], v: &[u8]) -> bool
+    ensures { λ r. ⌜ Opens (now (store .entry)) (now (v .entry)) r (now (store .exit)) ⌝ }
+{
+    if store.len() < 4 {
+        return false;
+    }
+    if !judged::opens(1, v) {
+        return false;
+    }
+    preparing::open(store, v);
+    true
+}
+
+// One more field into a store: 0, or the code of a description that refuses it.
+pub fn store_extend(store: &mut [u64], tag: u8, v: &[u8]) -> u32
+    ensures { λ r. ⌜ Extends (now (store .entry)) tag (now (v .entry)) r (now (store .exit)) ⌝ }
+{
+    preparing::extend(store, tag, v)
 }
 
 #[no_mangle]

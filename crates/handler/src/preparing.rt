@@ -2,18 +2,20 @@
 use crate::judged;
 use rules::FieldRead;
 ghost use mathlib.Core.Path.{_≡_};
+ghost use mathlib.Core.Bool.{not};
 ghost use Prim.Native.Nat.{_+_, _*_, _/_, _≤_, _<_};
 ghost use lib.ListN.{length};
 ghost use Rattle.rules.specs.Octets.{put};
 ghost use Rattle.rules.specs.Fields.{field};
 ghost use Rattle.rules.specs.Settings as S;
-ghost use Rattle.handler.specs.Store.{Stands, Roomy, Takes, Filled, Fills, Hinted};
-ghost use Rattle.handler.specs.Insert.{storeKey, storeValue, metAt, PlaceFor, Shifted, PutIn, Inserted};
+ghost use Rattle.handler.specs.Store.{countIn, Roomy, Filled, Fills, Hinted};
+ghost use Rattle.handler.specs.Insert.{storeKey, storeValue, placeFor, metAt, metIn, putIn, insertedIn, Shifted};
+ghost use Rattle.handler.specs.Extend.{withSwitch, countBy, metBy, addedTo, Extends};
 
 // From behind: records in order take one comparison each.
 fn place_for(w: &[u64], n: usize, rank: u64) -> usize
     requires { ⌜ 4 + 2 * n ≤ length (now w) ⌝ }
-    ensures { λ r. ⌜ PlaceFor (now (w .entry)) n rank r ⌝ }
+    ensures { λ r. ⌜ r ≡ placeFor (now (w .entry)) rank n ⌝ }
 {
     let mut i = n;
     while 0 < i {
@@ -50,7 +52,7 @@ fn met(w: &[u64], n: usize, rank: u64, p: usize) -> bool
 // Whether the record could be put in: not where one of its destination has its serial.
 fn insert(w: &mut [u64], n: usize, key: u64, value: u64) -> bool
     requires { ⌜ 6 + 2 * n ≤ length (now w) ⌝ }
-    ensures { λ r. ⌜ Inserted (now (w .entry)) n key value r (now (w .exit)) ⌝ }
+    ensures { λ r. ⌜ (r ≡ not (metIn (now (w .entry)) n (key / 65536))) × (now (w .exit) ≡ insertedIn (now (w .entry)) n key value) ⌝ }
 {
     let p = place_for(w, n, key >> 16);
     if met(w, n, key >> 16, p) {
@@ -63,7 +65,7 @@ fn insert(w: &mut [u64], n: usize, key: u64, value: u64) -> bool
 // At a place among the first n records.
 fn put_at(w: &mut [u64], n: usize, key: u64, value: u64, p: usize)
     requires { ⌜ (p ≤ n) × (6 + 2 * n ≤ length (now w)) ⌝ }
-    ensures { λ _. ⌜ PutIn (now (w .entry)) n key value p (now (w .exit)) ⌝ }
+    ensures { λ _. ⌜ now (w .exit) ≡ putIn (now (w .entry)) n key value p ⌝ }
 {
     shift(w, 4 + 2 * p, 4 + 2 * n);
     w[4 + 2 * p] = key;
@@ -82,21 +84,28 @@ fn value_of(v: &[u8]) -> u64
     octets::be48(v, 4) << 16 | octets::be16(v, 2) as u64
 }
 
-// One more record.
-fn admit(w: &mut [u64], v: &[u8]) -> bool
-    requires { ⌜ Roomy (now w) ⌝ }
-    ensures { λ r. ⌜ Takes (now (w .entry)) (field 2 (now (v .entry))) r (now (w .exit)) ⌝ }
+// The number of records, or 64 where there is no room for one more.
+fn count(w: &[u64]) -> usize
+    ensures { λ r. ⌜ r ≡ countBy (now (w .entry)) ⌝ }
 {
-    if !octets::hop_size(v.len()) {
-        return false;
+    if w.len() < 4 {
+        return 64;
     }
-    if !octets::hop_good(v) {
-        return false;
+    if 64 <= w[3] {
+        return 64;
     }
     let n = w[3] as usize;
-    if n == 64 {
-        return false;
+    if w.len() < 6 + 2 * n {
+        return 64;
     }
+    n
+}
+
+// The record put in and counted, unless its serial was met.
+fn add(w: &mut [u64], n: usize, v: &[u8]) -> bool
+    requires { ⌜ (n ≡ countIn (now w)) × (n < 64) × (6 + 2 * n ≤ length (now w)) ⌝ }
+    ensures { λ r. ⌜ (r ≡ not (metBy (now (w .entry)) (now (v .entry)))) × (now (w .exit) ≡ addedTo (now (w .entry)) (now (v .entry))) ⌝ }
+{
     if !insert(w, n, key_of(v), value_of(v)) {
         return false;
     }
@@ -104,26 +113,54 @@ fn admit(w: &mut [u64], v: &[u8]) -> bool
     true
 }
 
-// A strip flag; no other field goes with settings.
-fn flag(w: &mut [u64], tag: u8, v: &[u8]) -> bool
-    requires { ⌜ Roomy (now w) × (tag ≡ 2 → ⊥) ⌝ }
-    ensures { λ r. ⌜ Takes (now (w .entry)) (field tag (now (v .entry))) r (now (w .exit)) ⌝ }
+// One more record.
+fn admit(w: &mut [u64], v: &[u8]) -> u32
+    ensures { λ r. ⌜ Extends (now (w .entry)) 2 (now (v .entry)) r (now (w .exit)) ⌝ }
 {
-    if !judged::flag_good(tag, v) {
-        return false;
+    if !octets::hop_size(v.len()) {
+        return 42;
     }
-    w[2] = octets::octet(v, 0) as u64;
-    true
+    if !octets::hop_good(v) {
+        return 44;
+    }
+    let n = count(w);
+    if n == 64 {
+        return 46;
+    }
+    if !add(w, n, v) {
+        return 47;
+    }
+    0
 }
 
-fn take(w: &mut [u64], tag: u8, v: &[u8]) -> bool
-    requires { ⌜ Roomy (now w) ⌝ }
-    ensures { λ r. ⌜ Takes (now (w .entry)) (field tag (now (v .entry))) r (now (w .exit)) ⌝ }
+// The strip flag.
+fn flag(w: &mut [u64], v: &[u8]) -> u32
+    ensures { λ r. ⌜ Extends (now (w .entry)) 3 (now (v .entry)) r (now (w .exit)) ⌝ }
+{
+    if v.len() != 1 {
+        return 42;
+    }
+    if 1 < octets::octet(v, 0) {
+        return 44;
+    }
+    if w.len() < 4 {
+        return 46;
+    }
+    w[2] = octets::octet(v, 0) as u64;
+    0
+}
+
+// One more field of settings.
+pub fn extend(w: &mut [u64], tag: u8, v: &[u8]) -> u32
+    ensures { λ r. ⌜ Extends (now (w .entry)) tag (now (v .entry)) r (now (w .exit)) ⌝ }
 {
     if tag == 2 {
         return admit(w, v);
     }
-    flag(w, tag, v)
+    if tag == 3 {
+        return flag(w, v);
+    }
+    43
 }
 
 fn fill_from(s: &[u8], from: usize, w: &mut [u64]) -> bool
@@ -140,7 +177,7 @@ fn fill_from(s: &[u8], from: usize, w: &mut [u64]) -> bool
         else {
             return false;
         };
-        if !take(w, tag, &s[at + 3..next]) {
+        if extend(w, tag, &s[at + 3..next]) != 0 {
             return false;
         }
         at = next;
@@ -149,9 +186,9 @@ fn fill_from(s: &[u8], from: usize, w: &mut [u64]) -> bool
 }
 
 // The switch, with no record and no flag yet.
-fn open(w: &mut [u64], v: &[u8])
-    requires { ⌜ length (now w) ≡ 164 ⌝ }
-    ensures { λ _. ⌜ Stands (now (w .exit)) (S.switchOf (now (v .entry))) × Roomy (now (w .exit)) ⌝ }
+pub fn open(w: &mut [u64], v: &[u8])
+    requires { ⌜ 4 ≤ length (now w) ⌝ }
+    ensures { λ _. ⌜ now (w .exit) ≡ withSwitch (now (w .entry)) (now (v .entry)) ⌝ }
 {
     w[0] = octets::be16(v, 0) as u64;
     w[1] = octets::be48(v, 2) << 16 | 0x22F3;

@@ -1,4 +1,4 @@
--- `campus_run` meets its contract, by the room, what is read, and the run. Assumes nothing.
+-- `campus_run` meets its contract, by one law for each need. Assumes nothing.
 use Rattle.campus.proofs.DoneLaws.{campus-run-laws as laws}
 use Rattle.campus.proofs.campus_run.Statement.{statement}
 use Rattle.campus.proofs.campus_run.Tie as tie
@@ -10,6 +10,7 @@ campus-run-spec =
     (λ c. search laws)
     (λ c. search laws)
     (λ c κs. search laws)
+    (λ c. search laws)
     (λ c. search laws)
     (λ c. search laws)
     (λ c κs. search laws)

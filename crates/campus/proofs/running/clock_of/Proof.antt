@@ -1,4 +1,4 @@
--- `running::clock_of` meets its contract: no clock is six zeros, and six octets copied over six are those octets. Assumes nothing.
+-- `running::clock_of` meets its contract, by one law for each need. Assumes nothing.
 use Rattle.campus.proofs.DoneLaws.{clock-of-laws as laws}
 use Rattle.campus.proofs.running.clock_of.Statement.{statement}
 use Rattle.campus.proofs.running.clock_of.Tie as tie

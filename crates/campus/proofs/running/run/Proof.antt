@@ -1,4 +1,4 @@
--- `running::run` meets its contract, by the entry switch that was found. Assumes nothing.
+-- `running::run` meets its contract, by one law for each need. Assumes nothing.
 use Rattle.campus.proofs.DoneLaws.{run-laws as laws}
 use Rattle.campus.proofs.running.run.Statement.{statement}
 use Rattle.campus.proofs.running.run.Tie as tie

@@ -1,4 +1,4 @@
--- `running::run_at` meets its contract: the loop's run from the entry switch is the plain run. Assumes nothing.
+-- `running::run_at` meets its contract, by one law for each need. Assumes nothing.
 use Rattle.campus.proofs.DoneLaws.{run-at-laws as laws}
 use Rattle.campus.proofs.running.run_at.Statement.{statement}
 use Rattle.campus.proofs.running.run_at.Tie as tie

@@ -1,4 +1,4 @@
--- `running::sent_on` meets its contract, by the answer's number. Assumes nothing.
+-- `running::sent_on` meets its contract, by one law for each need. Assumes nothing.
 use Rattle.campus.proofs.StepLaws.{sent-on-laws as laws}
 use Rattle.campus.proofs.running.sent_on.Statement.{statement}
 use Rattle.campus.proofs.running.sent_on.Tie as tie

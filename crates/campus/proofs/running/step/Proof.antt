@@ -1,4 +1,4 @@
--- `running::step` meets its contract: the handling's answer, its entry, and where its frame goes. Assumes nothing.
+-- `running::step` meets its contract, by one law for each need. Assumes nothing.
 use Rattle.campus.proofs.StepLaws.{step-laws as laws}
 use Rattle.campus.proofs.running.step.Statement.{statement}
 use Rattle.campus.proofs.running.step.Tie as tie
@@ -10,7 +10,6 @@ step-spec =
     (λ c κs. search laws)
     (λ c κs. search laws)
     (λ c. search laws)
-    (λ c κs. search laws)
     (λ c κs. search laws)
     (λ c κs. search laws)
     (λ c. search laws)

@@ -1,4 +1,4 @@
--- `running::towards` meets its contract, by the switch that was found. Assumes nothing.
+-- `running::towards` meets its contract, by one law for each need. Assumes nothing.
 use Rattle.campus.proofs.StepLaws.{towards-laws as laws}
 use Rattle.campus.proofs.running.towards.Statement.{statement}
 use Rattle.campus.proofs.running.towards.Tie as tie

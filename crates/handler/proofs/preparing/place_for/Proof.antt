@@ -1,4 +1,4 @@
--- `preparing::place_for` meets its contract. The invariant: the records from i on are not below the rank. Assumes nothing.
+-- `preparing::place_for` meets its contract. The invariant: the place is among the first i records. Assumes nothing.
 use Rattle.handler.proofs.PrepareLaws.{Placing, place-for-laws as laws}
 use Rattle.handler.proofs.preparing.place_for.Statement.{statement}
 use Rattle.handler.proofs.preparing.place_for.Tie as tie
