@@ -4,7 +4,8 @@
  * For unicast TRILL Data frames on Ethernet links: RFC 6325, header options by draft-ietf-trill-rbridge-options-03,
  * RBridge Channel by RFC 7178, and echo by draft-yizhou-trill-multi-destination-ping-00, as the customer's "document
  * 01" condenses them. No ingress encapsulation, no multi-destination frames, no PPP links, no IS-IS, no learning of
- * addresses; the tag of a link header is read and not kept. What holds of every call:
+ * addresses; the tag of a received link header is not kept, that of a written one is the next hop's.
+ * What holds of every call:
  *
  *   - It takes every octet string of every length, ends, and gives one of the answers named here.
  *   - It keeps nothing between calls: no state, no heap, no input or output. So it is reentrant, and any
@@ -37,9 +38,9 @@ extern "C" {
 #define TRILL_CLOCK 6           /* octets of a clock: 3 for seconds, 3 for microseconds */
 
 /*
- * The numbers of an answer, in the order of their numbers: constant, number, meaning. 30 to 35 are tested before 20.
- * Only TRILL_FORWARDED, TRILL_ERROR_REPLY and TRILL_ECHO_REPLY write; only TRILL_DELIVERED and
- * TRILL_HANDED_UP have a delivered part.
+ * The numbers of an answer, in the order of their numbers: constant, number, meaning. 30 to 35 are tested before 20,
+ * and 29 just before 50. Only TRILL_FORWARDED, TRILL_ERROR_REPLY and TRILL_ECHO_REPLY write; only TRILL_DELIVERED
+ * and TRILL_HANDED_UP have a delivered part.
  */
 #define TRILL_ANSWERS(ANSWER)                                                                              \
     /* The call is refused. Nothing is written. */                                                         \
@@ -123,14 +124,16 @@ struct trill_answer {
  *               tag 1, length 8    own nickname 2, own MAC 6: once, and first
  *               tag 2, length 14   next hop: destination nickname 2, neighbour nickname 2 (0 withdraws the
  *                  or length 16    destination), neighbour MAC 6, serial 4: up to 64; of length 16 also an outer
- *                                  VLAN 2, 0 for none or 1 to 4,094: the link header to that neighbour then has
- *                                  18 octets, with the tag 0x8100 and that VLAN
+ *                                  VLAN 2, 0 for none or 1 to 4,094 (priority bits are 0): with one, each link
+ *                                  header written to that neighbour has 18 octets and not 14, with the tag 0x8100
+ *                                  and that VLAN
  *               tag 3, length 1    strip flag, 0 or 1: the last one counts, 0 if there is none. With 1 a forwarded
  *                                  frame loses its unknown mutable hop-by-hop options (IE 0, NC 1, MT 1; not a
  *                                  pad, nor a Flow ID of Length 2)
  *             Nicknames are 0x0001 to 0xFFBF. MACs are individual (the low bit of the first octet is 0) and not
- *             all zero, in a withdrawal too. Of a destination's records the one with the greatest serial rules;
- *             no two of them have the same. A neighbour may be the switch itself. Anything else is bad settings.
+ *             all zero. All this holds of a withdrawal too. Of a destination's records the one with the greatest
+ *             serial rules; no two of them have the same. A neighbour may be the switch itself. Anything else is bad
+ *             settings.
  *   clock     TRILL_CLOCK octets, put into the time received of an echo reply
  *   out       at least TRILL_OUTPUT_LEAST octets
  *

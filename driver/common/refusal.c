@@ -8,7 +8,7 @@ enum { FIELD_HEADER = 3, SWITCHES_MOST = 16, HOPS_MOST = 64 };
 
 /* ---- The tables: what a value may be, what a field is made of ---- */
 
-enum value { NICKNAME, NEIGHBOUR, MAC, FLAG };
+enum value { NICKNAME, NEIGHBOUR, MAC, VLAN, FLAG };
 
 static const struct {
     uint64_t least, most;
@@ -17,6 +17,7 @@ static const struct {
     [NICKNAME] = {0x0001, 0xFFBF, "0001 to FFBF"},
     [NEIGHBOUR] = {0x0000, 0xFFBF, "0000 to FFBF"},
     [MAC] = {1, 0xFFFFFFFFFFFF, "individual, not all zero"},
+    [VLAN] = {0x0000, 0x0FFE, "0000 to 0FFE"},
     [FLAG] = {0, 1, "00 or 01"},
 };
 
@@ -30,7 +31,7 @@ static const struct rule {
     bool of_settings;           /* and of descriptions, as all are */
 } rules[TAGS] = {
     [TAG_SWITCH] = {"switch", 8, 8, 1, true},
-    [TAG_HOP] = {"next hop", 14, 14, 1, true},
+    [TAG_HOP] = {"next hop", 14, 16, 2, true}, /* without a VLAN, and with one */
     [TAG_FLAG] = {"strip flag", 1, 1, 1, true},
     [TAG_CLOCK] = {"clock", 6, 6, 1, false},
     [TAG_ENTRY] = {"entry", 2, 2 + TRILL_FRAME_MOST, 1, false},
@@ -45,7 +46,8 @@ static const struct part {
 } parts[] = {
     {TAG_SWITCH, "nickname", 0, 2, NICKNAME}, {TAG_SWITCH, "MAC", 2, 6, MAC},
     {TAG_HOP, "destination", 0, 2, NICKNAME}, {TAG_HOP, "neighbour", 2, 2, NEIGHBOUR},
-    {TAG_HOP, "neighbour's MAC", 4, 6, MAC},  {TAG_FLAG, "strip flag", 0, 1, FLAG},
+    {TAG_HOP, "neighbour's MAC", 4, 6, MAC},  {TAG_HOP, "outer VLAN", 14, 2, VLAN},
+    {TAG_FLAG, "strip flag", 0, 1, FLAG},
 };
 
 /* Where a record keeps what it is told from others by. */

@@ -24,16 +24,18 @@ struct refusal {
 };
 
 /* For a program's help: the fields of settings, which are those of each switch of a description. */
-#define SETTINGS_HELP                                                                       \
-    "  01 0008 NICKNAME MAC                        the switch\n"                            \
-    "  02 000E DESTINATION NEIGHBOUR MAC SERIAL    a next hop, up to 64; NEIGHBOUR 0000\n"  \
-    "                                              withdraws the destination\n"             \
-    "  03 0001 FLAG                                01: unknown mutable options are taken\n" \
+#define SETTINGS_HELP                                                                              \
+    "  01 0008 NICKNAME MAC                        the switch\n"                                   \
+    "  02 000E DESTINATION NEIGHBOUR MAC SERIAL    a next hop, up to 64; NEIGHBOUR 0000\n"         \
+    "                                              withdraws the destination\n"                    \
+    "  02 0010 DESTINATION .. SERIAL VLAN          a next hop that is reached with an outer tag\n" \
+    "  03 0001 FLAG                                01: unknown mutable options are taken\n"        \
     "                                              out; the last one counts, default 00\n"
 #define VALUES_HELP                                                                              \
     "A nickname has 2 octets, 0001 to FFBF; a MAC 6, individual (first octet even) and not\n"    \
-    "all zero, in a withdrawal too; a serial 4. Of a destination's next hops the one with the\n" \
-    "greatest serial rules, and no two have the same.\n"
+    "all zero; a serial 4; a VLAN 2, 0001 to 0FFE, or 0000 for none. All this holds of a\n"      \
+    "withdrawal too. Of a destination's next hops the one with the greatest serial rules, and\n" \
+    "no two have the same.\n"
 
 /* Finds the first field at fault; false if there is none. */
 bool refusal_find(struct refusal *refusal, enum layout layout, const struct octets *octets);

@@ -54,6 +54,12 @@ static void put_mac(void)
     put(rarely() ? odd[below(5)] : 0x020000000000 + below(1 << 16), 6);
 }
 
+static void put_vlan(void)
+{
+    static const uint16_t odd[] = {0x0FFE, 0x0FFF, 0x1000, 0x2005, 0xFFFF};
+    put(rarely() ? odd[below(5)] : below(0x0FFF), 2);
+}
+
 static void put_switch(uint64_t nickname)
 {
     put_header(1, 8);
@@ -63,11 +69,14 @@ static void put_switch(uint64_t nickname)
 
 static void put_hop(uint64_t serial)
 {
-    put_header(2, 14);
+    bool tagged = below(2) == 0;
+    put_header(2, tagged ? 16 : 14);
     put_nickname(1 + below(4));
     put_nickname(below(4));
     put_mac();
     put(rarely() ? below(70) : serial, 4);
+    if (tagged)
+        put_vlan();
 }
 
 static void put_flag(void)

@@ -1,5 +1,5 @@
 /*
- * The cases of document 01 through the header: each answer, and each octet lent, is compared. Octets are in hex
+ * The cases of documents 01 and 02 through the header: each answer, and each octet lent, is compared. Octets are in hex
  * as document 01 prints them. A line for each case, then the counts.
  */
 #include "staffripple.h"
@@ -121,10 +121,17 @@ static bool lent_good(const uint8_t *written, size_t length, long *where)
 #define FRAME_C12 RECEIVED "0005 0009 0004 " INNER
 #define SENT_C12 "020000000001 22F3 0004 0009 0004 " INNER
 
+/* T-01: records for 0x0009 with an outer VLAN, and the link headers received and sent with a tag. */
+#define HOP_VLAN(serial, vlan) "02 0010 0009 0005 020000000005 000000" serial " " vlan " "
+#define OVER(vlan) SWITCH HOP_VLAN("01", vlan)
+#define RECEIVED_TAGGED "020000000001 020000000002 8100 E064 22F3 "
+#define SENT_TAGGED(vlan) "020000000005 020000000001 8100 " vlan " 22F3 "
+
 /* Channel messages from 0x0009 to 0x0001, and an echo body. */
 #define CHANNEL_IN RECEIVED "0005 0001 0009 0180C2000042 020000000009 8100 0001 "
 #define CHANNEL CHANNEL_IN "8946 "
-#define REPLY SENT "003F 0009 0001 0180C2000042 020000000001 8100 0001 8946 "
+#define REPLY_REST "003F 0009 0001 0180C2000042 020000000001 8100 0001 8946 "
+#define REPLY SENT REPLY_REST
 #define TIMES_SENT "000001000002 000000000000 "
 #define TIMES_ANSWERED "000001000002 000001000009 "
 
@@ -232,6 +239,58 @@ static const struct handling handlings[] = {
     {"answer 56", PLAIN, CHANNEL "0FF8 C000 40000001 02 00 " TIMES_ANSWERED, DROPPED(TRILL_ECHO_HEARD)},
     {"a tagged frame is forwarded untagged", PLAIN, "020000000001 020000000002 8100 0064 22F3 0001 0009 0004 " INNER,
      WRITTEN(TRILL_FORWARDED, SENT "0000 0009 0004 " INNER)},
+
+    {"T-01 VLAN 1", OVER("0001"), FRAME_C12, WRITTEN(TRILL_FORWARDED, SENT_TAGGED("0001") "0004 0009 0004 " INNER)},
+    {"T-01 VLAN 4,094, a tagged frame", OVER("0FFE"), RECEIVED_TAGGED "0005 0009 0004 " INNER,
+     WRITTEN(TRILL_FORWARDED, SENT_TAGGED("0FFE") "0004 0009 0004 " INNER)},
+    {"T-01 VLAN 0 in 16 octets", OVER("0000"), FRAME_C12, WRITTEN(TRILL_FORWARDED, SENT "0004 0009 0004 " INNER)},
+    {"T-01 VLAN 4,095", OVER("0FFF"), FRAME_C12, DROPPED(TRILL_REFUSED_SETTINGS)},
+    {"T-01 VLAN 5 with a priority", OVER("2005"), FRAME_C12, DROPPED(TRILL_REFUSED_SETTINGS)},
+    {"T-01 VLAN 4,095 in a withdrawal", SWITCH "02 0010 0009 0000 020000000005 00000001 0FFF", FRAME_C12,
+     DROPPED(TRILL_REFUSED_SETTINGS)},
+    {"T-01 a record of 15 octets", SWITCH "02 000F 0009 0005 020000000005 00000001 00", FRAME_C12,
+     DROPPED(TRILL_REFUSED_SETTINGS)},
+    {"T-01 VLAN 5, then serial 8 with none", SWITCH HOP_VLAN("07", "0005") HOP_VLAN("08", "0000"), FRAME_C12,
+     WRITTEN(TRILL_FORWARDED, SENT "0004 0009 0004 " INNER)},
+    {"T-01 serial 8 with none, then VLAN 5", SWITCH HOP_VLAN("08", "0000") HOP_VLAN("07", "0005"), FRAME_C12,
+     WRITTEN(TRILL_FORWARDED, SENT "0004 0009 0004 " INNER)},
+    {"T-01 serial 1 in 14 octets, then VLAN 5", PLAIN HOP_VLAN("02", "0005"), FRAME_C12,
+     WRITTEN(TRILL_FORWARDED, SENT_TAGGED("0005") "0004 0009 0004 " INNER)},
+};
+
+/* T-01: long frames. Behind the octets given, received and sent go on with the same octets, up to their lengths. */
+static const struct {
+    const char *name, *settings, *received;
+    size_t size;
+    uint32_t number;
+    const char *sent;
+    size_t written;
+} long_handlings[] = {
+    {"T-01 2,044 octets, VLAN 5", OVER("0005"), RECEIVED "0005 0009 0004", 2044, TRILL_FORWARDED,
+     SENT_TAGGED("0005") "0004 0009 0004", 2048},
+    {"T-01 2,045 octets, VLAN 5", OVER("0005"), RECEIVED "0005 0009 0004", 2045, TRILL_DROP_FORWARDED_LONG, NOTHING, 0},
+    {"T-01 2,048 octets, VLAN 5", OVER("0005"), RECEIVED "0005 0009 0004", 2048, TRILL_DROP_FORWARDED_LONG, NOTHING, 0},
+    {"T-01 2,049 octets, VLAN 5", OVER("0005"), RECEIVED "0005 0009 0004", 2049, TRILL_REFUSED_FRAME, NOTHING, 0},
+    {"T-01 2,048 octets, VLAN 0", OVER("0000"), RECEIVED "0005 0009 0004", 2048, TRILL_FORWARDED,
+     SENT "0004 0009 0004", 2048},
+    {"T-01 2,048 octets tagged, VLAN 5", OVER("0005"), RECEIVED_TAGGED "0005 0009 0004", 2048, TRILL_FORWARDED,
+     SENT_TAGGED("0005") "0004 0009 0004", 2048},
+    {"T-01 2,048 octets tagged, VLAN 0", OVER("0000"), RECEIVED_TAGGED "0005 0009 0004", 2048, TRILL_FORWARDED,
+     SENT "0004 0009 0004", 2044},
+    {"T-01 2,048 octets, VLAN 5, 8 stripped", OVER("0005") "03 0001 01",
+     RECEIVED "00C5 0009 0004 00000000 45860000 00000000", 2048, TRILL_FORWARDED,
+     SENT_TAGGED("0005") "0044 0009 0004 00000000", 2044},
+    {"T-01 2,048 octets, VLAN 5, without the flag", OVER("0005"), RECEIVED "00C5 0009 0004 00000000 45860000 00000000",
+     2048, TRILL_DROP_FORWARDED_LONG, NOTHING, 0},
+    {"T-01 2,048 octets, VLAN 5, an option that stays", OVER("0005") "03 0001 01",
+     RECEIVED "0085 0009 0004 00000000 41820007", 2048, TRILL_DROP_FORWARDED_LONG, NOTHING, 0},
+    {"T-01 2,048 octets, VLAN 5, no next hop", OVER("0005"), RECEIVED "0005 0008 0004", 2048, TRILL_DROP_NO_NEXT_HOP,
+     NOTHING, 0},
+    {"T-01 the longest echo reply", OVER("0FFE"), CHANNEL "0FF8 4000 30000001 02 00 " TIMES_SENT, 572, TRILL_ECHO_REPLY,
+     SENT_TAGGED("0FFE") REPLY_REST "0FF8 C000 40000001 02 00 " TIMES_ANSWERED, 576},
+    {"T-01 the longest error reply", OVER("0FFE"), CHANNEL "0004 4000", 572, TRILL_ERROR_REPLY,
+     SENT_TAGGED("0FFE") REPLY_REST
+     "0001 C005 22F3 0005 0001 0009 0180C2000042 020000000009 8100 0001 8946 0004 4000", 174},
 };
 
 static bool same_answer(struct trill_answer left, struct trill_answer right)
@@ -350,6 +409,13 @@ static const struct {
     {"way out: equal serials", SWITCH LIVE_8 WITHDRAWN_8, 9, 14, {1, 0}, ""},
     {"way out: own nickname", SWITCH "02 000E 0001 0007 020000000007 00000001", 1, 14, {0, 14},
      "020000000007 020000000001 22F3"},
+    {"way out: VLAN 5, room for 14", OVER("0005"), 9, 14, {2, 0}, ""},
+    {"way out: VLAN 5, room for 17", OVER("0005"), 9, 17, {2, 0}, ""},
+    {"way out: VLAN 5, room for 18", OVER("0005"), 9, 18, {0, 18}, "020000000005 020000000001 8100 0005 22F3"},
+    {"way out: VLAN 5, room for 100", OVER("0005"), 9, 100, {0, 18}, "020000000005 020000000001 8100 0005 22F3"},
+    {"way out: VLAN 0, room for 14", OVER("0000"), 9, 14, {0, 14}, "020000000005 020000000001 22F3"},
+    {"way out: VLAN 5, unknown, no room", OVER("0005"), 8, 0, {21, 0}, ""},
+    {"way out: VLAN 4,095", OVER("0FFF"), 9, 18, {1, 0}, ""},
 };
 
 static void judge_way(const char *name, struct trill_way got, struct trill_way expected, const char *written)
@@ -385,6 +451,28 @@ static void try_handlings(void)
         written = from_hex(handling->written);
         try_handling(handling->name, &settings, &frame, TRILL_OUTPUT_LEAST, handling->answer, &written);
         try_prepared(handling->name, &settings, &frame, handling->answer, &written);
+    }
+}
+
+/* Octets and more behind them, up to a length. */
+static struct octets filled(const char *hex, size_t length)
+{
+    struct octets octets = from_hex(hex);
+    for (uint8_t more = 0x11; octets.length < length; more = (uint8_t)(more * 5 + 7))
+        octets.at[octets.length++] = more;
+    return octets;
+}
+
+static void try_long_handlings(void)
+{
+    static struct octets settings, frame, written;
+    for (size_t i = 0; i < sizeof long_handlings / sizeof *long_handlings; i++) {
+        struct trill_answer answer = {long_handlings[i].number, 0, 0, 0};
+        settings = from_hex(long_handlings[i].settings);
+        frame = filled(long_handlings[i].received, long_handlings[i].size);
+        written = filled(long_handlings[i].sent, long_handlings[i].written);
+        try_handling(long_handlings[i].name, &settings, &frame, TRILL_OUTPUT_LEAST, answer, &written);
+        try_prepared(long_handlings[i].name, &settings, &frame, answer, &written);
     }
 }
 
@@ -486,6 +574,15 @@ static void try_campuses(void)
                &nothing);
     try_campus("C1 cut short", "01 0008 0001 0200", CAMPUS_TRACE_LEAST, (struct campus_answer){CAMPUS_REFUSED_CUT, 0},
                &nothing);
+    try_campus("T-01 VLAN 4,095 in a file", OVER("0FFF") "05 0002 0001", CAMPUS_TRACE_LEAST,
+               (struct campus_answer){CAMPUS_REFUSED_VALUE, 0}, &nothing);
+    try_campus("T-01 a priority in a file", OVER("2005") "05 0002 0001", CAMPUS_TRACE_LEAST,
+               (struct campus_answer){CAMPUS_REFUSED_VALUE, 0}, &nothing);
+    try_campus("T-01 a record of 15 octets in a file", SWITCH "02 000F 0009 0005 020000000005 00000001 00 05 0002 0001",
+               CAMPUS_TRACE_LEAST, (struct campus_answer){CAMPUS_REFUSED_TAG, 0}, &nothing);
+    entries = from_hex("0001 00 0A 00 00 0000");
+    try_campus("T-01 VLAN 4,094 in a file", OVER("0FFE") "05 0002 0001", CAMPUS_TRACE_LEAST,
+               (struct campus_answer){CAMPUS_RAN, 1}, &entries);
     entries = from_hex(TRACE_C10);
     try_campus("C10", FILE_C10, CAMPUS_TRACE_LEAST, (struct campus_answer){CAMPUS_RAN, 6}, &entries);
     entries = trace_c11();
@@ -582,7 +679,7 @@ static void try_numbers(void)
            "differ");
     result("names",
            !strcmp(trill_answer_name(50), "forwarded") && !strcmp(trill_answer_name(17), "hop count 0") &&
-               !strcmp(campus_code_name(41), "field cut short") && !strcmp(trill_answer_name(29), trill_answer_name(0)),
+               !strcmp(campus_code_name(41), "field cut short") && !strcmp(trill_answer_name(19), trill_answer_name(0)),
            "differ");
 }
 
@@ -590,6 +687,7 @@ int main(void)
 {
     setvbuf(stdout, NULL, _IOLBF, 0); /* what passed is known even if a later case crashes */
     try_handlings();
+    try_long_handlings();
     try_limits();
     try_stores();
     try_ways();
