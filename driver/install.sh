@@ -37,6 +37,7 @@ files() {
     filled package/staffripple-config.cmake.in "$LIBDIR/cmake/staffripple/staffripple-config.cmake"
     filled package/staffripple-config-version.cmake.in "$LIBDIR/cmake/staffripple/staffripple-config-version.cmake"
     "$verb" 644 example.c "$DATADIR/staffripple/example.c"
+    "$verb" 644 wireshark/staffripple.lua "$DATADIR/staffripple/staffripple.lua"
     for file in Cargo.toml README.md build.rs src/lib.rs; do
         "$verb" 644 "rust/$file" "$DATADIR/staffripple/rust/$file"
     done

@@ -11,19 +11,21 @@ NM ?= nm
 CFLAGS ?= -O2 -g
 WARNINGS ?= -Wall -Wextra -Werror -Wconversion -Wshadow -Wstrict-prototypes -pedantic
 SANITIZERS ?= -fsanitize=address,undefined -fno-sanitize-recover=all
-COMPILE = $(CC) -std=c11 -D_POSIX_C_SOURCE=200809L $(WARNINGS) -I. -Icommon -MMD -MP $(CPPFLAGS) $(CFLAGS)
+COMPILE = $(CC) -std=c11 -D_POSIX_C_SOURCE=200809L $(WARNINGS) -I. -Icommon -Ifront -MMD -MP $(CPPFLAGS) $(CFLAGS)
 
 LIBRARY := build/libstaffripple.a
 ARCHIVES := handler campus
 
 # The programs and their objects.
 PROGRAMS := staffripple trill-replay
-TESTS := selftest refusals
+TESTS := selftest refusals textform walk
 common := $(patsubst %.c,%.o,$(wildcard common/*.c))
-staffripple := front/main.o $(common)
+staffripple := $(patsubst %.c,%.o,$(filter-out front/unproved.c,$(wildcard front/*.c))) $(common)
 trill-replay := $(patsubst %.c,%.o,$(wildcard replay/*.c)) $(common)
 selftest := tests/selftest.o
 refusals := tests/refusals.o $(common)
+textform := tests/textform.o $(common)
+walk := tests/walk.o front/walk.o $(common)
 
 .DELETE_ON_ERROR:
 .SUFFIXES:
@@ -77,7 +79,7 @@ build/sanitized/%.o: %.c
 	@mkdir -p $(@D)
 	$(COMPILE) $(SANITIZERS) -c -o $@ $<
 
-LINK = $(CC) $(CFLAGS) $(LDFLAGS) -o $@.new $^ && mv $@.new $@
+LINK = $(CC) $(CFLAGS) $(LDFLAGS) -o $@.new $^ -lm && mv $@.new $@
 
 $(addprefix build/,$(PROGRAMS) $(TESTS)): build/%: $$(addprefix build/plain/,$$($$*)) $(LIBRARY)
 	$(LINK)

@@ -6,11 +6,11 @@
 #include <string.h>
 
 #include "program.h"
+#include "textform.h"
 
 enum {
     TEXT_MOST = 1 << 20, /* characters of a text: comments alone decide nothing, and may have no end */
-    WORD_SHOWN = 32,
-    CHUNK = 4096
+    WORD_SHOWN = 32
 };
 
 /* Where the reading of a hex text is. */
@@ -19,6 +19,7 @@ struct text {
     bool comment;
     size_t characters;
     size_t digits; /* of the word so far */
+    int high;      /* the latest of them */
     char word[WORD_SHOWN];
 };
 
@@ -71,22 +72,18 @@ static int end_word(const struct octets *octets, struct text *text)
 
 static void add_digit(struct octets *octets, struct text *text, int character)
 {
-    uint8_t *octet = &octets->at[octets->length];
     if (text->digits < WORD_SHOWN)
         text->word[text->digits] = (char)character;
-    if (text->digits++ % 2 == 0) {
-        *octet = (uint8_t)(hex_digit(character) << 4);
-        return;
-    }
-    *octet = (uint8_t)(*octet | hex_digit(character));
-    octets->line[octets->length++] = text->line;
+    if (text->digits++ % 2 == 1)
+        octets_add(octets, (uint8_t)(text->high << 4 | hex_digit(character)), text->line);
+    text->high = hex_digit(character);
 }
 
 static int take_character(struct octets *octets, struct text *text, int character)
 {
     int status = EXIT_GOOD;
     if (++text->characters > TEXT_MOST)
-        return fault(octets, text, "a hex text of over %d characters is not read", TEXT_MOST);
+        return fault(octets, text, "a text of over %d characters is not read", TEXT_MOST);
     if (text->comment && character != '\n')
         return EXIT_GOOD;
     if (hex_digit(character) >= 0)
@@ -101,62 +98,94 @@ static int take_character(struct octets *octets, struct text *text, int characte
     return status;
 }
 
-/* Takes characters until one is at fault or there are octets too many. */
-static int take_characters(struct octets *octets, struct text *text, const uint8_t *characters, size_t count)
+/* Takes hex text until a character is at fault or there are octets too many. */
+static int take_hex(struct octets *octets, const uint8_t *characters, size_t count)
 {
+    struct text text = {.line = 1};
     int status = EXIT_GOOD;
     for (size_t i = 0; i < count && status == EXIT_GOOD && octets->length <= OCTETS_MOST; i++)
-        status = take_character(octets, text, characters[i]);
-    return status;
-}
-
-/* Reads a text from its first characters, and the others from the file. */
-static int read_text(struct octets *octets, FILE *file, const uint8_t *first, size_t count)
-{
-    static const uint8_t mark[] = {0xEF, 0xBB, 0xBF}; /* some editors put it before UTF-8 text */
-    struct text text = {.line = 1};
-    uint8_t characters[CHUNK];
-    bool marked = count >= sizeof mark && memcmp(first, mark, sizeof mark) == 0;
-    size_t skipped = marked ? sizeof mark : 0;
-    int status = take_characters(octets, &text, first + skipped, count - skipped);
-    while (status == EXIT_GOOD && octets->length <= OCTETS_MOST &&
-           (count = fread(characters, 1, sizeof characters, file)) > 0)
-        status = take_characters(octets, &text, characters, count);
-    octets->text = true;
-    if (status == EXIT_GOOD && octets->length <= OCTETS_MOST && !ferror(file))
+        status = take_character(octets, &text, characters[i]);
+    if (status == EXIT_GOOD && octets->length <= OCTETS_MOST)
         status = end_word(octets, &text);
     return status;
 }
 
-static int read_file(struct octets *octets, FILE *file)
+/* Takes the whole lines of a text form that is too long to be read to its end, since one of them may be at fault. */
+static int take_long_text(struct octets *octets, const uint8_t *characters, size_t count)
 {
-    static uint8_t first[OCTETS_MOST + 1];
-    size_t count = fread(first, 1, sizeof first, file), control = 0;
-    while (control < count && !is_control(first[control]))
-        control++;
-    int status = EXIT_GOOD;
-    if (control < count) {
-        memcpy(octets->at, first, count);
-        octets->length = count;
-        octets->control = control;
-    } else if (!ferror(file)) {
-        status = read_text(octets, file, first, count);
-    }
+    struct text text = {.line = 1};
+    while (count > 0 && characters[count - 1] != '\n')
+        count--;
+    int status = textform_read(octets, characters, count);
+    for (size_t i = 0; i < count; i++)
+        text.line += characters[i] == '\n';
+    if (status != EXIT_GOOD || octets->length > OCTETS_MOST)
+        return status;
+    return fault(octets, &text, "a text of over %d characters is not read", TEXT_MOST);
+}
+
+static int take_text(struct octets *octets, const uint8_t *characters, size_t count)
+{
+    static const uint8_t mark[] = {0xEF, 0xBB, 0xBF}; /* some editors put it before UTF-8 text */
+    size_t skipped = count >= sizeof mark && memcmp(characters, mark, sizeof mark) == 0 ? sizeof mark : 0;
+    characters += skipped;
+    count -= skipped;
+    octets->text = true;
+    if (!textform_begins(characters, count))
+        return take_hex(octets, characters, count);
+    return count > TEXT_MOST ? take_long_text(octets, characters, count) : textform_read(octets, characters, count);
+}
+
+void octets_add(struct octets *octets, uint8_t octet, uint32_t line)
+{
+    if (octets->length > OCTETS_MOST)
+        return;
+    octets->at[octets->length] = octet;
+    octets->line[octets->length++] = line;
+}
+
+/* The place of the first control character among octets that may be raw, or their number. */
+static size_t find_control(const uint8_t *content, size_t count)
+{
+    size_t most = count < OCTETS_MOST + 1 ? count : OCTETS_MOST + 1, place = 0;
+    while (place < most && !is_control(content[place]))
+        place++;
+    return place;
+}
+
+int octets_take(struct octets *octets, const char *name, const uint8_t *content, size_t count)
+{
+    size_t raw = count < OCTETS_MOST + 1 ? count : OCTETS_MOST + 1;
+    octets->name = name;
+    octets->text = false;
+    octets->length = 0;
+    octets->control = find_control(content, count);
+    if (octets->control == raw)
+        return take_text(octets, content, count);
+    memcpy(octets->at, content, raw);
+    octets->length = raw;
+    return EXIT_GOOD;
+}
+
+/* Reads as much as decides what the file holds: of raw octets one too many, of a text one character too many. */
+static int read_file(struct octets *octets, const char *name, FILE *file)
+{
+    static uint8_t content[TEXT_MOST + 1];
+    size_t count = fread(content, 1, OCTETS_MOST + 1, file);
+    if (find_control(content, count) == count)
+        count += fread(content + count, 1, sizeof content - count, file);
     if (ferror(file))
-        return complain(EXIT_FAILED, octets->name, strerror(errno));
-    return status;
+        return complain(EXIT_FAILED, name, strerror(errno));
+    return octets_take(octets, name, content, count);
 }
 
 int octets_read(struct octets *octets, const char *path)
 {
     bool standard = strcmp(path, "-") == 0;
-    octets->name = standard ? "standard input" : path;
-    octets->text = false;
-    octets->length = octets->control = 0;
     FILE *file = standard ? stdin : fopen(path, "rb");
     if (!file)
         return complain(EXIT_FAILED, path, strerror(errno));
-    int status = read_file(octets, file);
+    int status = read_file(octets, standard ? "standard input" : path, file);
     if (!standard)
         fclose(file);
     return status;

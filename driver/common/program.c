@@ -82,6 +82,13 @@ int print_version(void)
     return print_text(line);
 }
 
+int print_flush(void)
+{
+    if (fflush(stdout) != 0 || ferror(stdout))
+        return complain(EXIT_FAILED, "standard output", strerror(errno));
+    return EXIT_GOOD;
+}
+
 int program_end(int status)
 {
     if (close(STDOUT_FILENO) != 0 && status == EXIT_GOOD)

@@ -1,6 +1,6 @@
 /*
- * In place of the library while that is not proved yet: with it the program can say what needs no answer, as its help or
- * a fault in hex text. Where it would call the library it ends, with a status that it never has otherwise.
+ * In place of the library while that is not proved yet: with it the program can say what needs no answer, as its help
+ * or a fault in a text. Where it would call the library it ends, with a status that it never has otherwise.
  */
 #include <stdlib.h>
 
@@ -18,5 +18,25 @@ struct campus_text_answer campus_text(const uint8_t *description, size_t descrip
                                       size_t text_len)
 {
     (void)description, (void)description_len, (void)text, (void)text_len;
+    exit(EXIT_UNPROVED);
+}
+
+uint32_t trill_prepare(const uint8_t *settings, size_t settings_len, uint64_t *store, size_t words)
+{
+    (void)settings, (void)settings_len, (void)store, (void)words;
+    exit(EXIT_UNPROVED);
+}
+
+struct trill_answer trill_handle_prepared(const uint8_t *frame, size_t frame_len, const uint64_t *store, size_t words,
+                                          const uint8_t *clock, size_t clock_len, uint8_t *out, size_t out_len)
+{
+    (void)frame, (void)frame_len, (void)store, (void)words, (void)clock, (void)clock_len, (void)out, (void)out_len;
+    exit(EXIT_UNPROVED);
+}
+
+struct trill_way trill_way_out(const uint8_t *settings, size_t settings_len, uint16_t destination, uint8_t *out,
+                               size_t out_len)
+{
+    (void)settings, (void)settings_len, (void)destination, (void)out, (void)out_len;
     exit(EXIT_UNPROVED);
 }

@@ -1,6 +1,6 @@
 /*
  * trill-replay: hands each frame of a capture to the handler, as a port driver would, and writes what it
- * writes to another capture.
+ * writes to another capture, and what it delivers to a third.
  */
 #include <errno.h>
 #include <fcntl.h>
@@ -12,30 +12,34 @@
 #include <unistd.h>
 
 #include "capture.h"
+#include "handling.h"
 #include "octets.h"
 #include "program.h"
 #include "refusal.h"
 #include "report.h"
+#include "textform.h"
 
 enum { STREAM_BUFFER = 1 << 18 };
 
-enum action { REPLAY, VERSION = LONG_OPTION, HELP = 'h' };
+enum action { REPLAY, VERSION = LONG_OPTION, JSON, HELP = 'h' };
 
 struct words {
     enum action action;
-    bool verbose;
+    bool verbose, json, unbuffered;
+    bool stamps; /* the clock is each frame's time stamp */
     uint8_t clock[TRILL_CLOCK];
-    const char *settings, *input, *output;
+    const char *settings, *input, *output, *delivered; /* delivered may be null */
 };
 
 struct replay {
     struct words words;
     struct octets settings;
+    struct rbridge rbridge;
     struct capture_input input;
-    struct capture_output output;
+    struct capture_output output, delivered;
     struct tally tally;
     struct progress progress;
-    FILE *report; /* standard output, or standard error if the capture goes to standard output */
+    struct report report;
 };
 
 static volatile sig_atomic_t stopped;
@@ -53,41 +57,34 @@ static const char usage[] =
     "that the switch sends to the capture OUTPUT with the time stamps of those received, and prints\n"
     "how many frames had which answer.\n"
     "\n"
-    "  -v, --verbose      a line for each frame, too\n"
-    "  -c, --clock CLOCK  the switch's clock, 12 hex digits: 6 of seconds, 6 of microseconds;\n"
-    "                     default 000000000000\n"
-    "  -h, --help         this text\n"
-    "  --version          the version, and the Rattle kit that it was made with\n"
+    "  -v, --verbose         a line for each frame, too\n"
+    "  --json                say all this as JSON, an object on each line\n"
+    "  -d, --delivered FILE  write the frames that the switch delivers to a capture of their own\n"
+    "  -c, --clock CLOCK     the switch's clock:\n"
+    "                        " CLOCK_HELP ";\n"
+    "                        or `stamp`, each frame's own time stamp\n"
+    "  -u, --unbuffered      write each frame and each line at once\n"
+    "  -h, --help            this text\n"
+    "  --version             the version, and the Rattle kit that it was made with\n"
     "\n"
-    "INPUT is a classic pcap file of Ethernet frames. OUTPUT is overwritten. Each of the three may be\n"
-    "-, for standard input or output; where the capture goes to standard output, all else goes to\n"
+    "INPUT is a classic pcap file of Ethernet frames. Captures are overwritten. Each file may be\n"
+    "-, for standard input or output; where a capture goes to standard output, all else goes to\n"
     "standard error.\n"
     "\n"
-    "SETTINGS is a row of fields: tag 1 octet, length 2, value; all numbers big-endian. The first is\n"
-    "the switch, and there is one of it. In hex text:\n"
+    "SETTINGS in the text form, the switch first and once:\n"
+    "\n" TEXTFORM_SETTINGS_HELP TEXTFORM_ANY_HELP "\n"
+    "In octets it is a row of fields: tag 1 octet, length 2, value; all numbers big-endian. In hex\n"
+    "text:\n"
     "\n" SETTINGS_HELP "\n" VALUES_HELP "\n" OCTETS_HELP "\n"
     "Exit status:\n"
     "  0  all frames are read\n"
     "  1  input could not be read, a capture is damaged, output was lost, or a signal stopped it\n"
-    "  2  wrong usage, or a fault in hex text, said as FILE:LINE: FAULT\n"
+    "  2  wrong usage, or a fault in a text, said as FILE:LINE: FAULT\n"
     "  3  the settings are refused\n";
 
 static bool is_stream(const char *name)
 {
     return strcmp(name, "-") == 0;
-}
-
-static bool read_clock(uint8_t clock[TRILL_CLOCK], const char *text)
-{
-    if (strlen(text) != 2 * TRILL_CLOCK)
-        return false;
-    for (size_t i = 0; i < TRILL_CLOCK; i++) {
-        int high = hex_digit((unsigned char)text[2 * i]), low = hex_digit((unsigned char)text[2 * i + 1]);
-        if (high < 0 || low < 0)
-            return false;
-        clock[i] = (uint8_t)(high << 4 | low);
-    }
-    return true;
 }
 
 /* Each step of a run answers EXIT_GOOD, or another exit status after its message. */
@@ -104,53 +101,69 @@ static int read_operands(struct words *words, int count, char **given)
     words->output = given[2];
     if (is_stream(words->settings) && is_stream(words->input))
         return misused("settings and input cannot both be standard input", "");
+    if (words->delivered && is_stream(words->delivered) && is_stream(words->output))
+        return misused("two captures cannot both be standard output", "");
     return EXIT_GOOD;
+}
+
+static int read_clock(struct words *words, const char *word)
+{
+    words->stamps = strcmp(word, "stamp") == 0;
+    if (words->stamps || clock_read(words->clock, word))
+        return EXIT_GOOD;
+    return misused("a clock is stamp, SECONDS.MICROSECONDS or 12 hex digits, and this is none: ", word);
+}
+
+static int read_option(struct words *words, int option, char **given)
+{
+    switch (option) {
+    case 'v':
+        words->verbose = true;
+        return EXIT_GOOD;
+    case 'u':
+        words->unbuffered = true;
+        return EXIT_GOOD;
+    case 'd':
+        words->delivered = optarg;
+        return EXIT_GOOD;
+    case 'c':
+        return read_clock(words, optarg);
+    case JSON:
+        words->json = true;
+        return EXIT_GOOD;
+    case HELP:
+    case VERSION:
+        words->action = (enum action)option;
+        return EXIT_GOOD;
+    default:
+        return misused_option(option, given);
+    }
 }
 
 static int read_words(struct words *words, int count, char **given)
 {
-    static const struct option options[] = {{"verbose", no_argument, NULL, 'v'},
-                                            {"clock", required_argument, NULL, 'c'},
-                                            {"help", no_argument, NULL, HELP},
-                                            {"version", no_argument, NULL, VERSION},
-                                            {NULL, 0, NULL, 0}};
-    int option;
-    while ((option = getopt_long(count, given, ":vc:h", options, NULL)) != -1) {
-        switch (option) {
-        case 'v':
-            words->verbose = true;
-            break;
-        case 'c':
-            if (!read_clock(words->clock, optarg))
-                return misused("a clock has 12 hex digits, and this is none: ", optarg);
-            break;
-        case HELP:
-        case VERSION:
-            words->action = (enum action)option;
-            break;
-        default:
-            return misused_option(option, given);
-        }
-    }
-    return read_operands(words, count - optind, given + optind);
+    static const struct option options[] = {
+        {"verbose", no_argument, NULL, 'v'},         {"json", no_argument, NULL, JSON},
+        {"delivered", required_argument, NULL, 'd'}, {"clock", required_argument, NULL, 'c'},
+        {"unbuffered", no_argument, NULL, 'u'},      {"help", no_argument, NULL, HELP},
+        {"version", no_argument, NULL, VERSION},     {NULL, 0, NULL, 0}};
+    int option, status = EXIT_GOOD;
+    while (status == EXIT_GOOD && (option = getopt_long(count, given, ":vd:c:uh", options, NULL)) != -1)
+        status = read_option(words, option, given);
+    return status == EXIT_GOOD ? read_operands(words, count - optind, given + optind) : status;
 }
 
-/* An empty frame is answered TRILL_DROP_SHORT, unless the settings are bad. */
 static int read_settings(struct replay *replay)
 {
-    static const uint8_t clock[TRILL_CLOCK];
-    static uint8_t out[TRILL_OUTPUT_LEAST];
     struct octets *settings = &replay->settings;
     int status = octets_read(settings, replay->words.settings);
     if (status != EXIT_GOOD)
         return status;
     if (settings->length > OCTETS_MOST)
         return complain(EXIT_USAGE, settings->name, "over 32,768 octets, so it was not read to its end");
-    struct trill_answer answer =
-        staffripple_handle(NULL, 0, settings->at, settings->length, clock, sizeof clock, out, sizeof out);
-    if (answer.number != TRILL_REFUSED_SETTINGS)
+    if (rbridge_prepare(&replay->rbridge, settings->at, settings->length))
         return EXIT_GOOD;
-    refusal_say(SETTINGS, settings, answer.number, trill_answer_name(answer.number));
+    refusal_say(SETTINGS, settings, TRILL_REFUSED_SETTINGS, trill_answer_name(TRILL_REFUSED_SETTINGS));
     return EXIT_REFUSED;
 }
 
@@ -172,57 +185,116 @@ static bool same_file(const struct stat *left, const struct stat *right)
     return S_ISREG(left->st_mode) && left->st_dev == right->st_dev && left->st_ino == right->st_ino;
 }
 
-/* Refuses an output that would destroy what is read, before anything of it is lost. */
-static int judge_output(const struct replay *replay, int file)
+/* Refuses an output that would destroy what is read or written, before anything of it is lost. */
+static int judge_output(const struct replay *replay, const char *name, int file)
 {
     const struct words *words = &replay->words;
     struct stat output, other;
     if (isatty(file))
-        return complain(EXIT_USAGE, words->output, "a capture is not for a terminal: name a file or a pipe");
+        return complain(EXIT_USAGE, name, "a capture is not for a terminal: name a file or a pipe");
     if (fstat(file, &output) != 0)
-        return complain(EXIT_FAILED, words->output, strerror(errno));
+        return complain(EXIT_FAILED, name, strerror(errno));
     if (fstat(fileno(replay->input.file), &other) == 0 && same_file(&output, &other))
-        return complain(EXIT_USAGE, words->output, "is the input, too");
+        return complain(EXIT_USAGE, name, "is the input, too");
     if (stat(words->settings, &other) == 0 && same_file(&output, &other))
-        return complain(EXIT_USAGE, words->output, "is the settings file, too");
-    if (!is_stream(words->output) && S_ISREG(output.st_mode) && ftruncate(file, 0) != 0)
-        return complain(EXIT_FAILED, words->output, strerror(errno));
+        return complain(EXIT_USAGE, name, "is the settings file, too");
+    if (name == words->delivered && fstat(replay->output.file, &other) == 0 && same_file(&output, &other))
+        return complain(EXIT_USAGE, name, "is the output, too");
     return EXIT_GOOD;
 }
 
-static int open_output(struct replay *replay)
+static int open_output(const struct replay *replay, const char *name, int *file)
 {
-    const char *name = replay->words.output;
-    int file = is_stream(name) ? STDOUT_FILENO : open(name, O_WRONLY | O_CREAT, 0666);
-    if (file < 0)
+    *file = is_stream(name) ? STDOUT_FILENO : open(name, O_WRONLY | O_CREAT, 0666);
+    if (*file < 0)
         return complain(EXIT_FAILED, name, strerror(errno));
-    int status = judge_output(replay, file);
-    if (status != EXIT_GOOD)
-        return status;
-    if (!capture_create(&replay->output, file, &replay->input.format))
+    return judge_output(replay, name, *file);
+}
+
+static int create_output(const struct replay *replay, const char *name, struct capture_output *output)
+{
+    struct stat file;
+    bool cut = !is_stream(name) && fstat(output->file, &file) == 0 && S_ISREG(file.st_mode);
+    if ((cut && ftruncate(output->file, 0) != 0) || !capture_create(output, output->file, &replay->input.format))
         return complain(EXIT_FAILED, name, strerror(errno));
     return EXIT_GOOD;
 }
 
-/* Hands a frame to the handler and writes what it writes; false if writing failed. */
-static bool handle_frame(struct replay *replay, const struct capture_record *record)
+/* Opens all outputs before one of them is overwritten. */
+static int open_outputs(struct replay *replay)
 {
-    static uint8_t out[TRILL_OUTPUT_LEAST];
     const struct words *words = &replay->words;
+    int status = open_output(replay, words->output, &replay->output.file);
+    if (status == EXIT_GOOD && words->delivered)
+        status = open_output(replay, words->delivered, &replay->delivered.file);
+    if (status == EXIT_GOOD)
+        status = create_output(replay, words->output, &replay->output);
+    if (status == EXIT_GOOD && words->delivered)
+        status = create_output(replay, words->delivered, &replay->delivered);
+    return status;
+}
+
+/* A time stamp as a clock; a fraction of more than a second, which a capture may hold, is carried over. */
+static void stamp_clock(uint8_t clock[TRILL_CLOCK], const struct capture_record *record, bool nanoseconds)
+{
+    enum { MICROSECONDS = 1000000 };
+    uint32_t fraction = nanoseconds ? record->fraction / 1000 : record->fraction;
+    uint32_t seconds = record->seconds + fraction / MICROSECONDS;
+    fraction %= MICROSECONDS;
+    for (unsigned i = 0; i < 3; i++) {
+        clock[i] = (uint8_t)(seconds >> 8 * (2 - i));
+        clock[3 + i] = (uint8_t)(fraction >> 8 * (2 - i));
+    }
+}
+
+/* Says where writing failed, of which errno has the reason. */
+static int lost(struct replay *replay, const char *name)
+{
+    int cause = errno;
+    progress_end(&replay->progress);
+    return complain(EXIT_FAILED, name, strerror(cause));
+}
+
+/* Writes what the handler has written, and what it delivers. */
+static int write_frames(struct replay *replay, const struct capture_record *record, const struct handling *handling)
+{
+    const struct words *words = &replay->words;
+    const struct trill_answer *answer = &handling->answer;
+    struct trill_part part = trill_part_of(record->frame, record->length, answer->start, answer->length);
+    if (answer->written && !capture_write(&replay->output, record, handling->out, answer->written))
+        return lost(replay, words->output);
+    if (words->delivered && part.length &&
+        !capture_write(&replay->delivered, record, part.octets, (uint32_t)part.length))
+        return lost(replay, words->delivered);
+    if (!words->unbuffered)
+        return EXIT_GOOD;
+    if (!capture_flush(&replay->output))
+        return lost(replay, words->output);
+    if (words->delivered && !capture_flush(&replay->delivered))
+        return lost(replay, words->delivered);
+    fflush(replay->report.file);
+    return EXIT_GOOD;
+}
+
+/* Hands a frame to the handler and writes what comes of it. */
+static int handle_frame(struct replay *replay, const struct capture_record *record)
+{
+    static struct handling handling;
+    struct words *words = &replay->words;
     if (record->captured < record->length) {
         replay->tally.snapped++;
         if (words->verbose)
-            report_snapped(replay->report, &replay->input, record);
-        return true;
+            report_snapped(&replay->report, &replay->input, record);
+        return EXIT_GOOD;
     }
-    struct trill_answer answer =
-        trill_handle(record->frame, record->length, replay->settings.at, replay->settings.length, words->clock,
-                     sizeof words->clock, out, sizeof out);
+    if (words->stamps)
+        stamp_clock(words->clock, record, replay->input.format.nanoseconds);
+    rbridge_handle(&replay->rbridge, record->frame, record->length, words->clock, &handling);
     replay->tally.handled++;
-    replay->tally.answers[answer.number]++;
+    replay->tally.answers[handling.answer.number]++;
     if (words->verbose)
-        report_frame(replay->report, &replay->input, record, answer);
-    return answer.written == 0 || capture_write(&replay->output, record, out, answer.written);
+        report_frame(&replay->report, &replay->input, record, handling.answer);
+    return write_frames(replay, record, &handling);
 }
 
 static int handle_frames(struct replay *replay)
@@ -230,11 +302,9 @@ static int handle_frames(struct replay *replay)
     struct capture_record record;
     enum capture_status status = CAPTURE_END;
     while (!stopped && (status = capture_next(&replay->input, &record)) == CAPTURE_READ) {
-        if (!handle_frame(replay, &record)) {
-            int cause = errno;
-            progress_end(&replay->progress);
-            return complain(EXIT_FAILED, replay->words.output, strerror(cause));
-        }
+        int handled = handle_frame(replay, &record);
+        if (handled != EXIT_GOOD)
+            return handled;
         progress_step(&replay->progress, &replay->input);
     }
     progress_end(&replay->progress);
@@ -249,18 +319,28 @@ static void begin_progress(struct replay *replay)
 {
     struct stat input;
     bool known = fstat(fileno(replay->input.file), &input) == 0 && S_ISREG(input.st_mode);
-    bool listed = replay->words.verbose && isatty(fileno(replay->report));
+    bool listed = replay->words.verbose && isatty(fileno(replay->report.file));
     progress_begin(&replay->progress, isatty(STDERR_FILENO) && !listed, known ? (uint64_t)input.st_size : 0);
+}
+
+static int close_output(struct capture_output *output, const char *name, int status)
+{
+    if (capture_flush(output) && close(output->file) == 0)
+        return status;
+    return complain(EXIT_FAILED, name, strerror(errno));
 }
 
 /* Keeps what was done, however the run has ended. */
 static int finish(struct replay *replay, int status)
 {
-    struct capture_output *output = &replay->output;
-    if (!capture_flush(output) || close(output->file) != 0)
-        status = complain(EXIT_FAILED, replay->words.output, strerror(errno));
-    report_summary(replay->report, &replay->tally, &replay->input, &replay->output);
-    if (fflush(replay->report) != 0 || ferror(replay->report))
+    const struct words *words = &replay->words;
+    FILE *report = replay->report.file;
+    status = close_output(&replay->output, words->output, status);
+    if (words->delivered)
+        status = close_output(&replay->delivered, words->delivered, status);
+    report_summary(&replay->report, &replay->tally, &replay->input, &replay->output,
+                   words->delivered ? &replay->delivered : NULL, progress_seconds(&replay->progress));
+    if (fflush(report) != 0 || ferror(report))
         status = complain(EXIT_FAILED, "summary", strerror(errno));
     return status;
 }
@@ -281,10 +361,12 @@ static int run(struct replay *replay)
     if (status == EXIT_GOOD)
         status = open_input(replay);
     if (status == EXIT_GOOD)
-        status = open_output(replay);
+        status = open_outputs(replay);
     if (status != EXIT_GOOD)
         return status;
-    replay->report = is_stream(replay->words.output) ? stderr : stdout;
+    const struct words *words = &replay->words;
+    bool streamed = is_stream(words->output) || (words->delivered && is_stream(words->delivered));
+    replay->report = (struct report){streamed ? stderr : stdout, words->json};
     begin_progress(replay);
     return finish(replay, handle_frames(replay));
 }

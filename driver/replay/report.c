@@ -3,61 +3,127 @@
 #include <inttypes.h>
 #include <time.h>
 
+#include "layout.h"
+
 enum { RECORDS_BETWEEN_LOOKS = 256 }; /* at the time */
 
 static const double progress_after = 2.0, progress_every = 0.25; /* seconds */
 
-static void report_stamp(FILE *report, const struct capture_input *input, const struct capture_record *record)
+static void stamp_text(char text[32], const struct capture_input *input, const struct capture_record *record)
 {
     int digits = input->format.nanoseconds ? 9 : 6;
-    fprintf(report, "%" PRIu64 " %" PRIu32 ".%0*" PRIu32 " ", input->records, record->seconds, digits,
-            record->fraction);
+    snprintf(text, 32, "%" PRIu32 ".%0*" PRIu32, record->seconds, digits, record->fraction);
 }
 
-/* The TRILL header of a frame that was found to have one. */
-static void report_header(FILE *report, const uint8_t *frame)
+static void frame_words(FILE *file, const struct capture_record *record, const struct trill_answer *answer)
 {
-    const uint8_t *header = frame + (staffripple_get16(frame + 12) == 0x8100 ? 18 : 14);
-    fprintf(report, "; hop count %u, egress %04X, ingress %04X", staffripple_get16(header) & 0x3Fu,
-            staffripple_get16(header + 2), staffripple_get16(header + 4));
+    struct frame_layout layout;
+    layout_read(&layout, record->frame, record->length);
+    fprintf(file, "%" PRIu32 " octets: %" PRIu32 " %s", record->length, answer->number,
+            trill_answer_name(answer->number));
+    if (layout.trill)
+        fprintf(file, "; hop count %u, egress %04X, ingress %04X", layout.fields.hop_count, layout.fields.egress,
+                layout.fields.ingress);
+    if (answer->written)
+        fprintf(file, "; %" PRIu32 " octets written", answer->written);
+    if (answer->length)
+        fprintf(file, "; part at octet %" PRIu32 ", %" PRIu32 " octets", answer->start, answer->length);
+    putc('\n', file);
 }
 
-void report_frame(FILE *report, const struct capture_input *input, const struct capture_record *record,
+static void frame_json(FILE *file, const struct capture_record *record, const struct trill_answer *answer)
+{
+    struct frame_layout layout;
+    layout_read(&layout, record->frame, record->length);
+    fprintf(file, "\"octets\": %" PRIu32 ", \"answer\": %" PRIu32 ", \"meaning\": \"%s\"", record->length,
+            answer->number, trill_answer_name(answer->number));
+    if (layout.trill)
+        fprintf(file, ", \"hop_count\": %u, \"egress\": \"%04X\", \"ingress\": \"%04X\"", layout.fields.hop_count,
+                layout.fields.egress, layout.fields.ingress);
+    fprintf(file, ", \"written\": %" PRIu32 ", \"start\": %" PRIu32 ", \"length\": %" PRIu32 "}\n", answer->written,
+            answer->start, answer->length);
+}
+
+void report_frame(const struct report *report, const struct capture_input *input, const struct capture_record *record,
                   struct trill_answer answer)
 {
-    report_stamp(report, input, record);
-    fprintf(report, "%" PRIu32 " octets: %" PRIu32 " %s", record->length, answer.number,
-            trill_answer_name(answer.number));
-    if (answer.number > TRILL_DROP_ETHERTYPE) /* the lower numbers come before a TRILL header is found */
-        report_header(report, record->frame);
-    if (answer.written)
-        fprintf(report, "; %" PRIu32 " octets written", answer.written);
-    if (answer.length)
-        fprintf(report, "; part at octet %" PRIu32 ", %" PRIu32 " octets", answer.start, answer.length);
-    putc('\n', report);
+    char stamp[32];
+    stamp_text(stamp, input, record);
+    fprintf(report->file, report->json ? "{\"frame\": %" PRIu64 ", \"time\": \"%s\", " : "%" PRIu64 " %s ",
+            input->records, stamp);
+    if (report->json)
+        frame_json(report->file, record, &answer);
+    else
+        frame_words(report->file, record, &answer);
 }
 
-void report_snapped(FILE *report, const struct capture_input *input, const struct capture_record *record)
+void report_snapped(const struct report *report, const struct capture_input *input, const struct capture_record *record)
 {
-    report_stamp(report, input, record);
-    fprintf(report, "%" PRIu32 " octets: snapped at %" PRIu32 ", not handled\n", record->length, record->captured);
+    char stamp[32];
+    stamp_text(stamp, input, record);
+    fprintf(report->file,
+            report->json ? "{\"frame\": %" PRIu64 ", \"time\": \"%s\", \"octets\": %" PRIu32 ", \"snapped\": %" PRIu32
+                           "}\n"
+                         : "%" PRIu64 " %s %" PRIu32 " octets: snapped at %" PRIu32 ", not handled\n",
+            input->records, stamp, record->length, record->captured);
 }
 
-void report_summary(FILE *report, const struct tally *tally, const struct capture_input *input,
-                    const struct capture_output *output)
+static double frames_per_second(const struct capture_input *input, double seconds)
 {
-    fprintf(report, "%10s\n%10" PRIu64 "  read\n", "frames", input->records);
+    return seconds > 0 ? (double)input->records / seconds : 0;
+}
+
+static void summary_words(FILE *file, const struct tally *tally, const struct capture_input *input,
+                          const struct capture_output *output, const struct capture_output *delivered)
+{
+    fprintf(file, "%10s\n%10" PRIu64 "  read\n", "frames", input->records);
     if (input->format.fcs)
-        fprintf(report, "%10s  (each without its FCS of %" PRIu32 " octets)\n", "", input->format.fcs);
+        fprintf(file, "%10s  (each without its FCS of %" PRIu32 " octets)\n", "", input->format.fcs);
     if (tally->snapped)
-        fprintf(report, "%10" PRIu64 "  snapped: captured in part only, so not handled\n", tally->snapped);
-    fprintf(report, "%10" PRIu64 "  handled, by answer:\n", tally->handled);
+        fprintf(file, "%10" PRIu64 "  snapped: captured in part only, so not handled\n", tally->snapped);
+    fprintf(file, "%10" PRIu64 "  handled, by answer:\n", tally->handled);
     for (uint32_t number = 0; number < ANSWER_NUMBERS; number++) {
         if (tally->answers[number])
-            fprintf(report, "%10" PRIu64 "    %2" PRIu32 " %s\n", tally->answers[number], number,
+            fprintf(file, "%10" PRIu64 "    %2" PRIu32 " %s\n", tally->answers[number], number,
                     trill_answer_name(number));
     }
-    fprintf(report, "%10" PRIu64 "  written, %" PRIu64 " octets\n", output->frames, output->octets);
+    fprintf(file, "%10" PRIu64 "  written, %" PRIu64 " octets\n", output->frames, output->octets);
+    if (delivered)
+        fprintf(file, "%10" PRIu64 "  delivered, %" PRIu64 " octets\n", delivered->frames, delivered->octets);
+}
+
+static void summary_json(FILE *file, const struct tally *tally, const struct capture_input *input,
+                         const struct capture_output *output, const struct capture_output *delivered)
+{
+    const char *comma = "";
+    fprintf(file,
+            "{\"read\": %" PRIu64 ", \"fcs\": %" PRIu32 ", \"snapped\": %" PRIu64 ", \"handled\": %" PRIu64
+            ", \"answers\": [",
+            input->records, input->format.fcs, tally->snapped, tally->handled);
+    for (uint32_t number = 0; number < ANSWER_NUMBERS; number++) {
+        if (!tally->answers[number])
+            continue;
+        fprintf(file, "%s{\"answer\": %" PRIu32 ", \"meaning\": \"%s\", \"frames\": %" PRIu64 "}", comma, number,
+                trill_answer_name(number), tally->answers[number]);
+        comma = ", ";
+    }
+    fprintf(file, "], \"written\": {\"frames\": %" PRIu64 ", \"octets\": %" PRIu64 "}", output->frames, output->octets);
+    if (delivered)
+        fprintf(file, ", \"delivered\": {\"frames\": %" PRIu64 ", \"octets\": %" PRIu64 "}", delivered->frames,
+                delivered->octets);
+}
+
+void report_summary(const struct report *report, const struct tally *tally, const struct capture_input *input,
+                    const struct capture_output *output, const struct capture_output *delivered, double seconds)
+{
+    double rate = frames_per_second(input, seconds);
+    if (report->json) {
+        summary_json(report->file, tally, input, output, delivered);
+        fprintf(report->file, ", \"seconds\": %.6f, \"frames_per_second\": %.0f}\n", seconds, rate);
+    } else {
+        summary_words(report->file, tally, input, output, delivered);
+        fprintf(report->file, "%10.0f  frames per second, in %.3f s\n", rate, seconds);
+    }
 }
 
 static double now(void)
@@ -69,7 +135,8 @@ static double now(void)
 
 void progress_begin(struct progress *progress, bool wanted, uint64_t size)
 {
-    *progress = (struct progress){.wanted = wanted, .size = size, .due = now() + progress_after};
+    double begun = now();
+    *progress = (struct progress){.wanted = wanted, .size = size, .begun = begun, .due = begun + progress_after};
 }
 
 void progress_step(struct progress *progress, const struct capture_input *input)
@@ -91,4 +158,9 @@ void progress_end(struct progress *progress)
     if (progress->shown)
         fputs("\r\033[K", stderr);
     progress->shown = false;
+}
+
+double progress_seconds(const struct progress *progress)
+{
+    return now() - progress->begun;
 }

@@ -118,6 +118,13 @@ run ./staffripple bad.hex
 judge 'a fault in hex text, before the proof' 2 out '' err "bad.hex:1: 'G' is not a hex digit" asked ''
 run ./staffripple -- < examples/C1.hex
 judge 'standard input, read after the proof' 0 out "$c1" asked "$both"
+begin
+run ./staffripple --text examples/campus.txt
+cp "$dir/out" own.txt
+judge 'a text, before the proof' 0 err '' asked ''
+run ./staffripple --words < own.txt
+tail -n 1 "$dir/out" > "$dir/last"
+judge 'standard input behind an option, read after the proof' 0 last 'echo reply heard at 0001, after 4 handlings' asked "$both"
 
 # ---- Two at once ----
 

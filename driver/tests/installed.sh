@@ -74,6 +74,9 @@ for program in staffripple trill-replay; do
     fi
 done
 
+# The dissector, where the manual says that it is
+prints 'the dissector' "$(cat "$root/wireshark/staffripple.lua")" cat "$prefix/share/staffripple/staffripple.lua"
+
 # The description that README.md shows, with what it says of it
 sed -n '/^A description is hex text/,/^`/s/^    //p' "$root/../README.md" > own.hex
 prints 'the description of README.md' '0001 O 50 05 0003

@@ -45,12 +45,20 @@ record() {
 
 # ---- Running and judging ----
 
+# steady: takes the line that differs from run to run, that of the frames per second, out of what the tool has said
+steady() {
+    for file in said complained; do
+        sed '/^ *[0-9]*  frames per second, in [0-9.]* s$/d' "$file" > steady && cat steady > "$file"
+    done
+}
+
 # run STATUS WORDS..: runs the tool; what it says goes to the files said and complained
 run() {
     wanted=$1
     shift
     "$tool" "$@" > said 2> complained
     status=$?
+    steady
 }
 
 # judge NAME [OUTPUT TEXT]..: the status was as wanted, and the texts are what OUTPUT holds
@@ -144,6 +152,19 @@ format micro-le a1b2c3d4 le 111111
 # From here on microseconds, little-endian.
 run 0 strip.txt in-micro-le.pcap text.pcap
 judge 'settings in hex text' text.pcap "$expected" said "$summary"
+octets "$switch 02 0010 0009 0005 020000000005 00000001 0FFE" > tagged
+octets "$(header 65535; record 1 2 "$transit"; record 1 3 "$echo_asked")" > untagged.pcap
+tag="020000000005 020000000001 8100 0FFE 22F3"
+run 0 -c 000001000009 tagged untagged.pcap tagged.pcap
+judge 'an outer VLAN, forwarded and in a reply' tagged.pcap "$(header 2048; record 1 2 "$tag ${transit_sent#"$sent"}"
+    record 1 3 "$tag ${echo_sent#"$sent"} 000001000009")" complained ''
+cat > form.txt <<TEXT
+# a switch
+switch 0001 mac 02:00:00:00:00:01 strip
+  to 0009 via 0005 mac 02-00-00-00-00-05 serial 1
+TEXT
+run 0 form.txt in-micro-le.pcap text.pcap
+judge 'settings in the text form' text.pcap "$expected" said "$summary"
 run 0 -v withdrawn in-micro-le.pcap none.pcap
 judge 'C12, and -v' none.pcap "$(header 2048)" said "1 1700000001.111111 40 octets: 17 hop count 0; hop count 0, egress 0001, ingress 0004
 2 1700000002.222222 40 octets: 51 delivered; hop count 1, egress 0001, ingress 0004; part at octet 20, 20 octets
@@ -168,14 +189,82 @@ judge 'C12, and -v' none.pcap "$(header 2048)" said "1 1700000001.111111 40 octe
 octets "$(header 65535; record 7 8 "$echo_asked")" > echo.pcap
 run 0 -c 0000010000aF strip echo.pcap out.pcap
 judge 'the clock' out.pcap "$(header 2048; record 7 8 "$echo_sent 0000010000AF")"
+run 0 -c 1.000175 strip echo.pcap out.pcap
+judge 'the clock in seconds' out.pcap "$(header 2048; record 7 8 "$echo_sent 0000010000AF")"
+run 0 -c stamp strip echo.pcap out.pcap
+judge 'the clock from a time stamp' out.pcap "$(header 2048; record 7 8 "$echo_sent 000007000008")"
+octets "$(header 65535; record 0xFF000007 4294967295 "$echo_asked")" > late.pcap
+run 0 -c stamp strip late.pcap out.pcap
+judge 'a time stamp with many seconds, and more of them in its fraction' \
+    out.pcap "$(header 2048; record 0xFF000007 4294967295 "$echo_sent 0010CD0EC27F")"
+magic=a1b23c4d
+octets "$(header 65535; record 7 8000 "$echo_asked")" > nano.pcap
+run 0 -c stamp strip nano.pcap out.pcap
+judge 'the clock from a time stamp in nanoseconds' out.pcap "$(header 2048; record 7 8000 "$echo_sent 000007000008")"
+magic=a1b2c3d4
 run 0 strip echo.pcap out.pcap
 judge 'no clock' out.pcap "$(header 2048; record 7 8 "$echo_sent 000000000000")"
 
 run 0 strip - out.pcap < in-micro-le.pcap
 judge 'standard input' out.pcap "$expected" said "$summary"
-run 0 strip in-micro-le.pcap -
-mv said out.pcap
+"$tool" strip in-micro-le.pcap - > out.pcap 2> complained
+status=$? wanted=0
+: > said
+steady
 judge 'standard output' out.pcap "$expected" complained "$summary"
+
+# ---- Delivered frames, JSON, and what is written at once ----
+
+run 0 -d inner.pcap strip in-micro-le.pcap out.pcap
+judge 'delivered frames' out.pcap "$expected" said "$summary
+         3  delivered, 60 octets" inner.pcap "$(header 2048; record 1700000002 222222 "$inner"; record 1700000003 333333 "$inner"; record 1700000005 555555 "$inner")"
+"$tool" -d - strip in-micro-le.pcap out.pcap > delivered.pcap 2> complained
+status=$?
+: > said
+steady
+judge 'delivered frames to standard output' out.pcap "$expected" delivered.pcap "$(hex inner.pcap)" complained "$summary
+         3  delivered, 60 octets"
+
+octets "$(header 65535; record 1 2 "$transit" 41; record 3 4 "$c3"; record 5 6 "$transit"; record 7 8 00)" > json.pcap
+run 0 -v --json -d inner.pcap strip json.pcap out.pcap
+sed 's/"seconds": [0-9.]*, "frames_per_second": [0-9]*/TIME/' said > json
+judge 'as JSON' complained '' json '{"frame": 1, "time": "1.000002", "octets": 41, "snapped": 40}
+{"frame": 2, "time": "3.000004", "octets": 40, "answer": 51, "meaning": "delivered", "hop_count": 1, "egress": "0001", "ingress": "0004", "written": 0, "start": 20, "length": 20}
+{"frame": 3, "time": "5.000006", "octets": 40, "answer": 50, "meaning": "forwarded", "hop_count": 1, "egress": "0009", "ingress": "0004", "written": 40, "start": 0, "length": 0}
+{"frame": 4, "time": "7.000008", "octets": 1, "answer": 10, "meaning": "link header or TRILL header cut short", "written": 0, "start": 0, "length": 0}
+{"read": 4, "fcs": 0, "snapped": 1, "handled": 3, "answers": [{"answer": 10, "meaning": "link header or TRILL header cut short", "frames": 1}, {"answer": 50, "meaning": "forwarded", "frames": 1}, {"answer": 51, "meaning": "delivered", "frames": 1}], "written": {"frames": 1, "octets": 40}, "delivered": {"frames": 1, "octets": 20}, TIME}'
+"$tool" --json strip json.pcap out.pcap | grep -cE ', "seconds": [0-9]+\.[0-9]{6}, "frames_per_second": [0-9]+}$' > said
+judge 'frames per second as JSON' said 1
+"$tool" strip json.pcap out.pcap | grep -cE '^ *[0-9]+  frames per second, in [0-9]+\.[0-9]{3} s$' > said
+judge 'frames per second' said 1
+
+# While its input has not ended, each frame is in the captures and each line is said.
+# unbuffered OPTION..: the octets of both captures and the lines, as long as the input is open
+unbuffered() {
+    mkfifo pipe
+    "$tool" -v -d inner.pcap "$@" strip - out.pcap < pipe > said 2> complained &
+    tool_id=$!
+    exec 3> pipe
+    octets "$(header 65535; record 3 4 "$c3"; record 5 6 "$transit")" >&3
+    tenth=0
+    while [ "$tenth" -lt "$patience" ] && [ "$(wc -l < said)" -lt 2 ]; do
+        sleep 0.1
+        tenth=$((tenth + 1))
+    done
+    wc -l < said | tr -d ' ' > lines
+    cp out.pcap out-then.pcap
+    cp inner.pcap inner-then.pcap
+    exec 3>&-
+    wait "$tool_id"
+    status=$?
+    rm pipe
+}
+patience=50
+unbuffered -u
+judge 'unbuffered' lines 2 out-then.pcap "$(header 2048; record 5 6 "$transit_sent")" inner-then.pcap "$(header 2048; record 3 4 "$inner")"
+patience=3
+unbuffered
+judge 'buffered' lines 0 out-then.pcap "$(header 2048)" inner-then.pcap "$(header 2048)" out.pcap "$(header 2048; record 5 6 "$transit_sent")"
 
 octets "$(header 65535; record 1 2 ''; record 3 4 "$received 0005"; record 5 6 "$(printf '%04098d' 0)")" > odd.pcap
 run 0 -v strip odd.pcap out.pcap
@@ -243,7 +332,7 @@ refused() {
     judge "refused, $1" kept older complained "trill-replay: refused.pcap: $2" said ''
 }
 refused 'pcapng' 'a pcapng file; convert it with: editcap -F pcap IN OUT, or -F nsecpcap for nanoseconds' '0A0D0D0A 1C000000 4D3C2B1A 01000000'
-refused 'gzip' 'a gzip file; unpack it first, as with: gzip -dc IN.pcap.gz | trill-replay SETTINGS - OUT' '1F8B0800 00000000'
+refused 'gzip' 'a gzip file; unpack it first, as with: gzip -dk IN.pcap.gz' '1F8B0800 00000000'
 refused 'text' 'not a classic pcap file: it begins with 68 65 6C 6C' '68656C6C 6F20776F 726C640A'
 refused 'a short file header' 'file header cut short: 20 of 24 octets' "$(header 65535 | cut -c 1-40)"
 refused 'link type 113' 'link type 113: only captures of Ethernet, link type 1, are read' "$(header 65535 113)"
@@ -259,6 +348,16 @@ cp in-micro-le.pcap same.pcap
 ln same.pcap link.pcap
 run 2 strip same.pcap link.pcap
 judge 'the output is the input' same.pcap "$(hex in-micro-le.pcap)" complained 'trill-replay: link.pcap: is the input, too'
+run 2 -d link.pcap strip same.pcap out.pcap
+judge 'the delivered frames would go to the input' same.pcap "$(hex in-micro-le.pcap)" complained 'trill-replay: link.pcap: is the input, too'
+printf older > kept
+ln kept kept-too
+run 2 -d kept-too strip same.pcap kept
+judge 'the delivered frames would go to the output' kept older complained 'trill-replay: kept-too: is the output, too'
+run 1 -d /dev/full strip same.pcap out.pcap
+judge 'no room for the delivered frames' complained 'trill-replay: /dev/full: No space left on device'
+run 2 -d - strip same.pcap -
+judge 'two captures to standard output' complained 'trill-replay: two captures cannot both be standard output; trill-replay --help says more'
 run 2 strip.txt same.pcap ./strip.txt
 judge 'the output is the settings file' complained 'trill-replay: ./strip.txt: is the settings file, too'
 
@@ -282,6 +381,10 @@ settings 'a neighbour out of range' 3 "wrong:2: field 2 (tag 2): neighbour FFC0;
     "$switch\n02 000E 0009 FFC0 020000000005 00000001\n"
 settings 'a group MAC' 3 "wrong:2: field 2 (tag 2): neighbour's MAC 030000000005 is a group address; wanted: individual, not all zero $bad" \
     "$switch\n02 000E 0009 0005 030000000005 00000001\n"
+settings 'an outer VLAN out of range' 3 "wrong:2: field 2 (tag 2): outer VLAN 2005; wanted: 0000 to 0FFE $bad" \
+    "$switch\n02 0010 0009 0005 020000000005 00000001 2005\n"
+settings 'a next hop of 15 octets' 3 "wrong:2: field 2 (tag 2): next hop of 15 octets; wanted: 14 or 16 $bad" \
+    "$switch\n02 000F 0009 0005 020000000005 00000001 00\n"
 settings 'a MAC of zero' 3 "wrong:1: field 1 (tag 1): MAC 000000000000; wanted: individual, not all zero $bad" '01 0008 0001 000000000000'
 settings 'a nickname out of range' 3 "wrong:1: field 1 (tag 1): nickname FFC0; wanted: 0001 to FFBF $bad" '01 0008 FFC0 020000000001'
 settings 'a header cut short' 3 "wrong:2: field 2 (tag 3): 2 octets there; wanted: 3 for a tag and a length $bad" "$switch\n03 00"
@@ -312,6 +415,7 @@ run 0 - in-micro-le.pcap out.pcap < strip.txt
 judge 'settings on standard input' out.pcap "$expected" said "$summary"
 
 more='; trill-replay --help says more'
+no_clock='trill-replay: a clock is stamp, SECONDS.MICROSECONDS or 12 hex digits, and this is none'
 run 2 strip in-micro-le.pcap
 judge 'too few words' said '' complained "trill-replay: settings, input and output are wanted$more"
 run 2 strip in-micro-le.pcap kept -v more
@@ -323,9 +427,11 @@ judge 'no such option' kept older complained "trill-replay: no such option: --ra
 run 2 strip in-micro-le.pcap kept -c
 judge 'an option without its word' kept older complained "trill-replay: a word is missing after -c$more"
 run 2 -c 00000100000 strip in-micro-le.pcap kept
-judge 'a clock of 11 digits' kept older complained "trill-replay: a clock has 12 hex digits, and this is none: 00000100000$more"
+judge 'a clock of 11 digits' kept older complained "$no_clock: 00000100000$more"
 run 2 --clock 00000100000G strip in-micro-le.pcap kept
-judge 'a clock that is not hex' kept older complained "trill-replay: a clock has 12 hex digits, and this is none: 00000100000G$more"
+judge 'a clock that is not hex' kept older complained "$no_clock: 00000100000G$more"
+run 2 --clock 1.0000001 strip in-micro-le.pcap kept
+judge 'a clock of seven digits behind the point' kept older complained "$no_clock: 1.0000001$more"
 run 0 --help
 judge 'help' complained ''
 mv said help
@@ -355,6 +461,7 @@ judge 'no room on the device' complained 'trill-replay: /dev/full: No space left
 # A disk that fills: the summary counts what is in the file, and the file ends with a whole record.
 (ulimit -f 100 && exec "$tool" strip long.pcap out.pcap) > said 2> complained
 status=$? wanted=1
+steady
 size=$(wc -c < out.pcap)
 tail -n 1 said > last
 judge 'no more room after a while' complained 'trill-replay: out.pcap: File too large' \

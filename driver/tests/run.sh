@@ -1,5 +1,6 @@
 #!/bin/sh
-# Runs the driver's tests on what kit.mk has built in the folder given. A test prints `ok NAME` or `not ok NAME: WHY`; the last line counts.
+# Runs the driver's tests on what kit.mk has built in the folder given. A test prints `ok NAME` or `not ok NAME: WHY`, or `skipped NAME: WHY`
+# where the machine lacks what it needs; the last line counts those of the first two kinds.
 set -u
 cd "$(dirname "$0")/.." || exit 1
 build=$1
@@ -13,7 +14,7 @@ results() {
     shift
     "$@" > "$build/one.log" 2>&1
     status=$?
-    sed -n -e "s/^ok /ok $name: /p" -e "s/^not ok /not ok $name: /p" "$build/one.log" | tee -a "$log"
+    sed -n -e "s/^ok /ok $name: /p" -e "s/^not ok /not ok $name: /p" -e "s/^skipped /skipped $name: /p" "$build/one.log" | tee -a "$log"
     if [ "$status" -ne 0 ] && ! grep -q '^not ok ' "$build/one.log"; then
         cat "$build/one.log"
         echo "not ok $name: exit status $status" | tee -a "$log"
@@ -37,9 +38,17 @@ results 'selftest' "$build/selftest"
 results 'selftest sanitized' "$build/sanitized/selftest"
 results 'refusals' "$build/refusals"
 results 'refusals sanitized' "$build/sanitized/refusals"
+results 'text form' "$build/textform"
+results 'text form sanitized' "$build/sanitized/textform"
+results 'walk' "$build/walk"
+results 'walk sanitized' "$build/sanitized/walk"
+results 'tools' sh tests/tools.sh "$build/staffripple"
+results 'tools sanitized' sh tests/tools.sh "$build/sanitized/staffripple"
 results 'replay' sh tests/replay.sh "$build/trill-replay" "$version"
 results 'replay sanitized' sh tests/replay.sh "$build/sanitized/trill-replay" "$version"
 counted 'staffripple sanitized' sh ../examples/check "$build/sanitized/staffripple"
+results 'README.md' sh tests/readme.sh "$build"
+results 'dissector' sh tests/dissector.sh "$build"
 results 'installed' sh tests/installed.sh "$version"
 results 'checkout' sh tests/checkout.sh "$PWD/$build"
 

@@ -59,7 +59,7 @@ static bool read_magic(struct capture_input *input, const uint8_t *octets)
     if (magic == MAGIC_PCAPNG)
         return fault(input, "a pcapng file; convert it with: editcap -F pcap IN OUT, or -F nsecpcap for nanoseconds");
     if (magic >> 16 == MAGIC_GZIP)
-        return fault(input, "a gzip file; unpack it first, as with: gzip -dc IN.pcap.gz | trill-replay SETTINGS - OUT");
+        return fault(input, "a gzip file; unpack it first, as with: gzip -dk IN.pcap.gz");
     format->big_endian = magic == MAGIC_MICROSECONDS || magic == MAGIC_NANOSECONDS;
     magic = get32(format, octets);
     if (magic != MAGIC_MICROSECONDS && magic != MAGIC_NANOSECONDS)
@@ -67,6 +67,15 @@ static bool read_magic(struct capture_input *input, const uint8_t *octets)
                      octets[2], octets[3]);
     format->nanoseconds = magic == MAGIC_NANOSECONDS;
     return true;
+}
+
+bool capture_begins(const uint8_t *octets, size_t length)
+{
+    if (length < 4)
+        return false;
+    uint32_t magic = staffripple_get32(octets), other = swapped(magic);
+    return magic == MAGIC_MICROSECONDS || magic == MAGIC_NANOSECONDS || other == MAGIC_MICROSECONDS ||
+           other == MAGIC_NANOSECONDS || magic == MAGIC_PCAPNG;
 }
 
 static bool read_link_type(struct capture_input *input, uint32_t field)
@@ -145,6 +154,31 @@ enum capture_status capture_next(struct capture_input *input, struct capture_rec
     record->length = original > format->fcs ? original - format->fcs : 0;
     record->captured = captured < record->length ? captured : record->length;
     return CAPTURE_READ;
+}
+
+/* Reads up to the frame of this number. */
+static bool read_up_to(struct capture_input *input, uint64_t number, struct capture_record *record)
+{
+    enum capture_status status = CAPTURE_READ;
+    while (input->records < number && status == CAPTURE_READ)
+        status = capture_next(input, record);
+    if (status == CAPTURE_DAMAGED)
+        return false;
+    if (status == CAPTURE_END)
+        return fault(input, "%" PRIu64 " frames there, and no frame %" PRIu64, input->records, number);
+    if (record->captured < record->length)
+        return fault(input, "frame %" PRIu64 " was captured in part only", number);
+    return true;
+}
+
+bool capture_pick(struct capture_input *input, const char *path, uint64_t number, struct capture_record *record)
+{
+    FILE *file = fopen(path, "rb");
+    if (!file)
+        return fault(input, "%s", strerror(errno));
+    bool good = capture_begin(input, file) && read_up_to(input, number, record);
+    fclose(file);
+    return good;
 }
 
 /* Writes octets and answers how many were written: fewer if writing failed, and errno says why. */

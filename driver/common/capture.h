@@ -45,11 +45,20 @@ struct capture_output {
     uint8_t records[CAPTURE_HELD];
 };
 
+/* Whether octets begin as a capture does, of this kind or another. */
+bool capture_begins(const uint8_t *octets, size_t length);
+
 /* Reads the file header; false, with an error, if it is not one of a capture that can be read. */
 bool capture_begin(struct capture_input *input, FILE *file);
 
 /* Reads the next record, CAPTURE_END if there is none, CAPTURE_DAMAGED with an error if it is not whole. */
 enum capture_status capture_next(struct capture_input *input, struct capture_record *record);
+
+/*
+ * Opens a capture and reads its frame of this number, counted from 1; false, with an error, if there is none or if it
+ * was captured in part only.
+ */
+bool capture_pick(struct capture_input *input, const char *path, uint64_t number, struct capture_record *record);
 
 /*
  * Write a file header, a record with the time stamp of another, and what is held; false if writing failed, and errno
