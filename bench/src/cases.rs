@@ -2,6 +2,9 @@
 
 use std::hint::black_box;
 
+use product::TRILL_PREPARED_WORDS;
+use reference::{Answer, Prepared};
+
 use crate::octets::{self, Campus, Layout, CLOCK, STRIPPED};
 
 /// Least output buffer of a handling.
@@ -32,6 +35,12 @@ pub struct Case {
 enum Call {
     Handling {
         settings: Vec<u8>,
+        expected: Expected,
+    },
+    /// Settings prepared once, by each program in its own way.
+    Prepared {
+        store: Box<[u64; TRILL_PREPARED_WORDS]>,
+        prepared: Box<Prepared>,
         expected: Expected,
     },
     Run {
@@ -124,16 +133,38 @@ impl Kind {
             },
         }
     }
+
+    fn prepared(&self, size: usize, records: usize) -> Case {
+        let settings = octets::settings(records, Layout::Scattered, self.name == "strip");
+        let mut store = Box::new([0; TRILL_PREPARED_WORDS]);
+        assert_eq!(product::prepare(&settings, &mut store[..]), 0);
+        let Ok(prepared) = Prepared::new(&settings) else {
+            panic!("{}: settings are bad", self.name)
+        };
+        Case {
+            name: format!("prepared-{}-{size}-{records}", self.name),
+            records,
+            frame: (self.frame)(size),
+            call: Call::Prepared {
+                store,
+                prepared: Box::new(prepared),
+                expected: (self.expected)(size),
+            },
+        }
+    }
 }
 
-/// Each kind, size and number of records; three other layouts of 64 records;
-/// the runs.
+/// Each kind, size and number of records; some of them prepared; three other
+/// layouts of 64 records; the runs.
 pub fn all() -> Vec<Case> {
     let mut cases = Vec::new();
     for kind in &KINDS {
         for &size in kind.sizes {
             cases.extend(RECORDS.map(|records| kind.case(size, records, Layout::Scattered)));
         }
+    }
+    for (kind, size) in [(0, 64), (0, 1500), (1, 1500), (2, 1500), (3, 200)] {
+        cases.extend(RECORDS.map(|records| KINDS[kind].prepared(size, records)));
     }
     for layout in [Layout::Rising, Layout::Crowded, Layout::Tagged] {
         cases.push(KINDS[0].case(1500, 64, layout));
@@ -167,10 +198,16 @@ impl Case {
             Call::Handling { settings, expected } => {
                 let answer = product::handle(&self.frame, settings, &CLOCK, &mut proved);
                 let other = reference::handle(&self.frame, settings, &CLOCK, &mut second);
-                assert_eq!(answer, other, "{}", self.name);
-                let given = (answer.number, answer.written as usize);
-                let expected = (expected.number, expected.written);
-                assert_eq!(given, expected, "{}", self.name);
+                self.check_answers(answer, other, *expected);
+            }
+            Call::Prepared {
+                store,
+                prepared,
+                expected,
+            } => {
+                let answer = product::handle_prepared(&self.frame, &store[..], &CLOCK, &mut proved);
+                let other = reference::handle_prepared(&self.frame, prepared, &CLOCK, &mut second);
+                self.check_answers(answer, other, *expected);
             }
             Call::Run { description, count } => {
                 let outcome = product::run(description, &mut proved[..TRACE]);
@@ -180,6 +217,13 @@ impl Case {
             }
         }
         assert!(proved == second, "{}: octets differ", self.name);
+    }
+
+    fn check_answers(&self, answer: Answer, other: Answer, expected: Expected) {
+        assert_eq!(answer, other, "{}", self.name);
+        let given = (answer.number, answer.written as usize);
+        let expected = (expected.number, expected.written);
+        assert_eq!(given, expected, "{}", self.name);
     }
 
     /// Makes the call so many times. Neither inputs nor outputs are known to
@@ -196,6 +240,18 @@ impl Case {
                 let input = (&self.frame[..], &settings[..]);
                 repeat(times, &input, |(frame, settings), room: &mut [u8; ROOM]| {
                     reference::handle(frame, settings, &CLOCK, room)
+                });
+            }
+            (Call::Prepared { store, .. }, Program::Proved) => {
+                let input = (&self.frame[..], &store[..]);
+                repeat(times, &input, |(frame, store), room: &mut [u8; ROOM]| {
+                    product::handle_prepared(frame, store, &CLOCK, room)
+                });
+            }
+            (Call::Prepared { prepared, .. }, Program::Second) => {
+                let input = (&self.frame[..], &**prepared);
+                repeat(times, &input, |(frame, prepared), room: &mut [u8; ROOM]| {
+                    reference::handle_prepared(frame, prepared, &CLOCK, room)
                 });
             }
             (Call::Run { description, .. }, Program::Proved) => {
@@ -225,7 +281,7 @@ impl Case {
 impl Call {
     fn handlings(&self) -> u64 {
         match self {
-            Call::Handling { .. } => 1,
+            Call::Handling { .. } | Call::Prepared { .. } => 1,
             Call::Run { count, .. } => u64::from(*count),
         }
     }
