@@ -1,8 +1,10 @@
 -- From what was read to the run, and from the run to the outcome, by the laws of descriptions, runs and the demand. Assumes nothing.
 use mathlib.Core.Path.{_≡_, refl, sym, ap, _∙_}
-use mathlib.Core.List.{List, [], _∷_, _++_, append-nil}
+use mathlib.Core.List.{List, [], _∷_, _++_, append-nil, List·Memᴰ, List·Memᴰ·not-nil, List·Memᴰ·cases-cons}
+use mathlib.Core.Logic.{_⊎_, inl, inr}
+use mathlib.Core.Bool.{Bool, true, false}
 use mathlib.Core.Option.{Option, none, some}
-use Prim.Native.Nat.{ℕ, _+_, _-_, _<_, _≤_, min}
+use Prim.Native.Nat.{ℕ, zero, suc, _+_, _-_, _*_, _<_, _≤_, min}
 use native.Mathlib.Omega.{arith}
 use borrow.Author.Needs.{needs}
 use borrow.Author.Tests.{eq-eqb, ne-eqb, le-leb, lt-leb}
@@ -10,25 +12,32 @@ use lib.Dec.{eqb, leb}
 use lib.ListN.{length, take, drop, replicate, length-take, length-drop, length-replicate}
 use lib.Seq.{take-all}
 use Rattle.rules.specs.Octets.{if_then_else_, be16, part, put}
-use Rattle.rules.specs.Settings.{Settings, waysOf}
-use Rattle.rules.specs.Campus.{Described, switchNamed, original, runFrom, handlingsMost, plainRun, State, clockOf, traceOctets}
+use Rattle.rules.specs.Settings.{Settings, Ways, waysOf}
+use Rattle.rules.specs.Campus.{Described, switchNamed, original, runFrom, handlingsMost, plainRun, State, clockOf, traceOctets, someEdition2, traceNeeded}
+use Rattle.rules.specs.Demand.{repliesIn, singleRun}
 use Rattle.rules.specs.Campus.{refused, accepted, described, Outcome, refusal, campus, traceAfter}
 use Rattle.rules.proofs.TestLaws.{by-test}
 use Rattle.rules.proofs.OctetLaws.{put-none, put-front}
 use Rattle.rules.proofs.DescriptionLaws.{Accepted, accepted-good}
-use Rattle.rules.proofs.OutcomeLaws.{campus-short, campus-refused, campus-accepted}
-use Rattle.rules.proofs.DemandLaws.{plain-run, plain-most, demand}
+use Rattle.rules.proofs.OutcomeLaws.{campus-short, campus-refused, campus-needed, campus-accepted}
+use Rattle.rules.proofs.DemandLaws.{plain-run, plain-most, plain-room, demand}
 use Rattle.octets.specs.Copy.{putFitting}
 use Rattle.octets.proofs.Ends.{put-fits}
 use Rattle.campus.specs.declared.switches.Named.{Named}
 use Rattle.campus.specs.declared.switches.Named.the-variants.{At, Nowhere}
 use Rattle.campus.specs.declared.reading.Reading.{Reading}
 use Rattle.campus.specs.Places.{between, clockAt, clockFrom, entryValue, describedBy}
-use Rattle.campus.specs.Stores.{settingsAt, switchesIn, numberIn, Placed, Sound, wordsFor, Accepts, ReadDone}
-use Rattle.campus.specs.Steps.{Ran, LoopReady, RunReady, EntryReady, statesOf}
+use Rattle.campus.specs.Stores.{settingsAt, switchesIn, numberIn, Placed, SoundAt, Sound, wordsFor, Accepts, ReadDone}
+use Rattle.campus.specs.Steps.{neededBy, Ran, runOf, LoopReady, RunReady, EntryReady, statesOf}
+use Rattle.campus.specs.Queue.{FewReplies}
 use Rattle.campus.specs.Done.{CampusDone}
 use Rattle.campus.proofs.StoresLaws.{stores-sound, NamedAs, named-so}
-use Rattle.campus.proofs.AlikeLaws.{count-alike, Same, run-alike}
+use Rattle.rules.proofs.AlikeLaws.{Same, run-alike}
+use Rattle.rules.proofs.RunLaws.{named-nickname, few-replies, named-member}
+use Rattle.rules.proofs.SingleLaws.{Draft, edition-1-all, single, one-reply}
+use Rattle.rules.proofs.StepLaws.{hop-most}
+use Rattle.campus.proofs.AlikeLaws.{Alike, count-alike, named-alike, edition-alike}
+use Rattle.campus.proofs.StepLaws.{named-some, nickname-is, nickname-small}
 use Rattle.campus.proofs.ReadLaws.{between-is}
 use Rattle.campus.proofs.LoopLaws.{trace-none}
 
@@ -123,12 +132,32 @@ module _ (s w starts : List ℕ) (n clock place : ℕ) (trace : List ℕ) (ready
         go none q t = absurd (rw q at t)
         go (some T) q t =
             let u : (first < n) × (waysOf T ≡ waysOf (settingsAt w starts first)) = rw q at t in
-            record { ready = ready; value = ev; within = u .0; entry = T; entered = q; same = u .1 }
+            record {
+              ready = ready;
+              value = ev;
+              within = u .0;
+              entry = T;
+              entered = q;
+              same = u .1;
+              named = rw eb at (named-some w starts n b found ef first e);
+            }
 
 pub run-value : (s w starts : List ℕ) (n clock place : ℕ) (trace : List ℕ) → RunReady s w starts n clock place trace → (bound : ℕ) → length s < bound → place + 3 < bound
 run-value s w starts n clock place trace ready bound h = omega (arith, ready .read .placed)
 
 pub ruleset run-laws = (needs, run-placed, run-unknown, entry-ready, run-value)
+
+-- every nickname has two octets
+all-small : (w starts : List ℕ) (n : ℕ) → ((i : ℕ) → i < n → SoundAt w starts i) → (S : Settings) → List·Memᴰ S (switchesIn w starts n) → S .nickname < 65536
+unfolding switchesIn
+all-small w starts zero each S j = absurd (List·Memᴰ·not-nil j)
+all-small w starts (suc n) each S j = go (List·Memᴰ·cases-cons j) (all-small w starts n (λ i h. each i (omega arith)) S)
+  where
+    go : (S ≡ settingsAt w starts n) ⊎ List·Memᴰ S (switchesIn w starts n) → (List·Memᴰ S (switchesIn w starts n) → S .nickname < 65536) → S .nickname < 65536
+    go (inl e) ih =
+        let x = each n (omega arith) in
+        rw e (omega (arith, nickname-is w starts n x, nickname-small w starts n x))
+    go (inr k) ih = ih k
 
 -- the run at its entry switch
 module _ (s w starts : List ℕ) (n clock place first : ℕ) (v trace : List ℕ) (at : EntryReady s w starts n clock place first v trace) where
@@ -148,32 +177,107 @@ module _ (s w starts : List ℕ) (n clock place first : ℕ) (v trace : List ℕ
     frame-is : frame ≡ e .frame
     frame-is = ef ∙ between-drop v ∙ ap (drop 2) (at .value)
 
-    plain : plainRun e ≡ runFrom handlingsMost m clock′ (at .entry) original frame
-    plain = rw (ec, ← clock-is s clock m place, frame-is) (plain-run e (at .entry) (rw (← at .value) (at .entered)))
+    entry-nickname : at .entry .nickname ≡ settingsAt w starts first .nickname
+    entry-nickname = ap (λ (x : Ways). x .nickname) (at .same)
 
-    same : Same (plainRun e) (runFrom handlingsMost (switchesIn w starts n) clock′ (settingsAt w starts first) original frame)
+    plain : plainRun e ≡ runFrom handlingsMost 1 m clock′ (settingsAt w starts first .nickname) original frame []
+    plain = rw (ec, ← clock-is s clock m place, frame-is, ← entry-nickname) (plain-run e (at .entry) (rw (← at .value) (at .entered)))
+
+    alike : Alike m (switchesIn w starts n)
+    alike = count-alike w starts m n (at .ready .read .count) (at .ready .read .stores)
+
+    same : Same (plainRun e) (runOf w starts n first clock′ frame)
     same =
         rw plain
-        (run-alike handlingsMost m (switchesIn w starts n) (count-alike w starts m n (at .ready .read .count) (at .ready .read .stores)) clock′ (at .entry) (settingsAt w starts first) (at .same) original frame)
+        (run-alike m (switchesIn w starts n) (named-alike m (switchesIn w starts n) alike) clock′ handlingsMost 1 (settingsAt w starts first .nickname) original frame [])
 
-    pub loop-ready : LoopReady w starts n first clock′ frame trace
-    loop-ready =
+    sound : Sound w starts n
+    sound = run-sound s w starts n clock place trace (at .ready)
+
+    six : length clock′ ≡ 6
+    six = rw ec clock-six
+
+    named : switchNamed (switchesIn w starts n) (settingsAt w starts first .nickname) ≡ some (settingsAt w starts first)
+    named =
+        ap (λ (x : ℕ). switchNamed (switchesIn w starts n) x) (named-nickname (switchesIn w starts n) (be16 v 0) (settingsAt w starts first) (at .named))
+        ∙ at .named
+
+    fit : (S : Settings) → List·Memᴰ S (switchesIn w starts n) → S .nickname < 65536
+    fit = all-small w starts n (λ i h. sound .each i h)
+
+    few-ready : (few : ℕ) → repliesIn (runOf w starts n first clock′ frame) ≤ few → FewReplies few w starts n first clock′ frame trace
+    few-ready few h =
         record {
-          sound = run-sound s w starts n clock place trace (at .ready);
+          sound = sound;
           within = at .within;
-          six = rw ec clock-six;
+          named = named;
+          six = six;
           short = rw frame-is (good .short-frame);
           most = omega (arith, same .count, plain-most e good);
-          room = at .ready .room;
+          room = omega (arith, same .count, plain-room e good, at .ready .room);
+          replies = h;
         }
 
-    pub run-plain : (trace′ : List ℕ) (r : ℕ) → Ran (runFrom handlingsMost (switchesIn w starts n) clock′ (settingsAt w starts first) original frame) trace trace′ r
+    module _ (two : Bool) (is : two ≡ someEdition2 (switchesIn w starts n)) where
+      pub large-ready : two ≡ true → FewReplies 63 w starts n first clock′ frame trace
+      large-ready t =
+          few-ready 63
+          (omega (arith, few-replies (switchesIn w starts n) clock′ six fit handlingsMost 1 (settingsAt w starts first .nickname) original frame, hop-most frame))
+
+      pub small-ready : two ≡ false → FewReplies 1 w starts n first clock′ frame trace
+      small-ready t = few-ready 1 (rw one (one-reply (switchesIn w starts n) clock′ six draft handlingsMost 1 (settingsAt w starts first) original frame among))
+        where
+          draft : (S : Settings) → List·Memᴰ S (switchesIn w starts n) → Draft S
+          draft S j = record { nickname-fits = fit S j; edition-1 = edition-1-all (switchesIn w starts n) (sym is ∙ t) S j }
+
+          one : runOf w starts n first clock′ frame ≡ singleRun handlingsMost 1 (switchesIn w starts n) clock′ (settingsAt w starts first) original frame
+          one = single (switchesIn w starts n) clock′ six draft handlingsMost 1 (settingsAt w starts first .nickname) (settingsAt w starts first) named original frame
+
+          among : List·Memᴰ (settingsAt w starts first) (switchesIn w starts n)
+          among = named-member (switchesIn w starts n) (settingsAt w starts first .nickname) (settingsAt w starts first) named
+
+    pub run-plain : (trace′ : List ℕ) (r : ℕ) → Ran (runFrom handlingsMost 1 (switchesIn w starts n) clock′ (settingsAt w starts first .nickname) original frame []) trace trace′ r
         → Ran (statesOf s) trace trace′ r
     run-plain trace′ r ran =
         rw (states-so s e (at .ready .read .is))
         (record { counted = ran .counted ∙ sym (same .count); traced = ran .traced ∙ ap (put trace 0) (sym (same .trace)) })
 
-pub ruleset run-at-laws = (needs, clock-six, loop-ready, run-plain)
+pub ruleset run-at-laws = (needs, clock-six, large-ready, small-ready, run-plain)
+
+-- the slots that are lent
+module _ (few : ℕ) (w starts : List ℕ) (n first : ℕ) (clock frame trace : List ℕ) (f : FewReplies few w starts n first clock frame trace) where
+  slots-ready : (waiting sizes places : List ℕ) → 576 * few ≤ length waiting → few ≤ length sizes → few ≤ length places
+      → LoopReady w starts n first clock frame waiting sizes places trace
+  slots-ready waiting sizes places a b c =
+      record {
+        sound = f .sound;
+        within = f .within;
+        named = f .named;
+        six = f .six;
+        short = f .short;
+        most = f .most;
+        room = f .room;
+        slots = omega (arith, f .replies, a);
+        size-slots = omega (arith, f .replies, b);
+        place-slots = omega (arith, f .replies, c);
+      }
+
+module _ (w starts : List ℕ) (n first : ℕ) (clock frame trace : List ℕ) where
+  pub small-slots : FewReplies 1 w starts n first clock frame trace
+      → LoopReady w starts n first clock frame (replicate 576 0) (replicate 1 0) (replicate 1 0) trace
+  small-slots f =
+      slots-ready 1 w starts n first clock frame trace f (replicate 576 0) (replicate 1 0) (replicate 1 0)
+      (omega (arith, length-replicate {A = ℕ} 576 0)) (omega (arith, length-replicate {A = ℕ} 1 0)) (omega (arith, length-replicate {A = ℕ} 1 0))
+
+  pub large-slots : FewReplies 63 w starts n first clock frame trace
+      → LoopReady w starts n first clock frame (replicate 36288 0) (replicate 63 0) (replicate 63 0) trace
+  large-slots f =
+      slots-ready 63 w starts n first clock frame trace f (replicate 36288 0) (replicate 63 0) (replicate 63 0)
+      (omega (arith, length-replicate {A = ℕ} 36288 0)) (omega (arith, length-replicate {A = ℕ} 63 0)) (omega (arith, length-replicate {A = ℕ} 63 0))
+
+pub ruleset run-small-laws = (needs, small-slots)
+
+pub ruleset run-large-laws = (needs, large-slots)
 
 -- the outcome, by the room and the description
 module _ (file trace : List ℕ) where
@@ -196,20 +300,47 @@ module _ (file trace : List ℕ) where
     done-refused z = refusal-done (r .code) (campus-refused file (length trace) h (r .code) (sym (read .refuses z)))
 
     module _ (z : r .code ≡ 0) where
-      pub run-ready : RunReady file w starts (r .n) (r .clock) (r .place) trace
-      run-ready = record { read = read .accepts z; room = h }
+      abbrev its : Described
+      its = describedBy file (read .accepts z .switches) (r .clock) (r .place)
 
-      pub done-run : (trace′ : List ℕ) (count : ℕ) → Ran (statesOf file) trace trace′ count → CampusDone file trace trace′ 0 count
-      done-run trace′ count ran =
-          let d = describedBy file (read .accepts z .switches) (r .clock) (r .place) in
-          let o = campus-accepted file (length trace) h d (read .accepts z .is) in
-          let p = states-so file d (read .accepts z .is) in
-          done-so trace′ 0 count
-          (sym (ap (λ (x : Outcome). x .code) o))
-          (ran .counted ∙ ap length p ∙ sym (ap (λ (x : Outcome). x .count) o))
-          (ran .traced ∙ ap (λ (x : List State). put trace 0 (traceOctets x)) p ∙ ap (λ (x : Outcome). put trace 0 (x .trace)) (sym o))
+      pub read-sound : Sound w starts (r .n)
+      read-sound =
+          let a = read .accepts z in
+          stores-sound w starts (a .switches) (a .stores) (r .n) (a .count) (a .span)
+          (omega (arith, accepted-good file its (a .is) .few-switches, a .count, a .sixteen))
 
-pub ruleset run-in-laws = (needs, done-refused, run-ready, done-run)
+      module _ (two : Bool) (e : two ≡ someEdition2 (switchesIn w starts (r .n))) where
+        edition-so : someEdition2 (read .accepts z .switches) ≡ two
+        edition-so =
+            edition-alike (read .accepts z .switches) (switchesIn w starts (r .n))
+            (count-alike w starts (read .accepts z .switches) (r .n) (read .accepts z .count) (read .accepts z .stores))
+            ∙ sym e
+
+        needed-so : traceNeeded its ≡ neededBy two
+        unfolding traceNeeded
+        needed-so = rw edition-so (go two)
+          where
+            go : (b : Bool) → (if b then 32768 else 640) ≡ neededBy b
+            go true = refl
+            go false = refl
+
+        module _ (room : ℕ) (is : room ≡ neededBy two) where
+          pub done-needed : length trace < room → CampusDone file trace trace 49 0
+          done-needed k = refusal-done 49 (campus-needed file (length trace) h its (read .accepts z .is) (omega (arith, needed-so)))
+
+          pub run-ready : room ≤ length trace → RunReady file w starts (r .n) (r .clock) (r .place) trace
+          run-ready k = record { read = read .accepts z; room = omega (arith, needed-so) }
+
+          pub done-run : room ≤ length trace → (trace′ : List ℕ) (count : ℕ) → Ran (statesOf file) trace trace′ count → CampusDone file trace trace′ 0 count
+          done-run k trace′ count ran =
+              let o = campus-accepted file (length trace) its (read .accepts z .is) (omega (arith, needed-so)) in
+              let p = states-so file its (read .accepts z .is) in
+              done-so trace′ 0 count
+              (sym (ap (λ (x : Outcome). x .code) o))
+              (ran .counted ∙ ap length p ∙ sym (ap (λ (x : Outcome). x .count) o))
+              (ran .traced ∙ ap (λ (x : List State). put trace 0 (traceOctets x)) p ∙ ap (λ (x : Outcome). put trace 0 (x .trace)) (sym o))
+
+pub ruleset run-in-laws = (needs, done-refused, read-sound, done-needed, run-ready, done-run)
 
 -- words enough
 pub words-few : (octets : ℕ) → octets ≤ 250 → wordsFor octets ≤ length {A = ℕ} (replicate 256 0)

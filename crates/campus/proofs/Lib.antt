@@ -3,6 +3,7 @@ pub mod StoresLaws
 pub mod TakeLaws
 pub mod ReadLaws
 pub mod StepLaws
+pub mod QueueLaws
 pub mod LoopLaws
 pub mod AlikeLaws
 pub mod DoneLaws

@@ -11,7 +11,7 @@ use lib.Seq.{drop-drop, take-all}
 use Rattle.rules.specs.Octets.{put}
 use Rattle.rules.specs.Text.{ascii, lineFeed, hexDigit, decimal}
 use Rattle.rules.proofs.OctetLaws.{length-put, put-put, put-none}
-use Rattle.rules.proofs.TextLaws.{decimal-one, decimal-two, decimal-three}
+use Rattle.rules.proofs.TextLaws.{decimal-one, decimal-two, decimal-three, decimal-four}
 use Rattle.octets.specs.Copy.{putFitting}
 use Rattle.octets.proofs.Ends.{put-fits}
 use Rattle.campus.specs.Print.{PutAt, letterOf, headOf, tailOf, lineOf, linesOf, textOf}
@@ -45,22 +45,28 @@ put-copied : (out out′ : List ℕ) (at end most : ℕ) (s t : List ℕ) → ou
 put-copied out out′ at end most s t w room short e same =
     record { is = w ∙ put-fits out at s room ∙ ap (put out at) same; ends = e ∙ ap (λ (x : List ℕ). at + length x) same; short = rw (← same) short }
 
--- a number of one, two or three digits
-module _ (out out′ : List ℕ) (at n : ℕ) (room : at + 3 ≤ length out) where
-  pub put-one : out′ ≡ putFitting out at ((48 + n) ∷ []) → n < 10 → PutAt out out′ at (at + 1) 3 (decimal n)
-  put-one w h = put-copied out out′ at (at + 1) 3 ((48 + n) ∷ []) (decimal n) w (omega arith) (omega arith) refl (decimal-one n h)
+-- a number of one, two, three or four digits
+module _ (out out′ : List ℕ) (at n : ℕ) (room : at + 4 ≤ length out) where
+  pub put-one : out′ ≡ putFitting out at ((48 + n) ∷ []) → n < 10 → PutAt out out′ at (at + 1) 4 (decimal n)
+  put-one w h = put-copied out out′ at (at + 1) 4 ((48 + n) ∷ []) (decimal n) w (omega arith) (omega arith) refl (decimal-one n h)
 
-  pub put-two : out′ ≡ putFitting out at ((48 + n / 10) ∷ (48 + n % 10) ∷ []) → 10 ≤ n → n < 100 → PutAt out out′ at (at + 2) 3 (decimal n)
+  pub put-two : out′ ≡ putFitting out at ((48 + n / 10) ∷ (48 + n % 10) ∷ []) → 10 ≤ n → n < 100 → PutAt out out′ at (at + 2) 4 (decimal n)
   put-two w h k =
-      put-copied out out′ at (at + 2) 3 ((48 + n / 10) ∷ (48 + n % 10) ∷ []) (decimal n) w (omega arith) (omega arith) refl (decimal-two n h k)
+      put-copied out out′ at (at + 2) 4 ((48 + n / 10) ∷ (48 + n % 10) ∷ []) (decimal n) w (omega arith) (omega arith) refl (decimal-two n h k)
 
-  pub put-three : out′ ≡ putFitting out at ((48 + n / 10 / 10) ∷ (48 + n / 10 % 10) ∷ (48 + n % 10) ∷ []) → 100 ≤ n → n < 256
-      → PutAt out out′ at (at + 3) 3 (decimal n)
+  pub put-three : out′ ≡ putFitting out at ((48 + n / 10 / 10) ∷ (48 + n / 10 % 10) ∷ (48 + n % 10) ∷ []) → 100 ≤ n → n < 1000
+      → PutAt out out′ at (at + 3) 4 (decimal n)
   put-three w h k =
-      put-copied out out′ at (at + 3) 3 ((48 + n / 10 / 10) ∷ (48 + n / 10 % 10) ∷ (48 + n % 10) ∷ []) (decimal n) w
-      (omega arith) (omega arith) refl (decimal-three n h (omega arith))
+      put-copied out out′ at (at + 3) 4 ((48 + n / 10 / 10) ∷ (48 + n / 10 % 10) ∷ (48 + n % 10) ∷ []) (decimal n) w
+      (omega arith) (omega arith) refl (decimal-three n h k)
 
-pub ruleset put-decimal-laws = (needs, put-one, put-two, put-three)
+  pub put-four : out′ ≡ putFitting out at ((48 + n / 10 / 10 / 10) ∷ (48 + n / 10 / 10 % 10) ∷ (48 + n / 10 % 10) ∷ (48 + n % 10) ∷ []) → 1000 ≤ n → n < 10000
+      → PutAt out out′ at (at + 4) 4 (decimal n)
+  put-four w h k =
+      put-copied out out′ at (at + 4) 4 ((48 + n / 10 / 10 / 10) ∷ (48 + n / 10 / 10 % 10) ∷ (48 + n / 10 % 10) ∷ (48 + n % 10) ∷ []) (decimal n) w
+      (omega arith) (omega arith) refl (decimal-four n h k)
+
+pub ruleset put-decimal-laws = (needs, put-one, put-two, put-three, put-four)
 
 -- two pieces
 module _ (out mid out′ : List ℕ) (at here end m n : ℕ) (s t : List ℕ) (a : PutAt out mid at here m s) (b : PutAt mid out′ here end n t)
@@ -80,23 +86,23 @@ put-same out out′ at end most s p room = rw (p .is) (length-put out at s (omeg
 
 -- three pieces
 module _ (out out₁ out₂ out′ : List ℕ) (at end : ℕ) (s t u : List ℕ) where
-  pub put-between : out₁ ≡ putFitting out at s → PutAt out₁ out₂ (at + length s) end 3 t → out′ ≡ putFitting out₂ end u
-      → at + (length s + 3 + length u) ≤ length out → PutAt out out′ at (end + length u) (length s + 3 + length u) (s ++ t ++ u)
+  pub put-between : out₁ ≡ putFitting out at s → PutAt out₁ out₂ (at + length s) end 4 t → out′ ≡ putFitting out₂ end u
+      → at + (length s + 4 + length u) ≤ length out → PutAt out out′ at (end + length u) (length s + 4 + length u) (s ++ t ++ u)
   put-between w p w′ room =
       let a = put-copied out out₁ at (at + length s) (length s) s s w (omega (arith, room)) (omega arith) refl refl in
-      let b = put-on out out₁ out₂ at (at + length s) end (length s) 3 s t a p (omega (arith, room)) in
-      let same = put-same out out₂ at end (length s + 3) (s ++ t) b (omega (arith, room)) in
+      let b = put-on out out₁ out₂ at (at + length s) end (length s) 4 s t a p (omega (arith, room)) in
+      let same = put-same out out₂ at end (length s + 4) (s ++ t) b (omega (arith, room)) in
       let c = put-copied out₂ out′ end (end + length u) (length u) u u w′ (omega (arith, b .ends, b .short, same, room)) (omega arith) refl refl in
-      put-on out out₂ out′ at end (end + length u) (length s + 3) (length u) (s ++ t) u b c (omega (arith, room))
+      put-on out out₂ out′ at end (end + length u) (length s + 4) (length u) (s ++ t) u b c (omega (arith, room))
 
 pub ruleset put-number-laws = (needs, put-between)
 
 -- a line, its parts around the answer
-module _ (out out′ : List ℕ) (at end : ℕ) (e head tail : List ℕ) where
-  pub put-line : PutAt out out′ at end (length head + 3 + length tail) (head ++ decimal (getD e 3 0) ++ tail) → head ≡ headOf e → tail ≡ tailOf e
-      → PutAt out out′ at end 19 (lineOf e)
+module _ (out out′ : List ℕ) (at end : ℕ) (e head tail : List ℕ) (n : ℕ) where
+  pub put-line : PutAt out out′ at end (length head + 4 + length tail) (head ++ decimal n ++ tail) → head ≡ headOf e → tail ≡ tailOf e → n ≡ getD e 3 0
+      → PutAt out out′ at end 20 (lineOf e)
   unfolding lineOf
-  put-line p h t = (rw (h, t) at p)
+  put-line p h t q = (rw (h, t, q) at p)
 
 pub ruleset put-line-laws = (needs, put-line)
 
@@ -107,7 +113,7 @@ from-place n l = take-all (length l - n) (drop n l) (rw length-drop (omega arith
 -- what the loop over the entries keeps
 pub record Writing (out₀ trace : List ℕ) (count : ℕ) (out : List ℕ) (at k : ℕ) : Type 0 where
   pub done : List ℕ
-  pub so-far : PutAt out₀ out 0 at (k * 19) done
+  pub so-far : PutAt out₀ out 0 at (k * 20) done
   pub rest : done ++ linesOf (count - k) (drop (k * 8) trace) ≡ linesOf count trace
   pub most : k ≤ count
   pub same : length out ≡ length out₀
@@ -133,7 +139,7 @@ module _ (out₀ trace : List ℕ) (count : ℕ) where
       }
 
   module _ (out : List ℕ) (at k : ℕ) (l : Writing out₀ trace count out at k) where
-    pub writing-end : count ≤ k → count ≤ 80 → PutAt out₀ out 0 at 1520 (linesOf count trace)
+    pub writing-end : count ≤ k → count ≤ 4096 → PutAt out₀ out 0 at 81920 (linesOf count trace)
     writing-end over few =
         let z : count - k ≡ 0 = omega arith in
         let none : linesOf (count - k) (drop (k * 8) trace) ≡ [] =
@@ -141,24 +147,24 @@ module _ (out₀ trace : List ℕ) (count : ℕ) where
         let all : l .done ≡ linesOf count trace = sym (append-nil (l .done)) ∙ ap (λ (t : List ℕ). l .done ++ t) (sym none) ∙ l .rest in
         rw (← all) (record { is = l .so-far .is; ends = l .so-far .ends; short = omega (arith, l .so-far .short, l .most) })
 
-    module _ (few : count ≤ 80) (traced : count * 8 ≤ length trace) (room : 1520 ≤ length out₀) (more : k < count) where
+    module _ (few : count ≤ 4096) (traced : count * 8 ≤ length trace) (room : 81920 ≤ length out₀) (more : k < count) where
       pub line-from : k * 8 ≤ length trace
       line-from = omega arith
 
       pub line-entry : 8 ≤ length (take (length trace - k * 8) (drop (k * 8) trace))
       line-entry = rw (from-place (k * 8) trace, length-drop) (omega arith)
 
-      pub line-room : at + 19 ≤ length out
+      pub line-room : at + 20 ≤ length out
       line-room = omega (arith, l .so-far, l .same)
 
-      pub writing-on : (out′ : List ℕ) (end : ℕ) → PutAt out out′ at end 19 (lineOf (take (length trace - k * 8) (drop (k * 8) trace)))
+      pub writing-on : (out′ : List ℕ) (end : ℕ) → PutAt out out′ at end 20 (lineOf (take (length trace - k * 8) (drop (k * 8) trace)))
           → Writing out₀ trace count out′ end (k + 1)
       writing-on out′ end p =
           let e : count - k ≡ suc (count - (k + 1)) = omega arith in
           let q : (k + 1) * 8 ≡ k * 8 + 8 = omega arith in
-          let n : (k + 1) * 19 ≡ k * 19 + 19 = omega arith in
+          let n : (k + 1) * 20 ≡ k * 20 + 20 = omega arith in
           let line : List ℕ = lineOf (drop (k * 8) trace) in
-          let w = put-on out₀ out out′ 0 at end (k * 19) 19 (l .done) line (l .so-far) (rw (from-place (k * 8) trace) at p) (omega arith) in
+          let w = put-on out₀ out out′ 0 at end (k * 20) 20 (l .done) line (l .so-far) (rw (from-place (k * 8) trace) at p) (omega arith) in
           let first : linesOf (count - k) (drop (k * 8) trace) ≡ line ++ linesOf (count - (k + 1)) (drop ((k + 1) * 8) trace) =
           rw (e, q, ← drop-drop 8 (k * 8) trace) (line-first (count - (k + 1)) (drop (k * 8) trace)) in
           record {
@@ -168,7 +174,7 @@ module _ (out₀ trace : List ℕ) (count : ℕ) where
                 append-assoc (l .done) line (linesOf (count - (k + 1)) (drop ((k + 1) * 8) trace))
                 ∙ ap (λ (t : List ℕ). l .done ++ t) (sym first) ∙ l .rest;
             most = omega arith;
-            same = put-same out₀ out′ 0 end (k * 19 + 19) (l .done ++ line) w (omega arith);
+            same = put-same out₀ out′ 0 end (k * 20 + 20) (l .done ++ line) w (omega arith);
           }
 
 pub ruleset put-lines-laws = (needs, writing-begin, writing-end, line-from, line-entry, line-room, writing-on)
@@ -191,15 +197,15 @@ module _ (code count : ℕ) (trace : List ℕ) where
     abbrev handled-octets : List ℕ
     handled-octets = 104 ∷ 97 ∷ 110 ∷ 100 ∷ 108 ∷ 101 ∷ 100 ∷ 32 ∷ []
 
-    pub put-refused : PutAt out out′ 0 end 12 (refused-octets ++ decimal code ++ (10 ∷ [])) → (code ≡ 0 → ⊥)
-        → PutAt out out′ 0 end 1532 (textOf code count trace)
+    pub put-refused : PutAt out out′ 0 end 13 (refused-octets ++ decimal code ++ (10 ∷ [])) → (code ≡ 0 → ⊥)
+        → PutAt out out′ 0 end 81933 (textOf code count trace)
     unfolding ascii
     put-refused p h = rw (← text-refused h) (record { is = p .is; ends = p .ends; short = omega (arith, p .short) })
 
-    pub put-handled : (mid : List ℕ) (here : ℕ) → PutAt mid out′ here end 12 (handled-octets ++ decimal count ++ (10 ∷ []))
-        → PutAt out mid 0 here 1520 (linesOf count trace) → code ≡ 0 → 1532 ≤ length out → PutAt out out′ 0 end 1532 (textOf code count trace)
+    pub put-handled : (mid : List ℕ) (here : ℕ) → PutAt mid out′ here end 13 (handled-octets ++ decimal count ++ (10 ∷ []))
+        → PutAt out mid 0 here 81920 (linesOf count trace) → code ≡ 0 → 81933 ≤ length out → PutAt out out′ 0 end 81933 (textOf code count trace)
     unfolding ascii
     put-handled mid here q p h room =
-        rw (← text-handled h) (put-on out mid out′ 0 here end 1520 12 (linesOf count trace) (ascii "handled " ++ decimal count ++ (lineFeed ∷ [])) p q room)
+        rw (← text-handled h) (put-on out mid out′ 0 here end 81920 13 (linesOf count trace) (ascii "handled " ++ decimal count ++ (lineFeed ∷ [])) p q room)
 
 pub ruleset put-text-laws = (needs, put-refused, put-handled)

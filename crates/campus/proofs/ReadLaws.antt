@@ -169,7 +169,8 @@ module _ (l : List Settings) (c : Option (List ℕ)) (tag : ℕ) (v : List ℕ) 
   unfolding withField
   hops-with T =
       by-test (eqb tag 2) (λ a. rw (a, length-append (T .hops)) (omega arith)) (λ a.
-      by-test (eqb tag 3) (λ b. rw (a, b) (omega arith)) (λ b. rw (a, b) (omega arith)))
+      by-test (eqb tag 3) (λ b. rw (a, b) (omega arith)) (λ b.
+      by-test (eqb tag 6) (λ e. rw (a, b, e) (omega arith)) (λ e. rw (a, b, e) (omega arith))))
 
   on-span : (m : List Settings) → spanOf (onLatest (λ T. withField T (field tag v)) m) ≤ spanOf m + 3
   on-span [] = omega (arith, span-none)

@@ -2,7 +2,7 @@
 -- each need, over what the calls before it ensure, for `search` to cite. Assumes nothing.
 use mathlib.Core.Path.{_≡_, refl, sym, ap, _∙_}
 use mathlib.Core.List.{List, [], _∷_, _++_}
-use mathlib.Core.Bool.{Bool, true, _&&_}
+use mathlib.Core.Bool.{Bool}
 use mathlib.Core.Option.{Option, none, some}
 use Prim.Native.Nat.{ℕ, zero, suc, _+_, _-_, _*_, _/_, _%_, _<_, _≤_}
 use native.Mathlib.Omega.{arith}
@@ -14,8 +14,8 @@ use lib.Seq.{take-all, getD-drop}
 use Rattle.rules.specs.Octets.{put}
 use Rattle.rules.specs.Settings.{Settings, Ways, waysOf}
 use Rattle.rules.specs.Header.{hopCount, readFrame}
-use Rattle.rules.specs.Handling.{handling, handledWith, outputAfter}
-use Rattle.rules.specs.Campus.{switchNamed, Kind, reply, State, kindAfter, hopReceived, egressReceived, kindOctet, entryOctets}
+use Rattle.rules.specs.Handling.{handling, handledWith}
+use Rattle.rules.specs.Campus.{switchNamed, hopReceived, egressReceived, kindOctet, entryOctets}
 use Rattle.rules.specs.declared.Header.{Header}
 use Rattle.rules.specs.declared.FrameRead.{FrameRead}
 use Rattle.rules.specs.declared.FrameRead.the-variants.{Trill, Unreadable}
@@ -24,17 +24,15 @@ use Rattle.rules.proofs.HandlingLaws.{frame-handled}
 use Rattle.rules.proofs.HandledLaws.{handling-bounded}
 use Rattle.octets.specs.Copy.{putFitting}
 use Rattle.octets.proofs.Ends.{put-fits}
-use Rattle.handler.specs.declared.Routed.{Routed}
-use Rattle.handler.specs.Shapes.{routedOf}
+use Rattle.handler.specs.declared.answers.Answer.{Answer}
+use Rattle.handler.specs.Tasks.{Both}
 use Rattle.handler.specs.Store.{waysIn, storeGood, handledIn}
 use Rattle.handler.proofs.StoreLaws.{good-whole}
 use Rattle.campus.specs.declared.received.HopEgress.{HopEgress}
-use Rattle.campus.specs.declared.running.Onward.{Onward}
-use Rattle.campus.specs.declared.running.Onward.the-variants.{To, Ends}
 use Rattle.campus.specs.declared.switches.Named.{Named}
 use Rattle.campus.specs.declared.switches.Named.the-variants.{At, Nowhere}
 use Rattle.campus.specs.Stores.{storeAt, settingsAt, switchesIn, numberIn, Placed, SoundAt, Sound}
-use Rattle.campus.specs.Steps.{receivedOf, kindBy, entryBy, Goes, stops, goes, goesBy, Within, towardsBy, goesOn, HandledBy, StepReady, stateOf, Stepped}
+use Rattle.campus.specs.Steps.{receivedOf, kindBy, entryBy, handledBy, StepReady, stateOf, Stepped}
 use Rattle.campus.proofs.SwitchLaws.{number-none, number-here, number-before}
 
 -- hop count and egress of a frame, by what it is read as
@@ -103,55 +101,22 @@ told w starts x (suc n) = go (told w starts x n)
         rw (number-before w starts x n h, told-next w starts x n h) (told-more w starts x n (numberIn w starts n x) (switchNamed (switchesIn w starts n) x) t))
 
 -- the switch that a frame goes to, by whether the campus has it
-module _ (w starts : List ℕ) (n : ℕ) (kind : Kind) (via size : ℕ) (found : Named) (is : found ≡ numberIn w starts n via) where
-  pub towards-none : found ≡ Nowhere → stops ≡ towardsBy (switchesIn w starts n) kind via size
-  unfolding towardsBy
-  towards-none e =
-      let q : switchNamed (switchesIn w starts n) via ≡ none = rw (← is, e) at (told w starts via n) in
-      rw (towardsBy, q)
+module _ (w starts : List ℕ) (n via : ℕ) (found : Named) (is : found ≡ numberIn w starts n via) where
+  pub named-none : found ≡ Nowhere → switchNamed (switchesIn w starts n) via ≡ none
+  named-none e = rw (← is, e) at (told w starts via n)
 
   module _ (i : ℕ) (e : found ≡ At i) where
     there : (i < n) × (switchNamed (switchesIn w starts n) via ≡ some (settingsAt w starts i))
     there = rw (← is, e) at (told w starts via n)
 
-    pub towards-some : goes (settingsAt w starts i) kind size ≡ towardsBy (switchesIn w starts n) kind via size
-    unfolding towardsBy
-    towards-some = rw (towardsBy, there .1)
+    pub named-within : i < n
+    named-within = there .0
 
-pub towards-within : (w starts : List ℕ) (n via i : ℕ) (found : Named) → found ≡ At i → found ≡ numberIn w starts n via → i < n
-towards-within w starts n via i found e is = (rw (← is, e) at (told w starts via n)) .0
+    pub named-some : switchNamed (switchesIn w starts n) via ≡ some (settingsAt w starts i)
+    named-some = there .1
 
 pub sound-placed : (w starts : List ℕ) (n : ℕ) → Sound w starts n → Placed w starts n
 sound-placed w starts n s = s .placed
-
-pub ruleset towards-laws = (needs, sound-placed, towards-none, towards-some, towards-within)
-
--- by the answer's number
-module _ (switches : List Settings) (kind : Kind) (number via size : ℕ) where
-  goes-so : (kind′ : Kind) → kindAfter kind number ≡ some kind′ → goesOn switches kind number via size ≡ towardsBy switches kind′ via size
-  unfolding goesOn
-  goes-so kind′ e = rw (goesOn, e)
-
-  module _ (g : Goes) where
-    pub sent-50 : number ≡ 50 → g ≡ towardsBy switches kind via size → g ≡ goesOn switches kind number via size
-    unfolding kindAfter
-    sent-50 e w = w ∙ sym (goes-so kind (rw e))
-
-    pub sent-53 : number ≡ 53 → g ≡ towardsBy switches reply via size → g ≡ goesOn switches kind number via size
-    unfolding kindAfter
-    sent-53 e w = w ∙ sym (goes-so reply (rw e))
-
-    pub sent-54 : number ≡ 54 → g ≡ towardsBy switches reply via size → g ≡ goesOn switches kind number via size
-    unfolding kindAfter
-    sent-54 e w = w ∙ sym (goes-so reply (rw e))
-
-  pub sent-none : (number ≡ 50 → ⊥) → (number ≡ 53 → ⊥) → (number ≡ 54 → ⊥) → stops ≡ goesOn switches kind number via size
-  unfolding goesOn kindAfter
-  sent-none a b c =
-      let none-after : kindAfter kind number ≡ none = rw (ne-eqb number 50 a, ne-eqb number 53 b, ne-eqb number 54 c) in
-      rw (goesOn, none-after)
-
-pub ruleset sent-on-laws = (needs, sent-50, sent-53, sent-54, sent-none)
 
 -- a store's nickname, and a handling by it
 module _ (w starts : List ℕ) (i : ℕ) (s : SoundAt w starts i) where
@@ -170,60 +135,61 @@ module _ (w starts : List ℕ) (i : ℕ) (s : SoundAt w starts i) where
   pub nickname-small : getD w (getD starts i 0) 0 < 65536
   nickname-small = omega (arith, nickname-is, good-whole (storeAt w starts i) (s .good) .named)
 
-  handled-in : (clock : List ℕ) (room : ℕ) (f : List ℕ) → handledIn (storeAt w starts i) clock room f ≡ handledWith (waysOf (settingsAt w starts i)) clock room f
+  handled-in : (clock : List ℕ) (room besideRoom : ℕ) (f : List ℕ)
+      → handledIn (take (length w - getD starts i 0) (drop (getD starts i 0) w)) clock room besideRoom f ≡ handledBy (settingsAt w starts i) clock room besideRoom f
   unfolding handledIn
-  handled-in clock room f = rw (handledIn, s .good) (ap (λ (x : Ways). handledWith x clock room f) (s .says))
-
-  pub handled-by : (clock frame out out′ : List ℕ) (r : Routed)
-      → r ≡ routedOf (handledIn (take (length w - getD starts i 0) (drop (getD starts i 0) w)) clock (length out) frame)
-      → out′ ≡ outputAfter out (handledIn (take (length w - getD starts i 0) (drop (getD starts i 0) w)) clock (length out) frame)
-      → HandledBy (settingsAt w starts i) clock frame out out′ r
-  handled-by clock frame out out′ r a b =
+  handled-in clock room besideRoom f =
       let whole : take (length w - getD starts i 0) (drop (getD starts i 0) w) ≡ storeAt w starts i = take-all (length w - getD starts i 0) (drop (getD starts i 0) w) (omega (arith, length-drop (getD starts i 0) w)) in
-      let h : handledIn (take (length w - getD starts i 0) (drop (getD starts i 0) w)) clock (length out) frame ≡ handledWith (waysOf (settingsAt w starts i)) clock (length out) frame =
-      ap (λ (x : List ℕ). handledIn x clock (length out) frame) whole ∙ handled-in clock (length out) frame in
-      record { answer = a ∙ ap routedOf h; after = b ∙ ap (outputAfter out) h }
+      rw (whole, handledIn, s .good) (ap (λ (x : Ways). handledWith x clock room besideRoom f) (s .says))
+
+  pub handled-by : (clock frame out out′ beside beside′ : List ℕ) (r : Answer)
+      → Both (handledIn (take (length w - getD starts i 0) (drop (getD starts i 0) w)) clock (length out) (length beside) frame) r out out′ beside beside′
+      → Both (handledBy (settingsAt w starts i) clock (length out) (length beside) frame) r out out′ beside beside′
+  handled-by clock frame out out′ beside beside′ r b = rw (handled-in clock (length out) (length beside) frame) at b
 
 pub ruleset nickname-of-laws = (needs, sound-listed, sound-start, nickname-is, nickname-small)
 
 pub ruleset handled-laws = (needs, sound-listed, sound-from, handled-by)
 
+-- the entry of a handling
+module _ (w starts : List ℕ) (i : ℕ) (replied : Bool) (number : ℕ) (frame trace trace′ : List ℕ) (k nickname : ℕ) where
+  pub entered : trace′ ≡ put trace (k * 8) (entryBy nickname (kindBy replied) number frame) → nickname ≡ settingsAt w starts i .nickname
+      → trace′ ≡ put trace (k * 8) (entryBy (settingsAt w starts i .nickname) (kindBy replied) number frame)
+  entered e q = e ∙ ap (λ (x : ℕ). put trace (k * 8) (entryBy x (kindBy replied) number frame)) q
+
+pub entry-times : (k : ℕ) → k < 4096 → k * 8 < 18446744073709551616
+entry-times k h = omega arith
+
+pub ruleset enter-laws = (needs, entered, entry-times)
+
 -- what is left of a handling
-module _ (w starts : List ℕ) (n i : ℕ) (clock frame out trace : List ℕ) (k : ℕ) (ready : StepReady w starts n i clock frame out trace k) where
+module _ (w starts : List ℕ) (i : ℕ) (clock frame out beside trace : List ℕ) (k : ℕ) (ready : StepReady w starts i clock frame out beside trace k) where
   abbrev T : Settings
   T = settingsAt w starts i
 
   pub step-sound : SoundAt w starts i
-  step-sound = ready .sound .each i (ready .within)
-
-  pub step-all : Sound w starts n
-  step-all = ready .sound
+  step-sound = ready .sound
 
   pub step-room : k * 8 + 8 ≤ length trace
   step-room = ready .entry-room
 
-  handled-so : handledWith (waysOf T) clock (length out) frame ≡ handling (waysOf T) clock frame
-  handled-so = frame-handled (waysOf T) clock (length out) frame (ready .six) (ready .room) (ready .short)
+  pub step-few : k < 4096
+  step-few = ready .few
 
-  module _ (out′ : List ℕ) (a : Routed) (h : HandledBy (settingsAt w starts i) clock frame out out′ a) where
-    answered : a ≡ routedOf (handling (waysOf T) clock frame)
-    answered = h .answer ∙ ap routedOf handled-so
+  handled-so : handledBy T clock (length out) (length beside) frame ≡ handling (waysOf T) clock frame
+  handled-so = frame-handled (waysOf T) clock (length out) (length beside) frame (ready .six) (ready .room) (ready .beside-room) (ready .short)
 
-    pub step-number : a .answer .number < 64
-    step-number = rw answered (handling-bounded (waysOf T) clock frame (ready .six) (ready .short) .number-small)
+  module _ (out′ beside′ : List ℕ) (a : Answer) (h : Both (handledBy (settingsAt w starts i) clock (length out) (length beside) frame) a out out′ beside beside′) where
+    done-both : Both (handling (waysOf T) clock frame) a out out′ beside beside′
+    done-both = rw handled-so at h
 
-    pub step-done : (replied : Bool) (nickname : ℕ) → nickname ≡ settingsAt w starts i .nickname
-        → (trace′ : List ℕ) → trace′ ≡ put trace (k * 8) (entryBy nickname (kindBy replied) (a .answer .number) frame)
-        → (r : Onward) → goesBy w starts r ≡ goesOn (switchesIn w starts n) (kindBy replied) (a .answer .number) (a .via) (a .answer .written) → Within n r
-        → Stepped w starts n k (stateOf clock (settingsAt w starts i) (kindBy replied) frame) out out′ trace trace′ r
+    pub step-number : a .number < 64
+    step-number = rw (done-both .answer) (handling-bounded (waysOf T) clock frame (ready .six) (ready .short) .number-small)
+
+    pub step-done : (replied : Bool) (trace′ : List ℕ)
+        → trace′ ≡ put trace (k * 8) (entryBy (settingsAt w starts i .nickname) (kindBy replied) (a .number) frame)
+        → Stepped k (stateOf k clock (settingsAt w starts i) (kindBy replied) frame) out out′ beside beside′ trace trace′ a
     unfolding entryOctets
-    step-done replied nickname named trace′ e r g within =
-        record {
-          wrote = h .after ∙ rw handled-so;
-          fits = handling-bounded (waysOf T) clock frame (ready .six) (ready .short) .fits;
-          traced = e ∙ rw (named, answered);
-          onward = g ∙ rw answered;
-          within = within;
-        }
+    step-done replied trace′ e = record { both = done-both; traced = e ∙ rw (done-both .answer) }
 
-pub ruleset step-laws = (needs, step-sound, step-all, step-room, step-number, step-done)
+pub ruleset step-laws = (needs, step-sound, step-room, step-few, step-number, step-done)

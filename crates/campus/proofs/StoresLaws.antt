@@ -89,7 +89,7 @@ stores-opened w starts v l s room few o =
 -- one more field of the latest
 name-with : (T : Settings) (tag : ℕ) (v : List ℕ) → withField T (field tag v) .nickname ≡ T .nickname
 unfolding withField
-name-with T tag v = by-test (eqb tag 2) (λ e. rw e) (λ e. by-test (eqb tag 3) (λ f. rw (e, f)) (λ f. rw (e, f)))
+name-with T tag v = by-test (eqb tag 2) (λ e. rw e) (λ e. by-test (eqb tag 3) (λ f. rw (e, f)) (λ f. by-test (eqb tag 6) (λ g. rw (e, f, g)) (λ g. rw (e, f, g))))
 
 pub ample-at : (w : List ℕ) (a : ℕ) → a + 4 + 2 * countIn (drop a w) + 6 ≤ length w → Ample (drop a w)
 ample-at w a h = record { opened = omega (arith, length-drop a w); room = λ b. omega (arith, length-drop a w) }
@@ -115,7 +115,7 @@ module _ (w starts : List ℕ) (T : Settings) (l : List Settings) (s : Stores w 
 stands-ways : (w : List ℕ) (T : Settings) → Stands w T → waysOf T ≡ waysOf (settingsIn w)
 stands-ways w T s =
     let hops : nextHop T ≡ nextHop (settingsIn w) = fun-ext (λ d. next-hop T d ∙ ap unlessWithdrawn (s .records .same-ruling d) ∙ sym (next-hop (settingsIn w) d)) in
-    λ i. record { nickname = sym (s .nickname) i; mac = sym (s .mac) i; strip = sym (s .strip) i; hop = hops i }
+    λ i. record { nickname = sym (s .nickname) i; mac = sym (s .mac) i; strip = sym (s .strip) i; rfc7179 = sym (s .rfc7179) i; hop = hops i }
 
 module _ (w starts : List ℕ) (l : List Settings) (T : Settings) (s : Store w starts l T) where
   store-is : storeAt w starts (length l) ≡ drop (spanOf l) w

@@ -2,19 +2,22 @@
 -- computation. Assumes nothing.
 use mathlib.Core.Path.{_≡_, refl, sym, ap, _∙_}
 use mathlib.Core.List.{List, [], _∷_, _++_}
-use mathlib.Core.Bool.{Bool, true, false, not}
-use Prim.Native.Nat.{ℕ, zero, suc, _+_, _-_, _*_, _≤_, _<_}
+use mathlib.Core.Bool.{Bool, true, false, not, _||_}
+use Prim.Native.Nat.{ℕ, zero, suc, _+_, _-_, _*_, _/_, _%_, _≤_, _<_}
 use native.Mathlib.Omega.{arith}
 use borrow.Author.Needs.{needs}
 use borrow.Author.Tests.{eq-eqb, ne-eqb}
 use mathlib.Core.List.{append-nil}
 use borrow.Rule.Slice.PartMut.{putMid, postOf}
 use lib.ListN.{length, getD, take, drop, length-drop, drop-of-length-le}
-use lib.Seq.{take-all}
+use lib.Seq.{take-all, getD-drop}
+use lib.Dec.{eqb}
+use Rattle.rules.specs.Campus.{someEdition2}
+use Rattle.handler.proofs.StoreLaws.{good-whole}
 use Rattle.campus.specs.declared.switches.Named.{Named}
 use Rattle.campus.specs.declared.switches.Named.the-variants.{At, Nowhere}
 use Rattle.handler.specs.Extend.{Opens, Extends}
-use Rattle.campus.specs.Stores.{numberIn, foundBy, endOf, Placed, Kept, PartOpens, PartExtends}
+use Rattle.campus.specs.Stores.{storeAt, settingsAt, switchesIn, numberIn, foundBy, endOf, Placed, Sound, Kept, PartOpens, PartExtends}
 
 -- looking for a nickname, from the latest back
 module _ (w starts : List ℕ) (nickname : ℕ) where
@@ -62,6 +65,65 @@ module _ (w starts : List ℕ) (n nickname : ℕ) where
         seek-within = p .within (i - 1) (omega (arith, k .within))
 
 pub ruleset find-laws = (needs, seek-begin, seek-end, seek-here, seek-on, seek-listed, seek-within)
+
+-- looking for a switch of edition 2, from the latest back
+module _ (w starts : List ℕ) where
+  edition-is : (i : ℕ) → settingsAt w starts i .rfc7179 ≡ eqb (getD w (getD starts i 0 + 2) 0 / 2 % 2) 1
+  edition-is i = ap (λ (x : ℕ). eqb (x / 2 % 2) 1) (getD-drop (getD starts i 0) w 2 0)
+
+  edition-none : someEdition2 (switchesIn w starts 0) ≡ false
+  unfolding someEdition2 switchesIn
+  edition-none = refl
+
+  edition-first : (n : ℕ) → getD w (getD starts n 0 + 2) 0 / 2 % 2 ≡ 1 → someEdition2 (switchesIn w starts (suc n)) ≡ true
+  unfolding someEdition2 switchesIn
+  edition-first n e =
+      let two : settingsAt w starts n .rfc7179 ≡ true = edition-is n ∙ eq-eqb (getD w (getD starts n 0 + 2) 0 / 2 % 2) 1 e in
+      rw two
+
+  edition-before : (n : ℕ) → (getD w (getD starts n 0 + 2) 0 / 2 % 2 ≡ 1 → ⊥) → someEdition2 (switchesIn w starts (suc n)) ≡ someEdition2 (switchesIn w starts n)
+  unfolding someEdition2 switchesIn
+  edition-before n h =
+      let one : settingsAt w starts n .rfc7179 ≡ false = edition-is n ∙ ne-eqb (getD w (getD starts n 0 + 2) 0 / 2 % 2) 1 h in
+      rw (someEdition2, one)
+
+pub record Editions (w starts : List ℕ) (n i : ℕ) : Type 0 where
+  pub within : i ≤ n
+  pub same : someEdition2 (switchesIn w starts i) ≡ someEdition2 (switchesIn w starts n)
+
+module _ (w starts : List ℕ) (n : ℕ) where
+  pub edition-begin : Editions w starts n n
+  edition-begin = record { within = omega arith; same = refl }
+
+  module _ (i : ℕ) (k : Editions w starts n i) where
+    pub edition-end : i ≤ 0 → false ≡ someEdition2 (switchesIn w starts n)
+    edition-end z =
+        let e : i ≡ 0 = omega arith in
+        sym (edition-none w starts) ∙ (rw e at (k .same))
+
+    module _ (more : 0 < i) where
+      less-one : suc (i - 1) ≡ i
+      less-one = omega arith
+
+      pub edition-here : getD w (getD starts (i - 1) 0 + 2) 0 / 2 % 2 ≡ 1 → true ≡ someEdition2 (switchesIn w starts n)
+      edition-here e = sym (rw less-one at (edition-first w starts (i - 1) e)) ∙ k .same
+
+      pub edition-on : (getD w (getD starts (i - 1) 0 + 2) 0 / 2 % 2 ≡ 1 → ⊥) → Editions w starts n (i - 1)
+      edition-on h = record { within = omega (arith, k .within); same = sym (rw less-one at (edition-before w starts (i - 1) h)) ∙ k .same }
+
+      module _ (s : Sound w starts n) where
+        pub edition-listed : i - 1 < length starts
+        edition-listed = omega (arith, k .within, s .placed .long)
+
+        pub edition-within : getD starts (i - 1) 0 + 2 < length w
+        edition-within =
+            let x = s .each (i - 1) (omega (arith, k .within)) in
+            omega (arith, x .start, good-whole (storeAt w starts (i - 1)) (x .good) .long, length-drop (getD starts (i - 1) 0) w)
+
+        pub edition-sum : (bound : ℕ) → length w < bound → getD starts (i - 1) 0 + 2 < bound
+        edition-sum bound h = omega (arith, edition-within)
+
+pub ruleset edition-2-laws = (needs, edition-begin, edition-end, edition-here, edition-on, edition-listed, edition-within, edition-sum)
 
 -- where the latest store ends
 module _ (w starts : List ℕ) (n : ℕ) where

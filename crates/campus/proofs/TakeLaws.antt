@@ -16,6 +16,7 @@ use Rattle.rules.specs.Settings as S
 use Rattle.rules.specs.Settings.{Settings, switchOf, withField, opens, switchGood, hopGood, hopOf, serialMet, stripGood}
 use Rattle.rules.specs.Campus.{Described, switchNamed, known, placeGood, valueGood, nicknameNew, roomGood, serialNew, entryKnown, fieldRefusal, onLatest, withNext}
 use Rattle.rules.proofs.TestLaws.{by-test, and-yes, and-no}
+use Rattle.handler.specs.Keys.{flagTag, flagValue}
 use Rattle.handler.specs.Extend.{opensIn, withSwitch, extending, extended}
 use Rattle.handler.proofs.ExtendLaws.{recordBy, flagBy, record-judged, flag-judged, extended-long, switch-long}
 use Rattle.campus.specs.declared.switches.Named.{Named}
@@ -33,6 +34,30 @@ module _ (n tag : ℕ) where
   pub counted-more : tag ≡ 1 → n + 1 ≡ countedBy n tag
   unfolding countedBy
   counted-more e = rw e
+
+-- whether a tag is in its place
+module _ (n clock tag : ℕ) where
+  pub place-2 : tag ≡ 2 → not (eqb n 0) ≡ placeBy n clock tag
+  unfolding placeBy
+  place-2 e = rw e
+
+  pub place-3 : tag ≡ 3 → not (eqb n 0) ≡ placeBy n clock tag
+  unfolding placeBy
+  place-3 e = rw e
+
+  pub place-6 : tag ≡ 6 → not (eqb n 0) ≡ placeBy n clock tag
+  unfolding placeBy
+  place-6 e = rw e
+
+  pub place-4 : tag ≡ 4 → eqb clock 0 ≡ placeBy n clock tag
+  unfolding placeBy
+  place-4 e = rw e
+
+  pub place-any : (tag ≡ 2 → ⊥) → (tag ≡ 3 → ⊥) → (tag ≡ 6 → ⊥) → (tag ≡ 4 → ⊥) → true ≡ placeBy n clock tag
+  unfolding placeBy
+  place-any a b c d = rw (ne-eqb tag 2 a, ne-eqb tag 3 b, ne-eqb tag 6 c, ne-eqb tag 4 d)
+
+pub ruleset place-good-laws = (needs, place-2, place-3, place-6, place-4, place-any)
 
 pub ruleset counted-laws = (needs, counted-same, counted-more)
 
@@ -71,7 +96,10 @@ module _ (l : List Settings) (c : Option (List ℕ)) (v : List ℕ) where
       (λ a.
       by-test (eqb tag 3)
       (λ b. rw (eqb-true tag 3 b, h) (and-yes (not (eqb n 0))))
-      (λ b. by-test (eqb tag 4) (λ e. rw (a, b, e, k) (not-not (eqb clock 0))) (λ e. rw (a, b, e))))
+      (λ b.
+      by-test (eqb tag 6)
+      (λ x. rw (eqb-true tag 6 x, h) (and-yes (not (eqb n 0))))
+      (λ x. by-test (eqb tag 4) (λ e. rw (a, b, x, e, k) (not-not (eqb clock 0))) (λ e. rw (a, b, x, e)))))
 
   code-42 : (tag : ℕ) → lengthGood tag (length v) ≡ false → 42 ≡ fieldRefusal d (field tag v)
   unfolding fieldRefusal
@@ -106,20 +134,25 @@ module _ (T : Settings) (l : List Settings) (c : Option (List ℕ)) (v : List �
   unfolding fieldRefusal placeGood valueGood nicknameNew roomGood serialNew entryKnown
   code-2 = rw (some-switch, not-not (serialMet (hopOf v) (T .hops)))
 
-  code-3 : flagBy v ≡ fieldRefusal (soFar (T ∷ l) c) (field 3 v)
-  unfolding fieldRefusal placeGood valueGood nicknameNew roomGood serialNew entryKnown
+  code-3 : flagBy 3 v ≡ fieldRefusal (soFar (T ∷ l) c) (field 3 v)
+  unfolding fieldRefusal placeGood valueGood nicknameNew roomGood serialNew entryKnown flagTag flagValue lengthGood
   code-3 = rw some-switch
 
+  code-6 : flagBy 6 v ≡ fieldRefusal (soFar (T ∷ l) c) (field 6 v)
+  unfolding fieldRefusal placeGood valueGood nicknameNew roomGood serialNew entryKnown flagTag flagValue lengthGood
+  code-6 = rw some-switch
+
 -- the tags of settings
-pub settings-tag : (tag size : ℕ) → OfSettings tag size → (eqb tag 2 || eqb tag 3) ≡ true
+pub settings-tag : (tag size : ℕ) → OfSettings tag size → (eqb tag 2 || eqb tag 3 || eqb tag 6) ≡ true
 unfolding lengthGood
 settings-tag tag size o =
     by-test (eqb tag 2) (λ t. rw t) (λ f.
     by-test (eqb tag 3) (λ t. rw (f, t)) (λ g.
-    absurd (false≢true (sym (other f g) ∙ o .good))))
+    by-test (eqb tag 6) (λ t. rw (f, g, t)) (λ h.
+    absurd (false≢true (sym (other f g h) ∙ o .good)))))
   where
-    other : eqb tag 2 ≡ false → eqb tag 3 ≡ false → lengthGood tag size ≡ false
-    other f g = rw (ne-eqb tag 1 (o .no-switch), f, g, ne-eqb tag 4 (o .no-clock), ne-eqb tag 5 (o .no-entry))
+    other : eqb tag 2 ≡ false → eqb tag 3 ≡ false → eqb tag 6 ≡ false → lengthGood tag size ≡ false
+    other f g h = rw (ne-eqb tag 1 (o .no-switch), f, g, ne-eqb tag 4 (o .no-clock), ne-eqb tag 5 (o .no-entry), h)
 
 -- what a refusal leaves
 module _ (w starts : List ℕ) (n clock tag : ℕ) (v : List ℕ) where
@@ -185,7 +218,7 @@ module _ (w starts : List ℕ) (n clock tag : ℕ) (v : List ℕ) where
               true-false : true ≡ false → ⊥
               true-false y = absurd (true≢false y)
 
-              none-yet : eqb n 0 ≡ true → (eqb tag 2 || eqb tag 3) ≡ true → placeBy n clock tag ≡ false
+              none-yet : eqb n 0 ≡ true → (eqb tag 2 || eqb tag 3 || eqb tag 6) ≡ true → placeBy n clock tag ≡ false
               none-yet z y = rw (placeBy, y, z)
 
 pub ruleset take-laws = (needs, took-42, took-43, length-1, took-1, took-4, took-48, took-5, of-settings, of-switch)
@@ -298,8 +331,12 @@ module _ (w starts : List ℕ) (n clock tag : ℕ) (v : List ℕ) (k : Kept w st
           (by-test (eqb tag 2)
           (λ t. rw (eqb-true tag 2 t) (record-judged (drop (spanOf l) w) T (s .0 .stands) (latest-ample w starts T l s room) v ∙ code-2 T l c v))
           (λ f.
-          let three : tag ≡ 3 = eqb-true tag 3 (rw f at (settings-tag tag (length v) of)) in
-          rw three (flag-judged (drop (spanOf l) w) T (s .0 .stands) (latest-ample w starts T l s room) v ∙ code-3 T l c v)))
+          flag-judged (drop (spanOf l) w) T (s .0 .stands) (latest-ample w starts T l s room) v tag (eqb-false tag 2 f)
+          ∙ by-test (eqb tag 3)
+          (λ t. rw (eqb-true tag 3 t) (code-3 T l c v))
+          (λ g.
+          let six : tag ≡ 6 = eqb-true tag 6 (rw (f, g) at (settings-tag tag (length v) of)) in
+          rw six (code-6 T l c v))))
 
       latest-next : withNext (soFar (T ∷ l) c) (field tag v) .switches ≡ withField T (field tag v) ∷ l
       unfolding withNext

@@ -9,7 +9,8 @@ use borrow.Author.Tests.{lt-leb, le-leb}
 use lib.ListN.{length, take, drop, replicate, length-replicate}
 use lib.Seq.{length-take-le}
 use Rattle.rules.specs.Octets.{put}
-use Rattle.rules.specs.Campus.{Description, refused, accepted, described, Kind, original, reply, State, plainRun, Outcome}
+use Rattle.rules.proofs.TestLaws.{by-test}
+use Rattle.rules.specs.Campus.{Described, someEdition2, traceNeeded, Description, refused, accepted, described, Kind, original, reply, State, plainRun, Outcome}
 use Rattle.rules.specs.Campus.{hopReceived, egressReceived, kindOctet, entryOctets, traceOctets}
 use Rattle.rules.specs.Text.{ascii, blank, lineFeed, hex2, hex4, decimal, kindLetter, entryText, entriesText, printed}
 use Rattle.rules.proofs.OctetLaws.{length-put, take-put}
@@ -73,14 +74,18 @@ lines-entries (s ∷ states) t =
 -- what is printed of the outcome, and that the code and the count are small
 record Prints (file trace : List ℕ) (code count : ℕ) : Type 0 where
   pub text : textOf code count trace ≡ printed file
-  pub code-small : code < 256
-  pub count-small : count ≤ 80
+  pub code-small : code < 10000
+  pub count-small : count ≤ 4096
 
 abbrev pub zeros : List ℕ
-zeros = replicate 640 0
+zeros = replicate 32768 0
 
-zeros-long : length zeros ≡ 640
-zeros-long = length-replicate {A = ℕ} 640 0
+zeros-long : length zeros ≡ 32768
+zeros-long = length-replicate {A = ℕ} 32768 0
+
+needed-most : (d : Described) → traceNeeded d ≤ 32768
+unfolding traceNeeded
+needed-most d = by-test (someEdition2 (d .switches)) (λ e. rw e (omega arith)) (λ e. rw e (omega arith))
 
 module _ (file trace : List ℕ) (code count : ℕ) (done : CampusDone file zeros trace code count) where
   prints : Prints file trace code count
@@ -99,7 +104,7 @@ module _ (file trace : List ℕ) (code count : ℕ) (done : CampusDone file zero
           }
       go (accepted d) e =
           let run : List State = plainRun d in
-          let m = done .demanded d e (omega (arith, zeros-long)) in
+          let m = done .demanded d e (omega (arith, zeros-long, needed-most d)) in
           let lines : linesOf count trace ≡ entriesText run =
           rw (m .traces, m .counts) (lines-entries run (drop (8 * length run) zeros)) in
           record {
@@ -111,22 +116,22 @@ module _ (file trace : List ℕ) (code count : ℕ) (done : CampusDone file zero
             count-small = omega (arith, m .counts, plain-most d (accepted-good file d e));
           }
 
-  pub code-small : code < 256
+  pub code-small : code < 10000
   code-small = prints .code-small
 
-  pub count-small : count ≤ 80
+  pub count-small : count ≤ 4096
   count-small = prints .count-small
 
-  pub trace-holds : length trace ≡ 640 → count * 8 ≤ length trace
+  pub trace-holds : length trace ≡ 32768 → count * 8 ≤ length trace
   trace-holds l = omega (arith, count-small)
 
-  pub text-printed : (out out′ : List ℕ) (size : ℕ) → PutAt out out′ 0 size 1532 (textOf code count trace) → PutAt out out′ 0 size 1532 (printed file)
+  pub text-printed : (out out′ : List ℕ) (size : ℕ) → PutAt out out′ 0 size 81933 (textOf code count trace) → PutAt out out′ 0 size 81933 (printed file)
   text-printed out out′ size p = rw (prints .text) at p
 
 pub ruleset text-of-laws = (needs, code-small, count-small, trace-holds, text-printed)
 
 -- the call, by whether the text fits
-module _ (file out₀ out : List ℕ) (size : ℕ) (p : PutAt out₀ out 0 size 1532 (printed file)) where
+module _ (file out₀ out : List ℕ) (size : ℕ) (p : PutAt out₀ out 0 size 81933 (printed file)) where
   size-is : size ≡ length (printed file)
   size-is = omega (arith, p .ends)
 
@@ -151,8 +156,8 @@ module _ (file out₀ out : List ℕ) (size : ℕ) (p : PutAt out₀ out 0 size 
 
 pub ruleset campus-text-laws = (needs, text-part, done-over, done-fits)
 
--- a text buffer of 1,451 octets is never too small: then the text is written whole
-module _ (description text text′ : List ℕ) (written needed : ℕ) (done : TextDone description text text′ written needed) (room : 1451 ≤ length text) where
+-- a text buffer of 73,741 octets is never too small: then the text is written whole
+module _ (description text text′ : List ℕ) (written needed : ℕ) (done : TextDone description text text′ written needed) (room : 73741 ≤ length text) where
   fits : length (printed description) ≤ length text
   fits = omega (arith, printed-most description)
 

@@ -5,7 +5,7 @@ use mathlib.Core.List.{List}
 use lib.ListN.{length, take}
 use lib.Dec.{leb}
 use Rattle.rules.specs.Octets.{if_then_else_}
-use Rattle.rules.specs.Campus.{Described, described, accepted, traceLeast, campus, traceAfter}
+use Rattle.rules.specs.Campus.{Described, described, accepted, traceNeeded, campus, traceAfter}
 use Rattle.rules.specs.Demand.{Demand}
 use Rattle.rules.specs.Text.{printed}
 use Rattle.octets.specs.Copy.{putFitting}
@@ -15,7 +15,7 @@ pub record CampusDone (description trace trace′ : List ℕ) (code count : ℕ)
   pub counted : count ≡ campus description (length trace) .count
   pub traced : trace′ ≡ traceAfter trace (campus description (length trace))
   -- demand 3 of the minutes, whole: of an accepted description, and a trace buffer of the size asked
-  pub demanded : (d : Described) → described description ≡ accepted d → traceLeast ≤ length trace → Demand d trace trace′ code count
+  pub demanded : (d : Described) → described description ≡ accepted d → traceNeeded d ≤ length trace → Demand d trace trace′ code count
 
 -- a text that does not fit is not written
 pub record TextDone (description text text′ : List ℕ) (written needed : ℕ) : Type 0 where

@@ -2,5 +2,6 @@
 pub mod Places
 pub mod Stores
 pub mod Steps
+pub mod Queue
 pub mod Done
 pub mod Print

@@ -1,5 +1,5 @@
 -- The switches as the code holds them: stores one behind the other in a row of words, and the places where they start.
-use Prim.Native.Nat.{ℕ, zero, suc, _+_, _*_, _/_, _≤_, _<_}
+use Prim.Native.Nat.{ℕ, zero, suc, _+_, _*_, _/_, _%_, _≤_, _<_}
 use mathlib.Core.Path.{_≡_}
 use mathlib.Core.List.{List, [], _∷_, _++_}
 use mathlib.Core.Bool.{Bool, true, false, not}
@@ -23,7 +23,14 @@ storeAt w starts i = drop (getD starts i 0) w
 
 -- what a store says, its records in the order in which they stand
 abbrev pub settingsIn : List ℕ → Settings
-settingsIn w = record { nickname = nicknameIn w; mac = getD w 1 0 / 65536; strip = not (eqb (getD w 2 0) 0); hops = hopsFrom w 0 (countIn w) }
+settingsIn w =
+    record {
+      nickname = nicknameIn w;
+      mac = getD w 1 0 / 65536;
+      strip = eqb (getD w 2 0 % 2) 1;
+      rfc7179 = eqb (getD w 2 0 / 2 % 2) 1;
+      hops = hopsFrom w 0 (countIn w);
+    }
 
 abbrev pub settingsAt : List ℕ → List ℕ → ℕ → Settings
 settingsAt w starts i = settingsIn (storeAt w starts i)
@@ -89,7 +96,7 @@ Stores w starts (S ∷ switches) = Store w starts switches S × Stores w starts 
 abbrev pub soFar : List Settings → Option (List ℕ) → Described
 soFar switches clock = record { switches = switches; clock = clock; entry = none; frame = [] }
 
--- the tag of a record or a strip flag, with a good length
+-- the tag of a record, a strip flag or an edition, with a good length
 pub record OfSettings (tag size : ℕ) : Type 0 where
   pub good : lengthGood tag size ≡ true
   pub no-switch : tag ≡ 1 → ⊥

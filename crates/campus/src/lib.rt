@@ -11,6 +11,8 @@ ghost use lib.ListN.{length};
 ghost use Rattle.rules.specs.Text.{printed};
 ghost use Rattle.campus.specs.Print.{PutAt};
 ghost use Rattle.campus.specs.Stores.{wordsFor};
+ghost use mathlib.Core.Path.{_≡_};
+ghost use Rattle.campus.specs.Steps.{neededBy};
 ghost use Rattle.campus.specs.Done.{CampusDone, TextDone};
 
 // What the caller is answered: 0 or the code that refuses, and the number of trace entries.
@@ -18,6 +20,13 @@ ghost use Rattle.campus.specs.Done.{CampusDone, TextDone};
 pub struct Outcome {
     pub code: u32,
     pub count: u32,
+}
+
+// The trace buffer that a campus with an edition 2 switch needs, or one without.
+fn needed(two: bool) -> usize
+    ensures { λ r. ⌜ r ≡ neededBy two ⌝ }
+{
+    if two { 32768 } else { 640 }
 }
 
 // The run, with words lent for the stores of the switches: a field of n octets takes up n words at most.
@@ -33,7 +42,20 @@ fn run_in(description: &[u8], words: &mut [u64], trace: &mut [u8]) -> Outcome
             count: 0,
         };
     }
-    let count = running::run(description, words, &starts, r.n, r.clock, r.place, trace);
+    let two = switches::edition_2(words, &starts, r.n);
+    if trace.len() < needed(two) {
+        return Outcome { code: 49, count: 0 };
+    }
+    let count = running::run(
+        description,
+        words,
+        &starts,
+        r.n,
+        r.clock,
+        r.place,
+        two,
+        trace,
+    );
     Outcome {
         code: 0,
         count: count,
@@ -57,10 +79,10 @@ pub extern "C" fn campus_run(description: &[u8], trace: &mut [u8]) -> Outcome
 
 // Runs a description and writes what is printed of it, and answers how long that is.
 fn text_of(description: &[u8], out: &mut [u8]) -> usize
-    requires { ⌜ 1532 ≤ length (now out) ⌝ }
-    ensures { λ r. ⌜ PutAt (now (out .entry)) (now (out .exit)) 0 r 1532 (printed (now (description .entry))) ⌝ }
+    requires { ⌜ 81933 ≤ length (now out) ⌝ }
+    ensures { λ r. ⌜ PutAt (now (out .entry)) (now (out .exit)) 0 r 81933 (printed (now (description .entry))) ⌝ }
 {
-    let mut trace = [0u8; 640];
+    let mut trace = [0u8; 32768];
     let o = campus_run(description, &mut trace);
     printing::put_text(out, o.code, o.count, &trace)
 }
@@ -77,7 +99,7 @@ pub struct Printed {
 pub extern "C" fn campus_text(description: &[u8], text: &mut [u8]) -> Printed
     ensures { λ r. ⌜ TextDone (now (description .entry)) (now (text .entry)) (now (text .exit)) (r .written) (r .needed) ⌝ }
 {
-    let mut out = [0u8; 1532];
+    let mut out = [0u8; 81933];
     let size = text_of(description, &mut out);
     if text.len() < size {
         return Printed {

@@ -58,26 +58,47 @@ fn line_tail(e: &[u8]) -> [u8; 9]
 }
 
 // Writes a number in decimal, and answers where it ends.
-fn put_decimal(out: &mut [u8], at: usize, n: u8) -> usize
-    requires { ⌜ at + 3 ≤ length (now out) ⌝ }
-    ensures { λ r. ⌜ PutAt (now (out .entry)) (now (out .exit)) at r 3 (decimal n) ⌝ }
+fn put_decimal(out: &mut [u8], at: usize, n: u16) -> usize
+    requires { ⌜ (at + 4 ≤ length (now out)) × (n < 10000) ⌝ }
+    ensures { λ r. ⌜ PutAt (now (out .entry)) (now (out .exit)) at r 4 (decimal n) ⌝ }
 {
     if n < 10 {
-        octets::copy(out, at, &[48 + n]);
+        octets::copy(out, at, &[48 + n as u8]);
         return at + 1;
     }
     if n < 100 {
-        octets::copy(out, at, &[48 + n / 10, 48 + n % 10]);
+        octets::copy(out, at, &[48 + (n / 10) as u8, 48 + (n % 10) as u8]);
         return at + 2;
     }
-    octets::copy(out, at, &[48 + n / 10 / 10, 48 + n / 10 % 10, 48 + n % 10]);
-    at + 3
+    if n < 1000 {
+        octets::copy(
+            out,
+            at,
+            &[
+                48 + (n / 10 / 10) as u8,
+                48 + (n / 10 % 10) as u8,
+                48 + (n % 10) as u8,
+            ],
+        );
+        return at + 3;
+    }
+    octets::copy(
+        out,
+        at,
+        &[
+            48 + (n / 10 / 10 / 10) as u8,
+            48 + (n / 10 / 10 % 10) as u8,
+            48 + (n / 10 % 10) as u8,
+            48 + (n % 10) as u8,
+        ],
+    );
+    at + 4
 }
 
 // Writes a number between two texts.
-fn put_number(out: &mut [u8], at: usize, before: &[u8], n: u8, after: &[u8]) -> usize
-    requires { ⌜ at + (length (now before) + 3 + length (now after)) ≤ length (now out) ⌝ }
-    ensures { λ r. ⌜ PutAt (now (out .entry)) (now (out .exit)) at r (length (now (before .entry)) + 3 + length (now (after .entry)))
+fn put_number(out: &mut [u8], at: usize, before: &[u8], n: u16, after: &[u8]) -> usize
+    requires { ⌜ (at + (length (now before) + 4 + length (now after)) ≤ length (now out)) × (n < 10000) ⌝ }
+    ensures { λ r. ⌜ PutAt (now (out .entry)) (now (out .exit)) at r (length (now (before .entry)) + 4 + length (now (after .entry)))
         (now (before .entry) ++ decimal n ++ now (after .entry)) ⌝ }
 {
     octets::copy(out, at, before);
@@ -86,20 +107,26 @@ fn put_number(out: &mut [u8], at: usize, before: &[u8], n: u8, after: &[u8]) -> 
     end + after.len()
 }
 
+fn wide(n: u8) -> u16
+    ensures { λ r. ⌜ (r ≡ n) × (r < 10000) ⌝ }
+{
+    n as u16
+}
+
 // Writes the line of the trace entry that `e` begins with.
 fn put_line(out: &mut [u8], at: usize, e: &[u8]) -> usize
-    requires { ⌜ (8 ≤ length (now e)) × (at + 19 ≤ length (now out)) ⌝ }
-    ensures { λ r. ⌜ PutAt (now (out .entry)) (now (out .exit)) at r 19 (lineOf (now (e .entry))) ⌝ }
+    requires { ⌜ (8 ≤ length (now e)) × (at + 20 ≤ length (now out)) ⌝ }
+    ensures { λ r. ⌜ PutAt (now (out .entry)) (now (out .exit)) at r 20 (lineOf (now (e .entry))) ⌝ }
 {
     let head = line_head(e);
     let tail = line_tail(e);
-    put_number(out, at, &head, e[3], &tail)
+    put_number(out, at, &head, wide(e[3]), &tail)
 }
 
 // Writes the lines of the first `count` entries of a trace.
 fn put_lines(out: &mut [u8], trace: &[u8], count: usize) -> usize
-    requires { ⌜ (count ≤ 80) × (count * 8 ≤ length (now trace)) × (1520 ≤ length (now out)) ⌝ }
-    ensures { λ r. ⌜ PutAt (now (out .entry)) (now (out .exit)) 0 r 1520 (linesOf count (now (trace .entry))) ⌝ }
+    requires { ⌜ (count ≤ 4096) × (count * 8 ≤ length (now trace)) × (81920 ≤ length (now out)) ⌝ }
+    ensures { λ r. ⌜ PutAt (now (out .entry)) (now (out .exit)) 0 r 81920 (linesOf count (now (trace .entry))) ⌝ }
 {
     let mut at = 0;
     let mut k = 0;
@@ -112,12 +139,12 @@ fn put_lines(out: &mut [u8], trace: &[u8], count: usize) -> usize
 
 // Writes what is printed of an outcome.
 pub fn put_text(out: &mut [u8], code: u32, count: u32, trace: &[u8]) -> usize
-    requires { ⌜ (code < 256) × (count ≤ 80) × (count * 8 ≤ length (now trace)) × (1532 ≤ length (now out)) ⌝ }
-    ensures { λ r. ⌜ PutAt (now (out .entry)) (now (out .exit)) 0 r 1532 (textOf code count (now (trace .entry))) ⌝ }
+    requires { ⌜ (code < 10000) × (count ≤ 4096) × (count * 8 ≤ length (now trace)) × (81933 ≤ length (now out)) ⌝ }
+    ensures { λ r. ⌜ PutAt (now (out .entry)) (now (out .exit)) 0 r 81933 (textOf code count (now (trace .entry))) ⌝ }
 {
     if code != 0 {
-        return put_number(out, 0, b"refused ", code as u8, b"\n");
+        return put_number(out, 0, b"refused ", code as u16, b"\n");
     }
     let end = put_lines(out, trace, count as usize);
-    put_number(out, end, b"handled ", count as u8, b"\n")
+    put_number(out, end, b"handled ", count as u16, b"\n")
 }

@@ -25,6 +25,9 @@ pub fn length_good(tag: u8, size: usize) -> bool
     if tag == 4 {
         return size == 6;
     }
+    if tag == 6 {
+        return size == 1;
+    }
     if tag != 5 {
         return false;
     }
@@ -41,6 +44,9 @@ fn place_good(n: usize, clock: usize, tag: u8) -> bool
         return n != 0;
     }
     if tag == 3 {
+        return n != 0;
+    }
+    if tag == 6 {
         return n != 0;
     }
     if tag == 4 {
@@ -80,7 +86,7 @@ fn open(w: &mut [u64], starts: &mut [usize], n: usize, clock: usize, v: &[u8]) -
     0
 }
 
-// Tags 2 and 3, of the latest switch.
+// Tags 2, 3 and 6, of the latest switch.
 fn extend(w: &mut [u64], starts: &[usize], n: usize, clock: usize, tag: u8, v: &[u8]) -> u32
     requires { ⌜ Kept (now w) (now starts) n × (0 < n) × OfSettings tag (length (now v)) ⌝ }
     ensures { λ r. ⌜ Took (now (w .entry)) (now (starts .entry)) n clock tag (now (v .entry)) r (now (w .exit)) (now (starts .entry)) ⌝ }

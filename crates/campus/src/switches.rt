@@ -5,7 +5,8 @@ ghost use mathlib.Core.List.{_++_};
 ghost use Prim.Native.Nat.{_+_, _≤_, _<_};
 ghost use lib.ListN.{length, take, drop, getD};
 ghost use Rattle.handler.specs.Extend.{Opens, Extends};
-ghost use Rattle.campus.specs.Stores.{numberIn, endOf, Placed, Kept, PartOpens, PartExtends};
+ghost use Rattle.rules.specs.Campus.{someEdition2};
+ghost use Rattle.campus.specs.Stores.{switchesIn, numberIn, endOf, Placed, Sound, Kept, PartOpens, PartExtends};
 
 // The number of a switch, or no such switch.
 pub enum Named {
@@ -53,4 +54,20 @@ pub fn extend(w: &mut [u64], at: usize, tag: u8, v: &[u8]) -> u32
     ensures { λ r. ⌜ PartExtends (now (w .entry)) at tag (now (v .entry)) r (now (w .exit)) ⌝ }
 {
     handler::store_extend(&mut w[at..], tag, v)
+}
+
+// Whether one of the first n switches has edition 2.
+pub fn edition_2(w: &[u64], starts: &[usize], n: usize) -> bool
+    requires { ⌜ Sound (now w) (now starts) n ⌝ }
+    ensures { λ r. ⌜ r ≡ someEdition2 (switchesIn (now (w .entry)) (now (starts .entry)) n) ⌝ }
+{
+    let mut i = n;
+    while 0 < i {
+        i -= 1;
+        let at = starts[i];
+        if w[at + 2] / 2 % 2 == 1 {
+            return true;
+        }
+    }
+    false
 }

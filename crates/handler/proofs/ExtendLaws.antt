@@ -1,6 +1,6 @@
 -- A store opened and extended field by field stands for settings with these fields, and refuses what does not go with them. By the laws of
 -- insertion, and word by word. Assumes nothing.
-use Prim.Native.Nat.{ℕ, suc, _+_, _*_, _/_, _≤_, _<_}
+use Prim.Native.Nat.{ℕ, zero, suc, _+_, _*_, _/_, _%_, _≤_, _<_}
 use mathlib.Core.Path.{_≡_, refl, sym, ap, _∙_, fun-ext}
 use mathlib.Core.List.{List, [], _∷_, _++_}
 use mathlib.Core.Bool.{Bool, true, false, not, _&&_}
@@ -19,7 +19,9 @@ use Rattle.rules.proofs.OctetLaws.{length-put}
 use Rattle.rules.proofs.FrameLaws.{none-given}
 use Rattle.handler.specs.Store.{countIn, hopsFrom, placeIn, hopFor, waysIn, storeGood, StandsFor, Stands}
 use Rattle.handler.specs.Insert.{storeKey, storeValue, placeFor, metIn, insertedIn}
-use Rattle.handler.specs.Extend.{withSwitch, opensIn, roomIn, recordCode, flagCode, extending, withRecord, withFlag, extended}
+use Rattle.handler.specs.Extend.{withSwitch, opensIn, roomIn, recordCode, flagCode, flagWord, extending, withRecord, withFlag, extended}
+use Rattle.handler.specs.Keys.{flagTag, flagValue, flagTaken}
+use Rattle.handler.proofs.FlagLaws.{flag-continues}
 use Rattle.handler.proofs.InsertLaws.{fitting, with-record, met-is, stands-more, stands-same}
 use Rattle.handler.proofs.LookupLaws.{serves}
 
@@ -51,12 +53,13 @@ record-parts w v e =
     let r = room-parts w (not-false (roomIn w) (c .0)) in
     record { few = r .0; room = r .1; new = d .0 }
 
-flag-parts : (w v : List ℕ) → flagCode w v ≡ 0 → 4 ≤ length w
+flag-parts : (w : List ℕ) (tag : ℕ) (v : List ℕ) → flagCode w tag v ≡ 0 → (flagTag tag ≡ true) × (flagValue tag v ≡ true) × (4 ≤ length w)
 unfolding flagCode
-flag-parts w v e =
-    let a = none-given (not (lengthGood 3 (length v))) 42 _ (omega arith) e in
-    let b = none-given (not (S.stripGood v)) 44 _ (omega arith) (a .1) in
-    ltb-false (length w) 4 (none-given (ltb (length w) 4) 46 0 (omega arith) (b .1) .0)
+flag-parts w tag v e =
+    let a = none-given (not (flagTag tag)) 43 _ (omega arith) e in
+    let b = none-given (not (eqb (length v) 1)) 42 _ (omega arith) (a .1) in
+    let c = none-given (not (flagValue tag v)) 44 _ (omega arith) (b .1) in
+    (not-false (flagTag tag) (a .0), not-false (flagValue tag v) (c .0), ltb-false (length w) 4 (none-given (ltb (length w) 4) 46 0 (omega arith) (c .1) .0))
 
 -- the code and the words by the tag
 module _ (w v : List ℕ) where
@@ -64,13 +67,9 @@ module _ (w v : List ℕ) where
   unfolding extending
   extending-2 = refl
 
-  pub extending-3 : extending w 3 v ≡ flagCode w v
+  pub extending-flag : (tag : ℕ) → (tag ≡ 2 → ⊥) → extending w tag v ≡ flagCode w tag v
   unfolding extending
-  extending-3 = refl
-
-  pub extending-other : (tag : ℕ) → (tag ≡ 2 → ⊥) → (tag ≡ 3 → ⊥) → extending w tag v ≡ 43
-  unfolding extending
-  extending-other tag a b = rw (ne-eqb tag 2 a, ne-eqb tag 3 b)
+  extending-flag tag a = rw (ne-eqb tag 2 a)
 
   pub extended-not : (tag : ℕ) → (extending w tag v ≡ 0 → ⊥) → extended w tag v ≡ w
   unfolding extended
@@ -80,9 +79,9 @@ module _ (w v : List ℕ) where
   unfolding extended
   extended-2 z = rw z
 
-  pub extended-3 : extending w 3 v ≡ 0 → extended w 3 v ≡ withFlag w v
+  pub extended-flag : (tag : ℕ) → (tag ≡ 2 → ⊥) → extending w tag v ≡ 0 → extended w tag v ≡ withFlag w tag v
   unfolding extended
-  extended-3 z = rw z
+  extended-flag tag n z = rw (z, ne-eqb tag 2 n)
 
 -- one more record
 module _ (w v : List ℕ) (ok : Admitted w v) where
@@ -116,31 +115,74 @@ module _ (w v : List ℕ) (ok : Admitted w v) where
       (record {
         nickname = other 0 (omega arith) ∙ kept 0 (omega arith) ∙ s .nickname;
         mac = ap (λ (y : ℕ). y / 65536) (other 1 (omega arith) ∙ kept 1 (omega arith)) ∙ s .mac;
-        strip = ap (λ (y : ℕ). not (eqb y 0)) (other 2 (omega arith) ∙ kept 2 (omega arith)) ∙ s .strip;
+        strip = ap (λ (y : ℕ). eqb (y % 2) 1) (other 2 (omega arith) ∙ kept 2 (omega arith)) ∙ s .strip;
+        rfc7179 = ap (λ (y : ℕ). eqb (y / 2 % 2) 1) (other 2 (omega arith) ∙ kept 2 (omega arith)) ∙ s .rfc7179;
         records = rw record-counts same;
       })
 
--- the flag
-module _ (w v : List ℕ) (long : 4 ≤ length w) where
-  unmoved : (j : ℕ) → (j ≡ 2 → ⊥) → getD (withFlag w v) j 0 ≡ getD w j 0
-  unmoved j ne = getD-set-other w 2 j (octet v 0) 0 ne
+-- the flags
+module _ (w : List ℕ) (tag : ℕ) (v : List ℕ) (is-flag : flagTag tag ≡ true) (good : flagValue tag v ≡ true) (long : 4 ≤ length w) where
+  abbrev its-word : ℕ
+  its-word = flagWord (getD w 2 0) tag (octet v 0)
 
-  with-3 : (T : Settings) → withField T (field 3 v) ≡ S.withStrip T (not (eqb (octet v 0) 0))
-  unfolding withField
-  with-3 T = refl
+  unmoved : (j : ℕ) → (j ≡ 2 → ⊥) → getD (withFlag w tag v) j 0 ≡ getD w j 0
+  unmoved j ne = getD-set-other w 2 j its-word 0 ne
 
-  pub flag-counts : countIn (withFlag w v) ≡ countIn w
+  moved : getD (withFlag w tag v) 2 0 ≡ its-word
+  moved = getD-set-same w 2 its-word 0 (omega arith)
+
+  pub flag-counts : countIn (withFlag w tag v) ≡ countIn w
   flag-counts = unmoved 3 (omega arith)
 
-  pub flag-stands : (T : Settings) → Stands w T → Stands (withFlag w v) (withField T (field 3 v))
+  six : (tag ≡ 3 → ⊥) → tag ≡ 6
+  unfolding flagTag
+  six n = eqb-true tag 6 (rw (ne-eqb tag 3 n) at is-flag)
+
+  strips : tag ≡ 3 → octet v 0 ≤ 1
+  unfolding flagValue
+  strips e = leb-true (octet v 0) 1 (rw e at good)
+
+  strip-kept : (T : Settings) → eqb (getD w 2 0 % 2) 1 ≡ T .strip → eqb (its-word % 2) 1 ≡ withField T (field tag v) .strip
+  unfolding withField
+  strip-kept T s =
+      by-test (eqb tag 3)
+      (λ t. let e = eqb-true tag 3 t in let same : (getD w 2 0 / 2 % 2 * 2 + octet v 0) % 2 ≡ octet v 0 = omega (arith, strips e) in rw (e, same) (bit (octet v 0) (strips e)))
+      (λ t. let n = eqb-false tag 3 t in rw (t, six n, even (eqb (octet v 0) 2)) s)
+    where
+      even : (b : Bool) → ((if b then 2 else 0) + getD w 2 0 % 2) % 2 ≡ getD w 2 0 % 2
+      even true = omega arith
+      even false = omega arith
+
+      bit : (o : ℕ) → o ≤ 1 → eqb o 1 ≡ not (eqb o 0)
+      bit zero h = refl
+      bit (suc zero) h = refl
+      bit (suc (suc o)) h = absurd (omega arith)
+
+  edition-kept : (T : Settings) → eqb (getD w 2 0 / 2 % 2) 1 ≡ T .rfc7179 → eqb (its-word / 2 % 2) 1 ≡ withField T (field tag v) .rfc7179
+  unfolding withField
+  edition-kept T s =
+      by-test (eqb tag 3)
+      (λ t. let e = eqb-true tag 3 t in let same : (getD w 2 0 / 2 % 2 * 2 + octet v 0) / 2 % 2 ≡ getD w 2 0 / 2 % 2 = omega (arith, strips e) in rw (e, same) s)
+      (λ t. let n = eqb-false tag 3 t in rw (t, six n) (value (eqb (octet v 0) 2)))
+    where
+      value : (b : Bool) → eqb (((if b then 2 else 0) + getD w 2 0 % 2) / 2 % 2) 1 ≡ b
+      value true = let z : (2 + getD w 2 0 % 2) / 2 % 2 ≡ 1 = omega arith in rw z
+      value false = let z : (0 + getD w 2 0 % 2) / 2 % 2 ≡ 0 = omega arith in rw z
+
+  same-own : (T : Settings) → (withField T (field tag v) .nickname ≡ T .nickname) × (withField T (field tag v) .mac ≡ T .mac) × (withField T (field tag v) .hops ≡ T .hops)
+  unfolding withField
+  same-own T = by-test (eqb tag 3) (λ t. rw (eqb-true tag 3 t) (refl, refl, refl)) (λ t. rw (t, six (eqb-false tag 3 t)) (refl, refl, refl))
+
+  pub flag-stands : (T : Settings) → Stands w T → Stands (withFlag w tag v) (withField T (field tag v))
   flag-stands T s =
-      rw (with-3 T)
-      (record {
-        nickname = unmoved 0 (omega arith) ∙ s .nickname;
-        mac = ap (λ (y : ℕ). y / 65536) (unmoved 1 (omega arith)) ∙ s .mac;
-        strip = ap (λ (y : ℕ). not (eqb y 0)) (getD-set-same w 2 (octet v 0) 0 (omega arith));
-        records = rw flag-counts (stands-same w (withFlag w v) (countIn w) (s .records .ordered .few) (λ j x y. unmoved j (omega arith)) (T .hops) (s .records));
-      })
+      let o = same-own T in
+      record {
+        nickname = unmoved 0 (omega arith) ∙ s .nickname ∙ sym (o .0);
+        mac = ap (λ (y : ℕ). y / 65536) (unmoved 1 (omega arith)) ∙ s .mac ∙ sym (o .1);
+        strip = ap (λ (y : ℕ). eqb (y % 2) 1) moved ∙ strip-kept T (s .strip);
+        rfc7179 = ap (λ (y : ℕ). eqb (y / 2 % 2) 1) moved ∙ edition-kept T (s .rfc7179);
+        records = rw (o .2, flag-counts) (stands-same w (withFlag w tag v) (countIn w) (s .records .ordered .few) (λ j x y. unmoved j (omega arith)) (T .hops) (s .records));
+      }
 
 -- the codes by settings
 abbrev pub recordBy : Settings → List ℕ → ℕ
@@ -151,8 +193,8 @@ recordBy T v =
     if serialMet (hopOf v) (T .hops) then 47
     else 0
 
-abbrev pub flagBy : List ℕ → ℕ
-flagBy v = if not (lengthGood 3 (length v)) then 42 else if not (S.stripGood v) then 44 else 0
+abbrev pub flagBy : ℕ → List ℕ → ℕ
+flagBy tag v = if not (flagTag tag) then 43 else if not (eqb (length v) 1) then 42 else if not (flagValue tag v) then 44 else 0
 
 -- WHAT A FIELD DOES to words that stand for settings: the code, and the words where it is taken
 module _ (w : List ℕ) (T : Settings) (s : Stands w T) (ample : Ample w) (v : List ℕ) where
@@ -174,57 +216,46 @@ module _ (w : List ℕ) (T : Settings) (s : Stands w T) (ample : Ample w) (v : L
       many : 64 ≤ countIn w → recordCode w v ≡ recordBy T v
       many h = rw (recordCode, room-not h, s .records .count, le-ltb (countIn w) 64 h)
 
-  pub flag-judged : extending w 3 v ≡ flagBy v
+  pub flag-judged : (tag : ℕ) → (tag ≡ 2 → ⊥) → extending w tag v ≡ flagBy tag v
   unfolding flagCode
-  flag-judged = extending-3 w v ∙ rw (flagCode, le-ltb (length w) 4 (ample .opened))
+  flag-judged tag n = extending-flag w v tag n ∙ rw (flagCode, le-ltb (length w) 4 (ample .opened))
 
   pub extended-stands : (tag : ℕ) → extending w tag v ≡ 0 → Stands (extended w tag v) (withField T (field tag v))
-  extended-stands tag z =
-      by-test (eqb tag 2) (λ t. two (eqb-true tag 2 t)) (λ f.
-      by-test (eqb tag 3) (λ t. three (eqb-true tag 3 t)) (λ g.
-      absurd (omega (arith, z, extending-other w v tag (eqb-false tag 2 f) (eqb-false tag 3 g)))))
+  extended-stands tag z = by-test (eqb tag 2) (λ t. two (eqb-true tag 2 t)) (λ f. other (eqb-false tag 2 f))
     where
       two : tag ≡ 2 → Stands (extended w tag v) (withField T (field tag v))
       two e =
           let z2 : extending w 2 v ≡ 0 = rw e at z in
           rw (e, extended-2 w v z2) (record-stands w v (record-parts w v (sym (extending-2 w v) ∙ z2)) T s)
 
-      three : tag ≡ 3 → Stands (extended w tag v) (withField T (field tag v))
-      three e =
-          let z3 : extending w 3 v ≡ 0 = rw e at z in
-          rw (e, extended-3 w v z3) (flag-stands w v (ample .opened) T s)
+      other : (tag ≡ 2 → ⊥) → Stands (extended w tag v) (withField T (field tag v))
+      other n =
+          let p = flag-parts w tag v (sym (extending-flag w v tag n) ∙ z) in
+          rw (extended-flag w v tag n z) (flag-stands w tag v (p .0) (p .1) (p .2) T s)
 
 -- what every field keeps, taken or refused
-module _ (P : List ℕ → Type 0) (w : List ℕ) (tag : ℕ) (v : List ℕ) (same : P w) (two : recordCode w v ≡ 0 → P (withRecord w v)) (three : flagCode w v ≡ 0 → P (withFlag w v)) where
+module _ (P : List ℕ → Type 0) (w : List ℕ) (tag : ℕ) (v : List ℕ) (same : P w) (two : recordCode w v ≡ 0 → P (withRecord w v)) (flag : flagCode w tag v ≡ 0 → P (withFlag w tag v)) where
   extended-keeps : P (extended w tag v)
   extended-keeps =
       by-test (eqb (extending w tag v) 0) (λ t. taken (eqb-true (extending w tag v) 0 t)) (λ f. rw (extended-not w v tag (eqb-false (extending w tag v) 0 f)) same)
     where
       taken : extending w tag v ≡ 0 → P (extended w tag v)
-      taken z =
-          by-test (eqb tag 2) (λ t. by-2 (eqb-true tag 2 t)) (λ f.
-          by-test (eqb tag 3) (λ t. by-3 (eqb-true tag 3 t)) (λ g.
-          absurd (omega (arith, z, extending-other w v tag (eqb-false tag 2 f) (eqb-false tag 3 g)))))
+      taken z = by-test (eqb tag 2) (λ t. by-2 (eqb-true tag 2 t)) (λ f. rw (extended-flag w v tag (eqb-false tag 2 f) z) (flag (sym (extending-flag w v tag (eqb-false tag 2 f)) ∙ z)))
         where
           by-2 : tag ≡ 2 → P (extended w tag v)
           by-2 e =
               let z2 : extending w 2 v ≡ 0 = rw e at z in
               rw (e, extended-2 w v z2) (two (sym (extending-2 w v) ∙ z2))
 
-          by-3 : tag ≡ 3 → P (extended w tag v)
-          by-3 e =
-              let z3 : extending w 3 v ≡ 0 = rw e at z in
-              rw (e, extended-3 w v z3) (three (sym (extending-3 w v) ∙ z3))
-
 pub extended-long : (w : List ℕ) (tag : ℕ) (v : List ℕ) → length (extended w tag v) ≡ length w
 extended-long w tag v =
-    extended-keeps (λ u. length u ≡ length w) w tag v refl (λ z. record-long w v (record-parts w v z)) (λ z. length-set w 2 (octet v 0))
+    extended-keeps (λ u. length u ≡ length w) w tag v refl (λ z. record-long w v (record-parts w v z)) (λ z. length-set w 2 (flagWord (getD w 2 0) tag (octet v 0)))
 
 pub extended-few : (w : List ℕ) (tag : ℕ) (v : List ℕ) → countIn w ≤ 64 → countIn (extended w tag v) ≤ 64
 extended-few w tag v h =
     extended-keeps (λ u. countIn u ≤ 64) w tag v h
     (λ z. omega (arith, record-counts w v (record-parts w v z), record-parts w v z .few))
-    (λ z. omega (arith, flag-counts w v (flag-parts w v z)))
+    (λ z. let p = flag-parts w tag v z in omega (arith, flag-counts w tag v (p .0) (p .1) (p .2)))
 
 -- a field that goes with settings is one that is taken
 codes : (a b c d : Bool) → eqb (if not a then 42 else if not b then 44 else if not c then 46 else if d then 47 else 0) 0 ≡ (a && (b && c && not d))
@@ -234,28 +265,21 @@ codes true true false d = refl
 codes true true true true = refl
 codes true true true false = refl
 
-two-codes : (a b : Bool) → eqb (if not a then 42 else if not b then 44 else 0) 0 ≡ (a && b)
-two-codes false b = refl
-two-codes true false = refl
-two-codes true true = refl
+three-codes : (t a b : Bool) → eqb (if not t then 43 else if not a then 42 else if not b then 44 else 0) 0 ≡ (t && (a && b))
+three-codes false a b = refl
+three-codes true false b = refl
+three-codes true true false = refl
+three-codes true true true = refl
 
 pub record-continues : (T : Settings) (v : List ℕ) → eqb (recordBy T v) 0 ≡ continues T (field 2 v)
 unfolding continues
 record-continues T v = codes (lengthGood 2 (length v)) (hopGood (hopOf v)) (ltb (length (T .hops)) 64) (serialMet (hopOf v) (T .hops))
 
-pub flag-continues : (T : Settings) (v : List ℕ) → eqb (flagBy v) 0 ≡ continues T (field 3 v)
-unfolding continues
-flag-continues T v = two-codes (lengthGood 3 (length v)) (S.stripGood v)
-
-pub other-continues : (T : Settings) (tag : ℕ) (v : List ℕ) → (tag ≡ 2 → ⊥) → (tag ≡ 3 → ⊥) → continues T (field tag v) ≡ false
-unfolding continues
-other-continues T tag v a b = rw (ne-eqb tag 2 a, ne-eqb tag 3 b) (and-no (lengthGood tag (length v)))
-
 pub extending-continues : (w : List ℕ) (T : Settings) → Stands w T → Ample w → (tag : ℕ) (v : List ℕ) → eqb (extending w tag v) 0 ≡ continues T (field tag v)
+unfolding flagTaken
 extending-continues w T s ample tag v =
-    by-test (eqb tag 2) (λ t. rw (eqb-true tag 2 t, record-judged w T s ample v) (record-continues T v)) (λ f.
-    by-test (eqb tag 3) (λ t. rw (eqb-true tag 3 t, flag-judged w T s ample v) (flag-continues T v)) (λ g.
-    rw (extending-other w v tag (eqb-false tag 2 f) (eqb-false tag 3 g), other-continues T tag v (eqb-false tag 2 f) (eqb-false tag 3 g))))
+    by-test (eqb tag 2) (λ t. rw (eqb-true tag 2 t, record-judged w T s ample v) (record-continues T v))
+    (λ f. rw (flag-judged w T s ample v tag (eqb-false tag 2 f)) (three-codes (flagTag tag) (eqb (length v) 1) (flagValue tag v) ∙ flag-continues T tag v (eqb-false tag 2 f)))
 
 -- a store opened for a switch
 module _ (w v : List ℕ) (long : 4 ≤ length w) where
@@ -266,7 +290,7 @@ module _ (w v : List ℕ) (long : 4 ≤ length w) where
 
   pub switch-stands : Stands (withSwitch w v) (S.switchOf v)
   unfolding put
-  switch-stands = record { nickname = refl; mac = omega arith; strip = refl; records = none-stands (withSwitch w v) }
+  switch-stands = record { nickname = refl; mac = omega arith; strip = refl; rfc7179 = refl; records = none-stands (withSwitch w v) }
 
   pub switch-counts : countIn (withSwitch w v) ≡ 0
   unfolding put
@@ -280,7 +304,7 @@ module _ (w : List ℕ) (T : Settings) (s : Stands w T) where
   pub says : waysIn w ≡ waysOf T
   says =
       let hops : (λ (d : ℕ). hopFor w (countIn w) d (placeIn w (countIn w) d)) ≡ S.nextHop T = fun-ext (λ d. serves w (countIn w) T (s .records) d) in
-      λ i. record { nickname = s .nickname i; mac = s .mac i; strip = s .strip i; hop = hops i }
+      λ i. record { nickname = s .nickname i; mac = s .mac i; strip = s .strip i; rfc7179 = s .rfc7179 i; hop = hops i }
 
   pub is-good : nicknameValid (T .nickname) ≡ true → 4 + 2 * countIn w ≤ length w → storeGood w ≡ true
   unfolding storeGood
@@ -293,6 +317,7 @@ stands-too w u T same s =
     record {
       nickname = same 0 (omega arith) ∙ s .nickname;
       mac = ap (λ (y : ℕ). y / 65536) (same 1 (omega arith)) ∙ s .mac;
-      strip = ap (λ (y : ℕ). not (eqb y 0)) (same 2 (omega arith)) ∙ s .strip;
+      strip = ap (λ (y : ℕ). eqb (y % 2) 1) (same 2 (omega arith)) ∙ s .strip;
+      rfc7179 = ap (λ (y : ℕ). eqb (y / 2 % 2) 1) (same 2 (omega arith)) ∙ s .rfc7179;
       records = rw (same 3 (omega arith)) (stands-same w u (countIn w) (s .records .ordered .few) (λ j a b. same j b) (T .hops) (s .records));
     }

@@ -5,6 +5,7 @@ use mathlib.Core.List.{List, [], _∷_, _++_, foldl, foldl-append}
 use mathlib.Core.Bool.{Bool, true, false, not}
 use Prim.Native.Nat.{ℕ, suc, _+_, _-_, _≤_, _<_}
 use native.Mathlib.Omega.{arith}
+use borrow.Author.Needs.{needs}
 use borrow.Author.Tests.{lt-ltb, le-ltb, ltb-true, ltb-false, eq-eqb, ne-eqb, eqb-true, eqb-false}
 use lib.Dec.{ltb, eqb}
 use lib.ListN.{length}
@@ -18,7 +19,9 @@ use Rattle.rules.specs.declared.FieldRead.{FieldRead}
 use Rattle.rules.specs.declared.FieldRead.the-variants.{Taken, Cut}
 use Rattle.rules.proofs.TestLaws.{by-test}
 use Rattle.rules.proofs.FieldLaws.{field-read, fields-end, fields-cut, fields-on}
-use Rattle.handler.specs.Shapes.{ownOf, ruledBy, flaggedBy, FoldedFrom}
+use Rattle.handler.specs.Shapes.{ownOf, ruledBy, noFlags, flaggedBy, FoldedFrom}
+use Rattle.handler.specs.Keys.{flagTag}
+use Rattle.handler.specs.declared.judged.Flags.{Flags}
 use Rattle.handler.proofs.Taken.{its}
 use Rattle.handler.proofs.JudgeLaws.{with-hop, with-other, first}
 
@@ -57,15 +60,20 @@ module _ (d : ℕ) (best : Ruling) where
     unfolding ruledBy
     ruled-other h = rw (ne-eqb tag 2 h)
 
-module _ (strip : Bool) where
-  module _ (tag : ℕ) (v : List ℕ) where
-    pub flagged-so : tag ≡ 3 → not (eqb (octet v 0) 0) ≡ flaggedBy strip (field tag v)
-    unfolding flaggedBy
-    flagged-so e = rw e
+module _ (flags : Flags) (tag : ℕ) (v : List ℕ) where
+  pub flagged-hop : tag ≡ 2 → flags ≡ flaggedBy flags (field tag v)
+  unfolding flaggedBy
+  flagged-hop e = rw e
 
-    pub flagged-other : (tag ≡ 3 → ⊥) → strip ≡ flaggedBy strip (field tag v)
-    unfolding flaggedBy
-    flagged-other h = rw (ne-eqb tag 3 h)
+  pub flagged-strip : (o : ℕ) → o ≡ octet v 0 → tag ≡ 3 → _≡_ {A = Flags} (record { strip = not (eqb o 0); rfc7179 = flags .rfc7179 }) (flaggedBy flags (field tag v))
+  unfolding flaggedBy
+  flagged-strip o is e = rw (e, is)
+
+  pub flagged-edition : flagTag tag ≡ true → (o : ℕ) → o ≡ octet v 0 → (tag ≡ 3 → ⊥) → _≡_ {A = Flags} (record { strip = flags .strip; rfc7179 = eqb o 2 }) (flaggedBy flags (field tag v))
+  unfolding flaggedBy flagTag
+  flagged-edition t o is n = rw (eqb-true tag 6 (rw (ne-eqb tag 3 n) at t), is)
+
+pub ruleset flagged-laws = (needs, flagged-strip, flagged-edition)
 
 -- fuel with which the fields from `at` on, folded from `acc`, give `whole`
 pub record Left {A : Type 0} (step : A → Field → A) (s : List ℕ) (whole : A) (at : ℕ) (acc : A) : Type 0 where
@@ -143,19 +151,22 @@ module _ (s : List ℕ) where
         let less : suc (length s - 1) ≡ length s = omega (arith, i) in
         (rw less at (f (length s - 1) (omega (arith, i))))
 
--- what one more field does to the nickname and MAC, the strip flag and the record that rules
+-- what one more field does to the nickname and MAC, the flags and the record that rules
+abbrev pub flagsOf : Settings → Flags
+flagsOf S = record { strip = S .strip; rfc7179 = S .rfc7179 }
+
 module _ (S : Settings) where
   own-with : (f : Field) → ownOf (waysOf (withField S f)) ≡ ownOf (waysOf S)
   unfolding withField
   own-with cut = refl
   own-with (field tag v) =
-      by-test (eqb tag 2) (λ e. rw e) (λ e. by-test (eqb tag 3) (λ f. rw (e, f)) (λ f. rw (e, f)))
+      by-test (eqb tag 2) (λ e. rw e) (λ e. by-test (eqb tag 3) (λ f. rw (e, f)) (λ f. by-test (eqb tag 6) (λ g. rw (e, f, g)) (λ g. rw (e, f, g))))
 
-  strip-with : (f : Field) → withField S f .strip ≡ flaggedBy (S .strip) f
+  flags-with : (f : Field) → flagsOf (withField S f) ≡ flaggedBy (flagsOf S) f
   unfolding withField flaggedBy
-  strip-with cut = refl
-  strip-with (field tag v) =
-      by-test (eqb tag 2) (λ e. rw (eqb-true tag 2 e)) (λ e. by-test (eqb tag 3) (λ f. rw (e, f)) (λ f. rw (e, f)))
+  flags-with cut = refl
+  flags-with (field tag v) =
+      by-test (eqb tag 2) (λ e. rw (eqb-true tag 2 e)) (λ e. by-test (eqb tag 3) (λ f. rw (e, f)) (λ f. by-test (eqb tag 6) (λ g. rw (e, f, g)) (λ g. rw (e, f, g))))
 
 with-cut : (S : Settings) → withField S cut ≡ S
 unfolding withField
@@ -185,9 +196,9 @@ pub own-fold : (S : Settings) (fs : List Field) → ownOf (waysOf (foldl withFie
 own-fold S [] = refl
 own-fold S (f ∷ fs) = own-fold (withField S f) fs ∙ own-with S f
 
-strip-fold : (S : Settings) (fs : List Field) → foldl withField S fs .strip ≡ foldl flaggedBy (S .strip) fs
-strip-fold S [] = refl
-strip-fold S (f ∷ fs) = strip-fold (withField S f) fs ∙ ap (λ (b : Bool). foldl flaggedBy b fs) (strip-with S f)
+flags-fold : (S : Settings) (fs : List Field) → flagsOf (foldl withField S fs) ≡ foldl flaggedBy (flagsOf S) fs
+flags-fold S [] = refl
+flags-fold S (f ∷ fs) = flags-fold (withField S f) fs ∙ ap (λ (b : Flags). foldl flaggedBy b fs) (flags-with S f)
 
 ruling-fold : (d : ℕ) (S : Settings) (fs : List Field) → ruling (foldl withField S fs .hops) d ≡ foldl (ruledBy d) (ruling (S .hops) d) fs
 ruling-fold d S [] = refl
@@ -203,10 +214,10 @@ module _ (s : List ℕ) {tag size next : ℕ} (e : fieldAt s 0 ≡ Taken tag siz
   pub own-read : ownOf (waysOf (switchOf (part s 3 (next - 3)))) ≡ ownOf (waysOf (settingsRead s))
   own-read = sym (ap (λ (S : Settings). ownOf (waysOf S)) (read-on s e) ∙ own-fold (switchOf (part s 3 (next - 3))) (fieldsFrom (length s) s next))
 
-  pub strip-read : (r : Bool) → FoldedFrom flaggedBy false s next r → r ≡ settingsRead s .strip
-  strip-read r f =
-      rest-folded s e flaggedBy false r f
-      ∙ sym (ap (λ (S : Settings). S .strip) (read-on s e) ∙ strip-fold (switchOf (part s 3 (next - 3))) (fieldsFrom (length s) s next))
+  pub flags-read : (r : Flags) → FoldedFrom flaggedBy noFlags s next r → r ≡ flagsOf (settingsRead s)
+  flags-read r f =
+      rest-folded s e flaggedBy noFlags r f
+      ∙ sym (ap flagsOf (read-on s e) ∙ flags-fold (switchOf (part s 3 (next - 3))) (fieldsFrom (length s) s next))
 
   module _ (d : ℕ) (b : Ruling) (f : FoldedFrom (ruledBy d) Absent s next b) where
     pub rules : ruling (settingsRead s .hops) d ≡ b

@@ -24,7 +24,8 @@ use Rattle.rules.proofs.FieldLaws.{field-read, fields-end, fields-cut, fields-o
 use Rattle.rules.proofs.SettingsLaws.{from-on, from-bad}
 use Rattle.handler.specs.Keys.{keyOf, keyMet, Kept, hopTaken, flagTaken, fieldTaken, withKey, keysWith, Taking, Verdict}
 use Rattle.handler.proofs.Taken.{taken}
-use Rattle.handler.proofs.KeyLaws.{met-snoc, key-same, keys-hop, keys-other, refused, unchanged, hop-long, taking-hop, field-flag, flag-length}
+use Rattle.handler.proofs.FlagLaws.{flag-continues}
+use Rattle.handler.proofs.KeyLaws.{met-snoc, key-same, keys-hop, keys-other, refused, unchanged, hop-long, taking-hop, field-flag}
 
 serial-snoc : (r q : NextHop) (hops : List NextHop)
     → serialMet r (hops ++ (q ∷ [])) ≡ (serialMet r hops || (eqb (q .destination) (r .destination) && eqb (q .serial) (r .serial)))
@@ -61,7 +62,8 @@ module _ (T : Settings) (tag : ℕ) (v : List ℕ) where
 
   pub with-other : (tag ≡ 2 → ⊥) → withField T (field tag v) .hops ≡ T .hops
   unfolding withField
-  with-other h = by-test (eqb tag 3) (λ e. rw (ne-eqb tag 2 h, e)) (λ e. rw (ne-eqb tag 2 h, e))
+  with-other h =
+      by-test (eqb tag 3) (λ e. rw (ne-eqb tag 2 h, e)) (λ e. by-test (eqb tag 6) (λ g. rw (ne-eqb tag 2 h, e, g)) (λ g. rw (ne-eqb tag 2 h, e, g)))
 
   agree-with : (met : List ℕ) → Agree (T .hops) met → Agree (withField T (field tag v) .hops) (keysWith met tag v)
   agree-with met a =
@@ -74,21 +76,11 @@ module _ (T : Settings) (v met : List ℕ) (n : ℕ) where
   unfolding continues lengthGood fieldTaken hopTaken
   continues-hop c e = rw (c, e)
 
-  pub continues-flag : continues T (field 3 v) ≡ fieldTaken met n 3 v
-  unfolding continues lengthGood fieldTaken flagTaken
-  continues-flag = refl
-
-  pub continues-other : (tag : ℕ) → (tag ≡ 2 → ⊥) → (tag ≡ 3 → ⊥) → continues T (field tag v) ≡ fieldTaken met n tag v
-  unfolding continues fieldTaken flagTaken
-  continues-other tag h k = rw (ne-eqb tag 2 h, ne-eqb tag 3 k) (and-no (lengthGood tag (length v)))
-
   continues-taken : (tag : ℕ) → length met ≡ n → Agree (T .hops) met → continues T (field tag v) ≡ fieldTaken met n tag v
   continues-taken tag c a =
       by-test (eqb tag 2)
       (λ e. rw (eqb-true tag 2 e) (continues-hop (a .count ∙ c) (a .alike (hopOf v) (omega arith))))
-      (λ e. by-test (eqb tag 3)
-      (λ f. rw (eqb-true tag 3 f) continues-flag)
-      (λ f. continues-other tag (eqb-false tag 2 e) (eqb-false tag 3 f)))
+      (λ e. sym (field-flag met n tag v (eqb-false tag 2 e) ∙ flag-continues T tag v (eqb-false tag 2 e)))
 
 pub continues-cut : (T : Settings) → continues T cut ≡ false
 unfolding continues

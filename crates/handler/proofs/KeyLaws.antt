@@ -8,13 +8,14 @@ use native.Mathlib.Omega.{arith}
 use native.Mathlib.Numerals.{add-one}
 use borrow.Author.Needs.{needs}
 use borrow.Author.Tests.{eqb-true, eqb-false, eq-eqb, ne-eqb, lt-ltb, le-leb, not-true, not-false}
-use lib.Dec.{ltb, eqb}
+use lib.Dec.{ltb, leb, eqb}
 use lib.ListN.{length, getD, take, set, length-set}
 use lib.Seq.{slice, slice-cons, slice-empty, getD-set-same, getD-set-other, take-suc-set}
+use Rattle.rules.specs.Octets.{octet}
 use Rattle.rules.specs.Fields.{hopSize}
 use Rattle.rules.specs.Settings.{hopGood, hopOf, hopsMost, stripGood}
 use Rattle.rules.proofs.TestLaws.{by-test, and-true, and-no, or-no, or-yes}
-use Rattle.handler.specs.Keys.{keyOf, mixOf, slotBy, markBy, markedBy, coversBy, keyMet, Marked, Kept, hopTaken, flagTaken, fieldTaken, withKey, keysWith, Taking}
+use Rattle.handler.specs.Keys.{keyOf, mixOf, slotBy, markBy, markedBy, coversBy, keyMet, Marked, Kept, hopTaken, flagTag, flagValue, flagTaken, fieldTaken, withKey, keysWith, Taking}
 
 -- the scan: what it has found, or finds from place i on, is whether the key is met
 module _ (key : ℕ) (keys : List ℕ) (n i : ℕ) (found : Bool) (was : (found || keyMet key (slice i n keys)) ≡ keyMet key (take n keys)) where
@@ -209,25 +210,49 @@ module _ (keys : List ℕ) (n tag : ℕ) (v : List ℕ) where
   unfolding fieldTaken
   field-flag h = rw (ne-eqb tag 2 h)
 
--- a strip flag
-module _ (tag : ℕ) (v : List ℕ) where
-  pub flag-other : (tag ≡ 3 → ⊥) → flagTaken tag v ≡ false
-  unfolding flagTaken
-  flag-other h = rw (ne-eqb tag 3 h)
+-- a flag
+pub flag-three : (tag : ℕ) → tag ≡ 3 → true ≡ flagTag tag
+unfolding flagTag
+flag-three tag e = rw e
 
-  pub flag-long : (length v ≡ 1 → ⊥) → flagTaken tag v ≡ false
-  unfolding flagTaken
-  flag-long h = rw (ne-eqb (length v) 1 h, and-no)
+pub flag-six : (tag : ℕ) → (tag ≡ 3 → ⊥) → eqb tag 6 ≡ flagTag tag
+unfolding flagTag
+flag-six tag n = rw (ne-eqb tag 3 n)
 
-  pub flag-so : tag ≡ 3 → length v ≡ 1 → stripGood v ≡ flagTaken tag v
-  unfolding flagTaken
-  flag-so b c = rw (b, c)
+pub ruleset flag-tag-laws = (needs, flag-three, flag-six)
 
-  pub flag-tag : flagTaken tag v ≡ true → tag ≡ 3
-  unfolding flagTaken
-  flag-tag t = eqb-true tag 3 (and-true (eqb tag 3) (eqb (length v) 1 && stripGood v) t .0)
+module _ (tag : ℕ) (v : List ℕ) (o : ℕ) (is : o ≡ octet v 0) where
+  pub value-strip : tag ≡ 3 → leb o 1 ≡ flagValue tag v
+  unfolding flagValue
+  value-strip e = rw (e, is)
 
-  pub flag-length : flagTaken tag v ≡ true → length v ≡ 1
+  module _ (n : tag ≡ 3 → ⊥) where
+    pub value-one : o ≡ 1 → true ≡ flagValue tag v
+    unfolding flagValue
+    value-one e = rw (ne-eqb tag 3 n, ← is, e)
+
+    pub value-two : (o ≡ 1 → ⊥) → eqb o 2 ≡ flagValue tag v
+    unfolding flagValue
+    value-two e = rw (ne-eqb tag 3 n, ← is, ne-eqb o 1 e)
+
+pub ruleset flag-value-laws = (needs, value-strip, value-one, value-two)
+
+module _ (tag : ℕ) (v : List ℕ) (is : Bool) (t : is ≡ flagTag tag) where
+  pub flag-other : not is ≡ true → false ≡ flagTaken tag v
   unfolding flagTaken
-  flag-length t =
-      eqb-true (length v) 1 (and-true (eqb (length v) 1) (stripGood v) (and-true (eqb tag 3) (eqb (length v) 1 && stripGood v) t .1) .0)
+  flag-other n = rw (← t, not-true is n)
+
+  module _ (n : not is ≡ false) where
+    pub flag-long : (length v ≡ 1 → ⊥) → false ≡ flagTaken tag v
+    unfolding flagTaken
+    flag-long h = rw (← t, not-false is n, ne-eqb (length v) 1 h)
+
+    pub flag-so : length v ≡ 1 → (ok : Bool) → ok ≡ flagValue tag v → ok ≡ flagTaken tag v
+    unfolding flagTaken
+    flag-so h ok g = rw (← t, not-false is n, eq-eqb (length v) 1 h) g
+
+pub ruleset flag-good-laws = (needs, flag-other, flag-long, flag-so)
+
+pub flag-tag : (tag : ℕ) (v : List ℕ) → flagTaken tag v ≡ true → flagTag tag ≡ true
+unfolding flagTaken
+flag-tag tag v t = and-true (flagTag tag) (eqb (length v) 1 && flagValue tag v) t .0

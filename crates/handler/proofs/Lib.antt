@@ -1,4 +1,5 @@
 pub mod Words
+pub mod ExtensionLaws
 pub mod TreatmentLaws
 pub mod Walks
 pub mod Stages
@@ -8,11 +9,13 @@ pub mod Replies
 pub mod Rests
 pub mod Bodies
 pub mod Taken
+pub mod FlagLaws
 pub mod KeyLaws
 pub mod JudgeLaws
 pub mod FieldWalks
 pub mod ChannelLaws
 pub mod StageLaws
+pub mod RouteLaws
 pub mod StoreLaws
 pub mod WayOutLaws
 pub mod RulingLaws

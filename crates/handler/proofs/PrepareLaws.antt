@@ -8,7 +8,7 @@ use mathlib.Core.Option.{Option, none, some}
 use native.Mathlib.Omega.{arith}
 use native.Mathlib.Numerals.{add-one}
 use borrow.Author.Needs.{needs}
-use borrow.Author.Tests.{lt-ltb, le-ltb, lt-leb, le-leb, eq-eqb, ne-eqb, ltb-true, leb-true, not-true, not-false}
+use borrow.Author.Tests.{lt-ltb, le-ltb, lt-leb, le-leb, eq-eqb, ne-eqb, ltb-true, leb-true, not-true, not-false, eqb-true, eqb-false}
 use lib.Dec.{ltb, leb, eqb}
 use lib.ListN.{length, getD, set, drop, length-set, List·getD-append}
 use lib.Bits.{bitOr}
@@ -33,12 +33,13 @@ use Rattle.handler.specs.declared.way.Own.{Own}
 use Rattle.handler.specs.Keys.{keyOf}
 use Rattle.handler.specs.Store.{countIn, waysIn, storeGood, handledIn, Stands, Roomy, Filled, Fills, Hinted, preparing, Prepared}
 use Rattle.handler.specs.Insert.{storeKey, storeValue, placeFor, metAt, metIn, putIn, insertedIn, Shifted}
-use Rattle.handler.specs.Extend.{withSwitch, opensIn, Opens, roomIn, countBy, metBy, addedTo, recordCode, flagCode, extending, extended, Extends}
+use Rattle.handler.specs.Extend.{withSwitch, opensIn, Opens, roomIn, countBy, metBy, addedTo, recordCode, flagCode, flagWord, FlagIn, extending, extended, Extends}
+use Rattle.handler.specs.Keys.{flagTag, flagValue}
 use Rattle.handler.proofs.Taken.{taken, taken-first}
 use Rattle.handler.proofs.JudgeLaws.{continues-cut, first, settings-open, settings-shut, settings-bad, settings-cut}
 use Rattle.handler.proofs.FieldWalks.{own-fold, opened-field}
 use Rattle.handler.proofs.InsertLaws.{met-past, met-there, place-none, place-here, place-below, placed, Shifting, shifting-begin, shifting-on, shifting-end, put-done, put-is, inserted-met, inserted-new, with-record}
-use Rattle.handler.proofs.ExtendLaws.{Ample, extending-2, extending-3, extending-other, extended-not, extended-2, extended-3, record-long, extending-continues, extended-stands, extended-long, extended-few, switch-stands, switch-counts, switch-long, says, is-good, stands-too}
+use Rattle.handler.proofs.ExtendLaws.{Ample, extending-2, extending-flag, extended-not, extended-2, extended-flag, record-long, extending-continues, extended-stands, extended-long, extended-few, switch-stands, switch-counts, switch-long, says, is-good, stands-too}
 
 -- the place for a rank, from behind
 pub record Placing (w : List ℕ) (n rank i : ℕ) : Type 0 where
@@ -289,55 +290,75 @@ add-three u w n key value q long = omega (arith, add-size u w n key value q long
 pub ruleset add-laws = (needs, add-met, add-same, add-taken, add-words, add-size, add-three)
 
 -- a flag
-module _ (w v : List ℕ) where
-  refused-3 : (code : ℕ) → 0 < code → flagCode w v ≡ code → Extends w 3 v code w
-  refused-3 code z e =
-      let is : extending w 3 v ≡ code = extending-3 w v ∙ e in
-      record { code = sym is; words = sym (extended-not w v 3 (λ q. absurd (omega (arith, q, is)))) }
+module _ (w : List ℕ) (tag : ℕ) (v : List ℕ) where
+  refused-flag : (code : ℕ) → 0 < code → flagCode w tag v ≡ code → FlagIn w tag v code w
+  refused-flag code z e = record { code = sym e; words = rw (e, ne-eqb code 0 (omega arith)) }
 
-  long-3 : lengthGood 3 (length v) ≡ eqb (length v) 1
-  unfolding lengthGood
-  long-3 = refl
-
-  pub flag-long : (length v ≡ 1 → ⊥) → Extends w 3 v 42 w
-  unfolding flagCode
-  flag-long h = refused-3 42 (omega arith) (rw (flagCode, long-3, ne-eqb (length v) 1 h))
-
-  module _ (long : length v ≡ 1) (b : ℕ) (is : b ≡ octet v 0) where
-    pub flag-bad : 1 < b → Extends w 3 v 44 w
+  module _ (is : Bool) (t : is ≡ flagTag tag) where
+    pub flag-other : not is ≡ true → FlagIn w tag v 43 w
     unfolding flagCode
-    flag-bad h = refused-3 44 (omega arith) (rw (flagCode, long-3, eq-eqb (length v) 1 long, ← is, lt-leb b 1 h))
+    flag-other n = refused-flag 43 (omega arith) (rw (flagCode, ← t, n))
 
-    module _ (h : b ≤ 1) where
-      pub flag-short : length w < 4 → Extends w 3 v 46 w
+    module _ (n : not is ≡ false) where
+      pub flag-long : (length v ≡ 1 → ⊥) → FlagIn w tag v 42 w
       unfolding flagCode
-      flag-short l = refused-3 46 (omega arith) (rw (flagCode, long-3, eq-eqb (length v) 1 long, ← is, le-leb b 1 h, lt-ltb (length w) 4 l))
+      flag-long h = refused-flag 42 (omega arith) (rw (flagCode, ← t, n, ne-eqb (length v) 1 h))
 
-      pub flag-taken : 4 ≤ length w → (c : ℕ) → c ≡ octet v 0 → Extends w 3 v 0 (set w 2 c)
-      unfolding flagCode
-      flag-taken l c q =
-          let z : extending w 3 v ≡ 0 = extending-3 w v ∙ rw (flagCode, long-3, eq-eqb (length v) 1 long, ← is, le-leb b 1 h, le-ltb (length w) 4 l) in
-          record { code = sym z; words = rw q (sym (extended-3 w v z)) }
+      module _ (long : length v ≡ 1) (ok : Bool) (g : ok ≡ flagValue tag v) where
+        pub flag-bad : not ok ≡ true → FlagIn w tag v 44 w
+        unfolding flagCode
+        flag-bad h = refused-flag 44 (omega arith) (rw (flagCode, ← t, n, eq-eqb (length v) 1 long, ← g, h))
 
-pub ruleset flag-laws = (needs, flag-long, flag-bad, flag-short, flag-taken)
+        module _ (h : not ok ≡ false) where
+          pub flag-short : length w < 4 → FlagIn w tag v 46 w
+          unfolding flagCode
+          flag-short l = refused-flag 46 (omega arith) (rw (flagCode, ← t, n, eq-eqb (length v) 1 long, ← g, h, lt-ltb (length w) 4 l))
+
+          pub flag-taken : 4 ≤ length w → (c : ℕ) → c ≡ flagWord (getD w 2 0) tag (octet v 0) → FlagIn w tag v 0 (set w 2 c)
+          unfolding flagCode
+          flag-taken l c q =
+              let z : flagCode w tag v ≡ 0 = rw (flagCode, ← t, n, eq-eqb (length v) 1 long, ← g, h, le-ltb (length w) 4 l) in
+              record { code = sym z; words = rw (q, z) }
+
+pub ruleset flag-laws = (needs, flag-other, flag-long, flag-bad, flag-short, flag-taken)
+
+-- the word of the flags
+module _ (x tag : ℕ) (v : List ℕ) (o : ℕ) (is : o ≡ octet v 0) where
+  pub word-strip : tag ≡ 3 → x / 2 % 2 * 2 + o ≡ flagWord x tag (octet v 0)
+  word-strip e = rw (e, is)
+
+  module _ (n : tag ≡ 3 → ⊥) where
+    pub word-two : o ≡ 2 → 2 + x % 2 ≡ flagWord x tag (octet v 0)
+    word-two e = rw (ne-eqb tag 3 n, ← is, e)
+
+    pub word-one : (o ≡ 2 → ⊥) → x % 2 ≡ flagWord x tag (octet v 0)
+    word-one e = rw (ne-eqb tag 3 n, ← is, ne-eqb o 2 e) (omega arith)
+
+pub ruleset flag-word-laws = (needs, word-strip, word-two, word-one)
 
 -- by the tag
 module _ (w : List ℕ) (tag : ℕ) (v : List ℕ) where
   pub extend-2 : (r : ℕ) (u : List ℕ) → tag ≡ 2 → Extends w 2 v r u → Extends w tag v r u
   extend-2 r u e t = rw e t
 
-  pub extend-3 : (r : ℕ) (u : List ℕ) → tag ≡ 3 → Extends w 3 v r u → Extends w tag v r u
-  extend-3 r u e t = rw e t
+  pub extend-flag : (r : ℕ) (u : List ℕ) → (tag ≡ 2 → ⊥) → FlagIn w tag v r u → Extends w tag v r u
+  extend-flag r u n t =
+      let is = extending-flag w v tag n in
+      record {
+        code = t .code ∙ sym is;
+        words =
+            by-test (eqb (flagCode w tag v) 0)
+            (λ z. t .words ∙ rw (z, extended-flag w v tag n (is ∙ eqb-true (flagCode w tag v) 0 z)))
+            (λ z. t .words ∙ rw (z, extended-not w v tag (λ q. eqb-false (flagCode w tag v) 0 z (sym is ∙ q))));
+      }
 
-  pub extend-other : (tag ≡ 2 → ⊥) → (tag ≡ 3 → ⊥) → Extends w tag v 43 w
-  extend-other a b =
-      let is = extending-other w v tag a b in
-      record { code = sym is; words = sym (extended-not w v tag (λ q. absurd (omega (arith, q, is)))) }
+  pub flag-same : (r : ℕ) (u : List ℕ) → FlagIn w tag v r u → length u ≡ length w
+  flag-same r u t = by-test (eqb (flagCode w tag v) 0) (λ z. ap length (t .words) ∙ rw (z, length-set)) (λ z. ap length (t .words) ∙ rw z)
 
   pub extend-long : (r : ℕ) (u : List ℕ) → Extends w tag v r u → length u ≡ length w
   extend-long r u e = ap length (e .words) ∙ extended-long w tag v
 
-pub ruleset extend-laws = (needs, extend-2, extend-3, extend-other, extend-long)
+pub ruleset extend-laws = (needs, extend-2, extend-flag, flag-same, extend-long)
 
 roomy-ample : (w : List ℕ) → Roomy w → Ample w
 roomy-ample w r = record { opened = omega (arith, r .size); room = λ h. omega (arith, r .size) }
@@ -633,9 +654,9 @@ module _ (s : List ℕ) (words : ℕ) where
   unfolding preparing
   answer-done T e h = rw (preparing, e, le-ltb words 164 h)
 
-in-good : (w : List ℕ) → storeGood w ≡ true → (clock : List ℕ) (room : ℕ) (f : List ℕ) → handledIn w clock room f ≡ handledWith (waysIn w) clock room f
+in-good : (w : List ℕ) → storeGood w ≡ true → (clock : List ℕ) (room besideRoom : ℕ) (f : List ℕ) → handledIn w clock room besideRoom f ≡ handledWith (waysIn w) clock room besideRoom f
 unfolding handledIn
-in-good w g clock room f = rw g
+in-good w g clock room besideRoom f = rw g
 
 module _ (s store w : List ℕ) (ok : Bool) (f : Filled w (settingsOf s) ok) where
   refusal : (r : ℕ) → 0 < r → r ≡ preparing s (length store) → Prepared s store store r
@@ -665,7 +686,7 @@ module _ (s store w : List ℕ) (ok : Bool) (f : Filled w (settingsOf s) ok) whe
           told = answer-done s (length store) T e room;
           refused = λ z. absurd (z refl);
           says = λ U z g. (good, says out T st ∙ ap waysOf (cc (sym e ∙ g)));
-          handles = λ z clock r frame. in-good out good clock r frame ∙ ap (λ (W : S.Ways). handledWith W clock r frame) (says out T st) ∙ sym (settings-good s clock r frame T e);
+          handles = λ z clock r b frame. in-good out good clock r b frame ∙ ap (λ (W : S.Ways). handledWith W clock r b frame) (says out T st) ∙ sym (settings-good s clock r b frame T e);
           beyond = ap (drop 164) whole ∙ drop-at w (drop 164 store) 164 long;
         }
 

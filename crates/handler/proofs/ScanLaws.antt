@@ -3,7 +3,7 @@
 use Prim.Native.Nat.{ℕ, _+_, _-_, _≤_, _<_}
 use mathlib.Core.Path.{_≡_, refl, sym, ap, _∙_}
 use mathlib.Core.List.{List}
-use mathlib.Core.Bool.{Bool, true, false, not, false≢true}
+use mathlib.Core.Bool.{Bool, true, false, not, true≢false, false≢true}
 use mathlib.Core.Option.{Option, none, some}
 use native.Mathlib.Omega.{arith}
 use borrow.Author.Needs.{needs}
@@ -12,9 +12,9 @@ use lib.Dec.{eqb}
 use lib.ListN.{length, take, replicate}
 use Rattle.rules.specs.Octets.{octet, be16, part}
 use Rattle.rules.specs.Fields.{field, fieldAt}
-use Rattle.rules.specs.Settings.{Settings, newer, hopOf, opens, settingsOf, settingsRead, waysOf}
+use Rattle.rules.specs.Settings.{Settings, Ways, newer, hopOf, opens, settingsOf, settingsRead, waysOf}
 use Rattle.rules.specs.Campus.{known}
-use Rattle.rules.specs.Handling.{handledWith, handled, outputAfter}
+use Rattle.rules.specs.Handling.{routed, handled}
 use Rattle.rules.specs.Answer as A
 use Rattle.rules.specs.declared.NextHop.{NextHop}
 use Rattle.rules.specs.declared.Ruling.{Ruling}
@@ -25,37 +25,42 @@ use Rattle.rules.proofs.OctetLaws.{put-none}
 use Rattle.rules.proofs.FieldLaws.{field-read}
 use Rattle.rules.proofs.SettingsLaws.{settings-read}
 use Rattle.rules.proofs.HandlingLaws.{settings-bad, settings-good}
-use Rattle.handler.specs.declared.answers.Handled.{Handled}
-use Rattle.handler.specs.declared.Routed.{Routed}
+use Rattle.handler.specs.declared.answers.Answer.{Answer}
 use Rattle.handler.specs.declared.way.Own.{Own}
 use Rattle.handler.specs.declared.way.Told.{Told}
-use Rattle.handler.specs.declared.handling.Examined.{Examined}
+use Rattle.handler.specs.declared.handling.Task.{Task}
+use Rattle.handler.specs.declared.handling.Received.{Received}
+use Rattle.handler.specs.declared.handling.Received.the-variants.{Answered, Trill}
+use Rattle.handler.specs.declared.judged.Flags.{Flags}
+use Rattle.rules.specs.declared.Header.{Header}
 use Rattle.handler.specs.declared.judged.Scan.{Scan}
 use Rattle.handler.specs.declared.judged.Judged.{Judged}
-use Rattle.handler.specs.Keys.{hopTaken, withKey, flagTaken, Taking, Kept, Verdict, Scanned, JudgedBy}
-use Rattle.handler.specs.Shapes.{numbersOf, answerOf, routedOf, toldBy, ownOf, onlyFor, waysBy, ruledBy, flaggedBy, unlessWithdrawn, Done}
-use Rattle.handler.specs.Tasks.{doneBy, askedBy, Examining}
+use Rattle.handler.specs.Keys.{hopTaken, withKey, flagTag, flagTaken, Taking, Kept, Verdict, Scanned, JudgedBy}
+use Rattle.handler.specs.Shapes.{answerOf, droppedBy, ownOf, onlyFor, waysBy, ruledBy, noFlags, flaggedBy, unlessWithdrawn, Ready}
+use Rattle.handler.specs.Tasks.{answerBy, doneBy, wantedBy, alertsBy, Left, Routes, Receiving, Both}
+use Rattle.handler.specs.Calls as Calls
+use Rattle.handler.specs.Calls.{unlessBad, BackBy, ToldOf}
 use Rattle.handler.proofs.Taken.{taken, taken-first}
 use Rattle.handler.proofs.KeyLaws.{flag-tag}
 use Rattle.handler.proofs.JudgeLaws as J
 use Rattle.handler.proofs.JudgeLaws.{Judging, keys-count, seen-count}
-use Rattle.handler.proofs.FieldWalks.{Folding, fold-begin, fold-end, fold-on, newer-other, ruled-hop, ruled-other, flagged-so, flagged-other, rules, strip-read}
+use Rattle.handler.proofs.FieldWalks.{Folding, fold-begin, fold-end, fold-on, newer-other, ruled-hop, ruled-other, flagged-hop, rules, flags-read}
 use Rattle.handler.proofs.LookupLaws.{next-hop}
-use Rattle.handler.proofs.StageLaws.{told-answer, told-after, tells}
+use Rattle.handler.proofs.RouteLaws.{kept, tells, routed-done}
 
 -- what the loop keeps
-pub record Scanning (s : List ℕ) (from d : ℕ) (keys seen : List ℕ) (n : ℕ) (best : Ruling) (strip : Bool) (at : ℕ) : Type 0 where
+pub record Scanning (s : List ℕ) (from d : ℕ) (keys seen : List ℕ) (n : ℕ) (best : Ruling) (flags : Flags) (at : ℕ) : Type 0 where
   pub judging : Judging s from keys seen n at
   pub ruled : Folding (ruledBy d) Absent s from at best
-  pub flagged : Folding flaggedBy false s from at strip
+  pub flagged : Folding flaggedBy noFlags s from at flags
 
-pub scan-begin : (s : List ℕ) (from d : ℕ) → from ≤ length s → Scanning s from d (replicate 64 0) (replicate 256 0) 0 Absent false from
-scan-begin s from d h = record { judging = J.begins s from h; ruled = fold-begin (ruledBy d) Absent s from h; flagged = fold-begin flaggedBy false s from h }
+pub scan-begin : (s : List ℕ) (from d : ℕ) → from ≤ length s → Scanning s from d (replicate 64 0) (replicate 256 0) 0 Absent noFlags from
+scan-begin s from d h = record { judging = J.begins s from h; ruled = fold-begin (ruledBy d) Absent s from h; flagged = fold-begin flaggedBy noFlags s from h }
 
 bad-scanned : (s : List ℕ) (from d : ℕ) (r : Scan) → r .good ≡ false → Verdict s from false → Scanned s from d r
 bad-scanned s from d r b v = record { verdict = rw b v; ruled = λ t. absurd (false≢true (sym b ∙ t)); flagged = λ t. absurd (false≢true (sym b ∙ t)) }
 
-module _ (s : List ℕ) (from d : ℕ) (keys seen : List ℕ) (n : ℕ) (best : Ruling) (strip : Bool) (at : ℕ) (l : Scanning s from d keys seen n best strip at) where
+module _ (s : List ℕ) (from d : ℕ) (keys seen : List ℕ) (n : ℕ) (best : Ruling) (flags : Flags) (at : ℕ) (l : Scanning s from d keys seen n best flags at) where
   pub scan-kept : Kept keys seen n
   scan-kept = l .judging .kept
 
@@ -65,8 +70,8 @@ module _ (s : List ℕ) (from d : ℕ) (keys seen : List ℕ) (n : ℕ) (best : 
   pub scan-256 : 256 ≡ length seen
   scan-256 = seen-count (l .judging .kept)
 
-  pub scan-end : length s ≤ at → Scanned s from d (record { good = true; strip = strip; best = best })
-  scan-end h = record { verdict = J.ends (l .judging) h; ruled = λ t. fold-end (ruledBy d) Absent s from at best (l .ruled) h; flagged = λ t. fold-end flaggedBy false s from at strip (l .flagged) h }
+  pub scan-end : length s ≤ at → Scanned s from d (record { good = true; flags = flags; best = best })
+  scan-end h = record { verdict = J.ends (l .judging) h; ruled = λ t. fold-end (ruledBy d) Absent s from at best (l .ruled) h; flagged = λ t. fold-end flaggedBy noFlags s from at flags (l .flagged) h }
 
   module _ (h : at < length s) (read : FieldRead) (q : read ≡ fieldAt s at) where
     pub scan-cut : (r : Scan) → r .good ≡ false → read ≡ Cut → Scanned s from d r
@@ -81,31 +86,33 @@ module _ (s : List ℕ) (from d : ℕ) (keys seen : List ℕ) (n : ℕ) (best : 
         scan-hop-bad r b x = bad-scanned s from d r b (J.hop-stops (l .judging) h q t two k x)
 
         -- with the record, and past one of another destination
-        pub scan-hop : (best′ : Ruling) → best′ ≡ newer d best (hopOf v) → m ≤ 64 → Scanning s from d keys′ seen′ m best′ strip next
+        pub scan-hop : (best′ : Ruling) → best′ ≡ newer d best (hopOf v) → m ≤ 64 → Scanning s from d keys′ seen′ m best′ flags next
         scan-hop best′ e x =
             record {
               judging = J.hop-on (l .judging) h q t two k x;
               ruled = fold-on (ruledBy d) Absent s from at best (l .ruled) h read q tag size next t best′ (e ∙ ruled-hop d best tag v two);
-              flagged = fold-on flaggedBy false s from at strip (l .flagged) h read q tag size next t strip (flagged-other strip tag v (omega arith));
+              flagged = fold-on flaggedBy noFlags s from at flags (l .flagged) h read q tag size next t flags (flagged-hop flags tag v two);
             }
 
-        pub scan-past : (word : ℕ) → word ≡ be16 v 0 → (word ≡ d → ⊥) → m ≤ 64 → Scanning s from d keys′ seen′ m best strip next
+        pub scan-past : (word : ℕ) → word ≡ be16 v 0 → (word ≡ d → ⊥) → m ≤ 64 → Scanning s from d keys′ seen′ m best flags next
         scan-past word w e = scan-hop best (newer-other d (hopOf v) best (λ x. e (w ∙ x)))
 
       module _ (other : tag ≡ 2 → ⊥) (ok : Bool) (is : ok ≡ flagTaken tag v) where
         pub scan-flag-bad : (r : Scan) → r .good ≡ false → not ok ≡ true → Scanned s from d r
         scan-flag-bad r b x = bad-scanned s from d r b (J.flag-stops (l .judging) h q t other is x)
 
-        pub scan-flag : (o : ℕ) → o ≡ octet v 0 → not ok ≡ false → Scanning s from d keys seen n best (not (eqb o 0)) next
-        scan-flag o e x =
-            let so = sym is ∙ not-false ok x in
+        pub scan-flag : (flags′ : Flags) → flags′ ≡ flaggedBy flags (field tag v) → not ok ≡ false → Scanning s from d keys seen n best flags′ next
+        scan-flag flags′ e x =
             record {
               judging = J.flag-on (l .judging) h q t other is x;
               ruled = fold-on (ruledBy d) Absent s from at best (l .ruled) h read q tag size next t best (ruled-other d best tag v other);
-              flagged = fold-on flaggedBy false s from at strip (l .flagged) h read q tag size next t (not (eqb o 0)) (ap (λ (y : ℕ). not (eqb y 0)) e ∙ flagged-so strip tag v (flag-tag tag v so));
+              flagged = fold-on flaggedBy noFlags s from at flags (l .flagged) h read q tag size next t flags′ e;
             }
 
-pub ruleset scan-laws = (needs, taken, scan-begin, scan-kept, scan-64, scan-256, scan-end, scan-cut, scan-hop-bad, scan-hop, scan-past, scan-flag-bad, scan-flag)
+        pub scan-tag : not ok ≡ false → flagTag tag ≡ true
+        scan-tag x = flag-tag tag v (sym is ∙ not-false ok x)
+
+pub ruleset scan-laws = (needs, taken, scan-begin, scan-kept, scan-64, scan-256, scan-end, scan-cut, scan-hop-bad, scan-hop, scan-past, scan-flag-bad, scan-flag, scan-tag)
 
 -- the record unless it is withdrawn
 module _ (best : Ruling) where
@@ -137,50 +144,124 @@ module _ (s : List ℕ) (d : ℕ) (read : FieldRead) (q : read ≡ fieldAt s 0) 
     judged-shut r b x = bad-judged s d r b (J.settings-bad s (sym q ∙ t) (sym (rw held at is) ∙ not-true o x))
 
     pub judged-scan : (own : Own) (scan : Scan) (hop : Ruling) → not o ≡ false → Scanned s next d scan → hop ≡ unlessWithdrawn (scan .best) → own ≡ ownOf (waysOf (settingsRead s))
-        → JudgedBy s d (record { good = scan .good; told = record { own = own; strip = scan .strip; hop = hop } })
+        → JudgedBy s d (record { good = scan .good; told = record { own = own; strip = scan .flags .strip; rfc7179 = scan .flags .rfc7179; hop = hop } })
     judged-scan own scan hop x y z w =
         record {
           judged = J.settings-so s (sym q ∙ t) (scan .good) (sym (rw held at is) ∙ not-false o x) (y .verdict);
           tells = λ g.
-              tells (waysOf (settingsRead s)) d own (scan .strip) hop w (strip-read s (sym q ∙ t) (scan .strip) (y .flagged g))
+              let said = flags-read s (sym q ∙ t) (scan .flags) (y .flagged g) in
+              tells (waysOf (settingsRead s)) d own (scan .flags .strip) (scan .flags .rfc7179) hop w (ap (λ (x : Flags). x .strip) said) (ap (λ (x : Flags). x .rfc7179) said)
               (z ∙ ap unlessWithdrawn (sym (rules s (sym q ∙ t) d (scan .best) (y .ruled g))) ∙ sym (next-hop (settingsRead s) d));
         }
 
 pub ruleset judge-laws = (needs, taken, taken-first, judged-cut, judged-shut, judged-scan)
 
 -- the call: bad settings, and good ones
-module _ (s clock f out : List ℕ) (d : ℕ) (j : Judged) (is : JudgedBy s d j) where
-  module _ (n : not (j .good) ≡ true) where
-    handled-bad : handled s clock (length out) f ≡ A.dropped 1
-    handled-bad = go (settingsOf s) refl (sym (is .judged) ∙ not-true (j .good) n)
-      where
-        go : (w : Option Settings) → settingsOf s ≡ w → known (settingsOf s) ≡ false → handled s clock (length out) f ≡ A.dropped 1
-        go none e k = settings-bad s clock (length out) f e
-        go (some T) e k = absurd (false≢true (sym k ∙ ap known e))
+module _ (s : List ℕ) (d : ℕ) (j : Judged) (is : JudgedBy s d j) where
+  settings-none : not (j .good) ≡ true → settingsOf s ≡ none
+  settings-none n = go (settingsOf s) refl (sym (is .judged) ∙ not-true (j .good) n)
+    where
+      go : (w : Option Settings) → settingsOf s ≡ w → known (settingsOf s) ≡ false → settingsOf s ≡ none
+      go none e k = e
+      go (some T) e k = absurd (false≢true (sym k ∙ ap known e))
 
-    pub trill-bad : (r : Handled) (told : Routed) → told ≡ toldBy r → r ≡ numbersOf (A.dropped 1) → told .answer ≡ answerOf (handled s clock (length out) f)
-    trill-bad r told t e = ap (λ (x : Routed). x .answer) (t ∙ ap toldBy e) ∙ sym (ap answerOf handled-bad)
+  settings-some : not (j .good) ≡ false → settingsOf s ≡ some (settingsRead s)
+  settings-some n = go (settingsOf s) refl (sym (is .judged) ∙ not-false (j .good) n)
+    where
+      go : (w : Option Settings) → settingsOf s ≡ w → known (settingsOf s) ≡ true → settingsOf s ≡ some (settingsRead s)
+      go none e k = absurd (false≢true (sym (ap known e) ∙ k))
+      go (some T) e k = e ∙ ap some (sym (settings-read s T e))
 
-    pub trill-bad-after : out ≡ outputAfter out (handled s clock (length out) f)
-    trill-bad-after = sym (ap (outputAfter out) handled-bad ∙ put-none out 0)
+  -- a frame that was answered before its area was read
+  pub early-bad : not (j .good) ≡ true → (received : Received) (r : Answer) → r ≡ droppedBy 1 0 → r ≡ unlessBad s received
+  unfolding Calls.unlessBad
+  early-bad n received r e = rw (Calls.unlessBad, settings-none n) e
 
-  module _ (n : not (j .good) ≡ false) where
-    handled-good : handled s clock (length out) f ≡ handledWith (waysOf (settingsRead s)) clock (length out) f
-    handled-good = go (settingsOf s) refl (sym (is .judged) ∙ not-false (j .good) n)
-      where
-        go : (w : Option Settings) → settingsOf s ≡ w → known (settingsOf s) ≡ true → handled s clock (length out) f ≡ handledWith (waysOf (settingsRead s)) clock (length out) f
-        go none e k = absurd (false≢true (sym (ap known e) ∙ k))
-        go (some T) e k = settings-good s clock (length out) f T e ∙ ap (λ (x : Settings). handledWith (waysOf x) clock (length out) f) (sym (settings-read s T e))
+  pub early-good : not (j .good) ≡ false → (received : Received) (a : Answer) → received ≡ Answered a → a ≡ unlessBad s received
+  unfolding Calls.unlessBad
+  early-good n received a e = rw (Calls.unlessBad, settings-some n, e)
 
-    module _ (own : Own) (e : Examined) (r : Handled) (out′ : List ℕ) (done : Done (doneBy (waysBy (j .told)) clock f (e .header) (e .task)) r out out′)
-        (x : Examining own clock f (length out) e) (asks : d ≡ askedBy (e .header) (e .task)) (o : own ≡ ownOf (waysOf (settingsRead s))) where
-      pub trill-good : (told : Routed) → told ≡ toldBy r → told .answer ≡ answerOf (handled s clock (length out) f)
-      trill-good told from =
-          ap (λ (y : Routed). y .answer) (told-answer (waysOf (settingsRead s)) clock f out own e (j .told) d r out′ done x (is .tells (not-false (j .good) n)) asks o told from)
-          ∙ sym (ap answerOf handled-good)
+  pub early-none : not (j .good) ≡ false → (received : Received) (h : Header) → received ≡ Trill h → (r : Answer) → r ≡ droppedBy 1 0 → r ≡ unlessBad s received
+  unfolding Calls.unlessBad
+  early-none n received h e r is = rw (Calls.unlessBad, settings-some n, e) is
 
-      pub trill-after : out′ ≡ outputAfter out (handled s clock (length out) f)
-      trill-after =
-          told-after (waysOf (settingsRead s)) clock f out own e (j .told) d r out′ done x (is .tells (not-false (j .good) n)) asks o ∙ sym (ap (outputAfter out) handled-good)
+pub ruleset unless-bad-laws = (needs, early-bad, early-good, early-none)
 
-pub ruleset trill-handle-laws = (needs, trill-bad, trill-bad-after, trill-good, trill-after)
+-- what is told of the ingress
+module _ (s : List ℕ) (h : Header) (task : Task) (asks : Bool) (is : asks ≡ alertsBy task) where
+  pub back-none : (t : Told) → not asks ≡ true → BackBy s h task t
+  back-none t n e = absurd (true≢false (sym e ∙ sym is ∙ not-true asks n))
+
+pub back-so : (s : List ℕ) (h : Header) (task : Task) (j : Judged) → JudgedBy s (h .ingress) j → known (settingsOf s) ≡ true → BackBy s h task (j .told)
+back-so s h task j is k e = is .tells (is .judged ∙ k)
+
+pub ruleset back-laws = (needs, back-none, back-so)
+
+-- the whole call
+module _ (s clock f out beside : List ℕ) (own : Own) (o : own ≡ ownOf (waysOf (settingsRead s))) (received : Received) (x : Receiving own clock f (length out) (length beside) received) where
+  abbrev answer : A.Handled
+  answer = handled s clock (length out) (length beside) f
+
+  pub trill-early : (a : Answer) → received ≡ Answered a → (r : Answer) → r ≡ unlessBad s received → Both answer r out out beside beside
+  unfolding Calls.unlessBad
+  trill-early a e r is = go (settingsOf s) refl
+    where
+      go : (w : Option Settings) → settingsOf s ≡ w → Both answer r out out beside beside
+      go none q =
+          rw (settings-bad s clock (length out) (length beside) f q)
+          (record { answer = rw (Calls.unlessBad, q) at is; after = sym (put-none out 0); after-beside = sym (put-none beside 0) })
+      go (some S) q =
+          let got = rw e at (x .got) in
+          let same : answer ≡ answerBy a =
+          settings-good s clock (length out) (length beside) f S q ∙ x .same (waysOf S) (o ∙ ap (λ (y : Settings). ownOf (waysOf y)) (settings-read s S q)) ∙ rw e in
+          rw same (record { answer = (rw (Calls.unlessBad, q, e) at is) ∙ kept a (got .0) (got .1); after = sym (put-none out 0); after-beside = sym (put-none beside 0) })
+
+  module _ (h : Header) (e : received ≡ Trill h) where
+    pub trill-ready : Ready f h
+    trill-ready = rw e at (x .got)
+
+    pub trill-clock : length clock ≡ 6
+    trill-clock = rw e at (x .lent) .0
+
+    pub trill-room : 2048 ≤ length out
+    trill-room = rw e at (x .lent) .1
+
+    pub trill-beside : 576 ≤ length beside
+    trill-beside = rw e at (x .lent) .2
+
+    module _ (d : ℕ) (j : Judged) (is : JudgedBy s d j) where
+      pub trill-bad : not (j .good) ≡ true → (r : Answer) → r ≡ droppedBy 1 0 → Both answer r out out beside beside
+      trill-bad n r k =
+          rw (settings-bad s clock (length out) (length beside) f (settings-none s d j is n)) (record { answer = k; after = sym (put-none out 0); after-beside = sym (put-none beside 0) })
+
+      module _ (n : not (j .good) ≡ false) where
+        pub trill-told : d ≡ wantedBy (own .nickname) h → ToldOf s own h (j .told)
+        trill-told wants = record { its-own = o; good = sym (is .judged) ∙ not-false (j .good) n; told = rw wants at (is .tells (not-false (j .good) n)) }
+
+        pub trill-good : (r : Answer) (out2 beside2 : List ℕ) → Both (routed (waysOf (settingsRead s)) clock f h) r out out2 beside beside2 → Both answer r out out2 beside beside2
+        trill-good r out2 beside2 done =
+            let S = waysOf (settingsRead s) in
+            let same : answer ≡ routed S clock f h =
+            settings-good s clock (length out) (length beside) f (settingsRead s) (settings-some s d j is n) ∙ x .same S o ∙ rw e in
+            rw same done
+
+pub left-so : {nickname : ℕ} {rfc7179 : Bool} {f : List ℕ} {h : Header} {task : Task} → Routes nickname rfc7179 f h task → Left rfc7179 f h task
+left-so x = x .left
+
+pub ruleset trill-handle-laws = (needs, trill-early, trill-ready, trill-clock, trill-room, trill-beside, trill-bad, trill-told, trill-good)
+
+-- what good settings have told
+module _ (s : List ℕ) (own : Own) (h : Header) (t : Told) (x : ToldOf s own h t) where
+  pub told-own : own ≡ ownOf (waysOf (settingsRead s))
+  told-own = x .its-own
+
+  pub told-known : known (settingsOf s) ≡ true
+  told-known = x .good
+
+  pub told-done : (clock f : List ℕ) (task : Task) → Routes (own .nickname) (t .rfc7179) f h task → (b : Told) (r : Answer) (out out2 beside beside2 : List ℕ)
+      → Both (doneBy (waysBy t) (waysBy b) clock f h task) r out out2 beside beside2 → BackBy s h task b → Both (routed (waysOf (settingsRead s)) clock f h) r out out2 beside beside2
+  told-done clock f task routes b r out out2 beside beside2 done back =
+      routed-done (waysOf (settingsRead s)) clock f h (own .nickname) (t .rfc7179) task routes t b (wantedBy (own .nickname) h) r out out2 beside beside2 done (x .told) refl
+      (ap (λ (y : Own). y .nickname) (x .its-own)) (ap (λ (y : Ways). y .rfc7179) (x .told)) back
+
+pub ruleset handle-told-laws = (needs, told-own, told-known, told-done, left-so)

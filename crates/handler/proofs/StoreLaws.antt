@@ -8,23 +8,26 @@ use borrow.Author.Needs.{needs}
 use borrow.Author.Tests.{lt-ltb, le-ltb, le-leb, lt-leb, eq-eqb, ne-eqb, leb-true, not-true, not-false}
 use lib.Dec.{ltb, leb, eqb}
 use lib.ListN.{length, getD}
-use Rattle.rules.specs.Settings.{nicknameValid}
+use Rattle.rules.specs.Settings.{Ways, nicknameValid}
+use Rattle.rules.specs.declared.Header.{Header}
 use Rattle.rules.specs.declared.NextHop.{NextHop}
 use Rattle.rules.specs.declared.Ruling.{Ruling}
 use Rattle.rules.specs.declared.Ruling.the-variants.{Found, Absent}
 use Rattle.rules.proofs.TestLaws.{and-true, and-no}
 use Rattle.rules.specs.Answer as A
-use Rattle.rules.specs.Handling.{handledWith, outputAfter}
+use Rattle.rules.specs.Handling.{routed}
 use Rattle.rules.proofs.OctetLaws.{put-none}
-use Rattle.handler.specs.declared.answers.Handled.{Handled}
-use Rattle.handler.specs.declared.Routed.{Routed}
+use Rattle.handler.specs.declared.answers.Answer.{Answer}
 use Rattle.handler.specs.declared.way.Own.{Own}
 use Rattle.handler.specs.declared.way.Told.{Told}
-use Rattle.handler.specs.declared.handling.Task.the-variants.{Answered}
-use Rattle.handler.specs.declared.handling.Examined.{Examined}
-use Rattle.handler.specs.Shapes.{numbersOf, answerOf, routedOf, toldBy, ownOf, onlyFor, waysBy, Done}
-use Rattle.handler.specs.Tasks.{doneBy, askedBy, Examining}
-use Rattle.handler.proofs.StageLaws.{told-answer, told-after, answered-told, answered-after, tells}
+use Rattle.handler.specs.declared.handling.Task.{Task}
+use Rattle.handler.specs.declared.handling.Task.the-variants as TaskIs
+use Rattle.handler.specs.declared.handling.Received.{Received}
+use Rattle.handler.specs.declared.handling.Received.the-variants.{Answered, Trill}
+use Rattle.handler.specs.Shapes.{answerOf, droppedBy, ownOf, onlyFor, waysBy, Ready}
+use Rattle.handler.specs.Calls.{RoutedIn}
+use Rattle.handler.specs.Tasks.{answerBy, doneBy, wantedBy, alertsBy, Left, Routes, receivedBy, Receiving, Both}
+use Rattle.handler.proofs.RouteLaws.{kept, tells, routed-done}
 use Rattle.handler.specs.Store.{nicknameIn, countIn, valueAt, destAt, hopOf, hopAt, stepped, searched, lastAt, hintAt, placeIn, hopFor, waysIn, storeGood, handledIn, Whole, destOf}
 
 -- which words are good
@@ -183,44 +186,84 @@ pub ruleset next-hop-laws = (needs, next-so, whole-four, whole-long, whole-named
 pub ruleset store-told-laws = (needs, tells, whole-four)
 
 -- the call: a bad store, and a good one
-module _ (w clock f out : List ℕ) (ok : Bool) (is : ok ≡ storeGood w) where
-  module _ (n : not ok ≡ true) where
-    bad-is : handledIn w clock (length out) f ≡ A.dropped 1
-    unfolding handledIn
-    bad-is = rw (← is, not-true ok n)
+module _ (w clock f out beside : List ℕ) (ok : Bool) (is : ok ≡ storeGood w) where
+  abbrev answer : A.Handled
+  answer = handledIn w clock (length out) (length beside) f
 
-    pub bad-answer : (r : Handled) (told : Routed) → told ≡ toldBy r → r ≡ numbersOf (A.dropped 1) → told ≡ routedOf (handledIn w clock (length out) f)
-    bad-answer r told t e = t ∙ ap toldBy e ∙ sym (ap routedOf bad-is)
-
-    pub bad-after : out ≡ outputAfter out (handledIn w clock (length out) f)
-    bad-after = sym (ap (outputAfter out) bad-is ∙ put-none out 0)
+  pub store-bad : not ok ≡ true → (r : Answer) → r ≡ droppedBy 1 0 → Both answer r out out beside beside
+  unfolding handledIn
+  store-bad n r e = rw (← is, not-true ok n) (record { answer = e; after = sym (put-none out 0); after-beside = sym (put-none beside 0) })
 
   module _ (n : not ok ≡ false) where
-    good-is : handledIn w clock (length out) f ≡ handledWith (waysIn w) clock (length out) f
-    unfolding handledIn
-    good-is = rw (← is, not-false ok n)
-
     pub good-store : Whole w
     good-store = good-whole w (sym is ∙ not-false ok n)
 
-    module _ (own : Own) (e : Examined) (a : Handled) (t : e .task ≡ Answered a) (x : Examining own clock f (length out) e) (o : own ≡ ownOf (waysIn w)) where
-      pub early-answer : (told : Routed) → told ≡ toldBy a → told ≡ routedOf (handledIn w clock (length out) f)
-      early-answer told from = answered-told (waysIn w) clock f out own e a t x o told from ∙ sym (ap routedOf good-is)
+    module _ (own : Own) (o : own ≡ ownOf (waysIn w)) (received : Received) (x : Receiving own clock f (length out) (length beside) received) where
+      comes : answer ≡ receivedBy (waysIn w) clock f received
+      unfolding handledIn
+      comes = rw (← is, not-false ok n) (x .same (waysIn w) o)
 
-      pub early-after : out ≡ outputAfter out (handledIn w clock (length out) f)
-      early-after = answered-after (waysIn w) clock f out own e a t x o ∙ sym (ap (outputAfter out) good-is)
+      pub store-early : (a : Answer) → received ≡ Answered a → Both answer a out out beside beside
+      store-early a e =
+          let got = rw e at (x .got) in
+          rw (comes, e) (record { answer = kept a (got .0) (got .1); after = sym (put-none out 0); after-beside = sym (put-none beside 0) })
 
-    module _ (own : Own) (e : Examined) (t : Told) (d : ℕ) (r : Handled) (out′ : List ℕ) (done : Done (doneBy (waysBy t) clock f (e .header) (e .task)) r out out′)
-        (x : Examining own clock f (length out) e) (said : waysBy t ≡ onlyFor d (waysIn w)) (asks : d ≡ askedBy (e .header) (e .task)) (o : own ≡ ownOf (waysIn w)) where
-      pub good-answer : (told : Routed) → told ≡ toldBy r → told ≡ routedOf (handledIn w clock (length out) f)
-      good-answer told from = told-answer (waysIn w) clock f out own e t d r out′ done x said asks o told from ∙ sym (ap routedOf good-is)
+      module _ (h : Header) (e : received ≡ Trill h) where
+        pub store-ready : Ready f h
+        store-ready = rw e at (x .got)
 
-      pub good-after : out′ ≡ outputAfter out (handledIn w clock (length out) f)
-      good-after = told-after (waysIn w) clock f out own e t d r out′ done x said asks o ∙ sym (ap (outputAfter out) good-is)
+        pub store-clock : length clock ≡ 6
+        store-clock = rw e at (x .lent) .0
 
-pub ruleset handle-prepared-laws = (needs, good-store, bad-answer, bad-after, early-answer, early-after, good-answer, good-after)
+        pub store-room : 2048 ≤ length out
+        store-room = rw e at (x .lent) .1
 
-pub answer-only : (w clock f out : List ℕ) (told : Routed) → told ≡ routedOf (handledIn w clock (length out) f) → told .answer ≡ answerOf (handledIn w clock (length out) f)
-answer-only w clock f out told e = ap (λ (x : Routed). x .answer) e
+        pub store-beside : 576 ≤ length beside
+        store-beside = rw e at (x .lent) .2
 
-pub ruleset answer-only-laws = (needs, answer-only)
+        pub store-done : (r : Answer) (out2 beside2 : List ℕ) → Both (routed (waysIn w) clock f h) r out out2 beside beside2 → Both answer r out out2 beside beside2
+        store-done r out2 beside2 d = rw (comes, e) d
+
+pub ruleset trill-handle-prepared-laws = (needs, good-store, store-bad, store-early, store-ready, store-clock, store-room, store-beside, store-done)
+
+-- a frame that was received, by a good store
+module _ (w clock f out beside : List ℕ) (h : Header) (own : Own) (o : own ≡ ownOf (waysIn w)) (two : Bool) (t2 : two ≡ waysIn w .rfc7179) (task : Task) (x : Routes (own .nickname) two f h task) where
+  pub received-answered : (a : Answer) → task ≡ TaskIs.Answered a → Both (routed (waysIn w) clock f h) a out out beside beside
+  received-answered a e =
+      let left = rw e at (x .left) in
+      let same : routed (waysIn w) clock f h ≡ answerBy a = x .same (waysIn w) clock (ap (λ (y : Own). y .nickname) o) t2 ∙ rw e in
+      rw same (record { answer = kept a (left .0) (left .1); after = sym (put-none out 0); after-beside = sym (put-none beside 0) })
+
+  pub received-in : Whole w → RoutedIn w own f h task
+  received-in whole = record { whole = whole; its-own = o; routes = rw (← t2) x }
+
+pub ruleset handle-received-laws = (needs, received-answered, received-in)
+
+-- its task
+module _ (w : List ℕ) (own : Own) (f : List ℕ) (h : Header) (task : Task) (x : RoutedIn w own f h task) where
+  pub in-whole : Whole w
+  in-whole = x .whole
+
+  pub in-own : own ≡ ownOf (waysIn w)
+  in-own = x .its-own
+
+  module _ (t : Told) (d : ℕ) (said : waysBy t ≡ onlyFor d (waysIn w)) where
+    pub in-left : Left (t .rfc7179) f h task
+    in-left = rw (ap (λ (y : Ways). y .rfc7179) said) (x .routes .left)
+
+  pub in-done : (clock : List ℕ) (t b : Told) (r : Answer) (out out2 beside beside2 : List ℕ) → Both (doneBy (waysBy t) (waysBy b) clock f h task) r out out2 beside beside2
+      → (alertsBy task ≡ true → waysBy b ≡ onlyFor (h .ingress) (waysIn w)) → (d : ℕ) → d ≡ wantedBy (own .nickname) h → waysBy t ≡ onlyFor d (waysIn w)
+      → Both (routed (waysIn w) clock f h) r out out2 beside beside2
+  in-done clock t b r out out2 beside beside2 done back d wants said =
+      routed-done (waysIn w) clock f h (own .nickname) (waysIn w .rfc7179) task (x .routes) t b d r out out2 beside beside2 done said wants (ap (λ (y : Own). y .nickname) (x .its-own)) refl back
+
+pub ruleset carry-out-in-laws = (needs, in-whole, in-own, in-left, in-done)
+
+module _ (w : List ℕ) (h : Header) (task : Task) (asks : Bool) (is : asks ≡ alertsBy task) where
+  pub back-none : (t : Told) → not asks ≡ true → alertsBy task ≡ true → waysBy t ≡ onlyFor (h .ingress) (waysIn w)
+  back-none t n e = absurd (true≢false (sym e ∙ sym is ∙ not-true asks n))
+
+pub back-told : (w : List ℕ) (h : Header) (task : Task) (t : Told) → waysBy t ≡ onlyFor (h .ingress) (waysIn w) → alertsBy task ≡ true → waysBy t ≡ onlyFor (h .ingress) (waysIn w)
+back-told w h task t e _ = e
+
+pub ruleset back-in-laws = (needs, back-none, back-told)

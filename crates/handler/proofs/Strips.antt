@@ -9,7 +9,7 @@ use borrow.Author.Needs.{needs}
 use lib.ListN.{length, take, getD, length-append}
 use lib.Seq.{length-take-le}
 use Rattle.rules.specs.Octets.{be16, part, put}
-use Rattle.rules.specs.Options.{TlvOption, Options, options, keyOf, lengthOf, optionSize, optionsFrom, optionsOf, strippable, keptOptions, octetsOf, WellFormed, areaRead, stripped}
+use Rattle.rules.specs.Options.{TlvOption, Options, options, keyOf, lengthOf, optionSize, optionsFrom, optionsOf, strippable, keptOptions, octetsOf, WellFormed, draftRead, stripped}
 use Rattle.rules.proofs.TestLaws.{by-test}
 use Rattle.rules.proofs.OctetLaws.{put-none, put-put, length-put, length-part}
 use Rattle.rules.proofs.OptionLaws.{Read, Walked, ended, took, walked, options-end, options-same, kept-nothing, kept-not, kept-too, area-well, stripped-is, stripped-shorter}
@@ -70,7 +70,7 @@ record Next (area : List ℕ) (at fuel : ℕ) (left : List TlvOption) : Type 0 w
   first : left ≡ record { key = keyOf (be16 area at); size = lengthOf (be16 area at); octets = part area at (optionSize (lengthOf (be16 area at))) } ∷ after
 
 module _ (area out₀ : List ℕ) (from : ℕ) where
-  pub strip-begin : areaRead area ≡ WellFormed → 4 ≤ length area → Stripping area out₀ from out₀ 4 from
+  pub strip-begin : draftRead area ≡ WellFormed → 4 ≤ length area → Stripping area out₀ from out₀ 4 from
   unfolding optionsOf
   strip-begin e h =
       let w = area-well area e in
@@ -186,13 +186,13 @@ pub ruleset keep-laws = (needs, gone-end, gone-put, keep-end, keep-put)
 pub ruleset strip-options-laws = (needs, strip-begin, strip-ends, strip-wrote, strip-same, strip-key, strip-length, strip-next, strip-from, strip-less, strip-fits, strip-on)
 
 -- a whole area: its first word, then what is kept
-pub strip-whole : (area : List ℕ) → areaRead area ≡ WellFormed → stripped area ≡ take 4 area ++ keptFrom (optionsOf area)
+pub strip-whole : (area : List ℕ) → draftRead area ≡ WellFormed → stripped area ≡ take 4 area ++ keptFrom (optionsOf area)
 strip-whole area e = let w = area-well area e in stripped-is area (w .its-options) (w .are) ∙ rw (w .are)
 
 pub word-lent : (area : List ℕ) → 4 ≤ length area → 4 ≡ length (take 4 area)
 word-lent area h = sym (length-take-le 4 area h)
 
-module _ (area d d1 d2 : List ℕ) (base end : ℕ) (well : areaRead area ≡ WellFormed) (some : 4 ≤ length area) where
+module _ (area d d1 d2 : List ℕ) (base end : ℕ) (well : draftRead area ≡ WellFormed) (some : 4 ≤ length area) where
   abbrev kept : List ℕ
   kept = keptFrom (optionsOf area)
 

@@ -12,7 +12,7 @@ use lib.ListN.{length, getD}
 use Rattle.rules.specs.Octets.{if_then_else_, be16, part}
 use Rattle.rules.specs.Options as O
 use Rattle.rules.specs.Options.{Taken, Fault, TlvOption, Options, options, fault, keyOf, lengthOf, optionSize, optionFirst, optionAt, optionsFrom, optionsOf}
-use Rattle.rules.specs.Options.{some-key, ie, nc, hopByHopCritical, ingressToEgressCritical, chbh, cite, summarized, areaRead}
+use Rattle.rules.specs.Options.{some-key, ie, nc, hopByHopCritical, ingressToEgressCritical, chbh, cite, summarized, draftRead}
 use Rattle.rules.proofs.TestLaws.{and-true, and-no, and-yes, or-no, or-assoc}
 use Rattle.rules.proofs.OptionLaws.{option-reserved, option-past, option-below, option-equal, option-taken, option-read, options-end, options-fault, options-on}
 use Rattle.handler.specs.declared.options.Cursor.{Cursor}
@@ -166,50 +166,50 @@ module _ (area : List ℕ) (c : Cursor) (w : Walking area c) where
 pub ruleset walk-area-laws = (needs, walk-begin, walk-end, walk-stop, walk-less, walk-on)
 
 -- an area of one word, or none, has no option
-pub area-short : (area : List ℕ) → length area ≤ 4 → O.WellFormed ≡ areaRead area
-unfolding areaRead summarized optionsOf some-key
+pub area-short : (area : List ℕ) → length area ≤ 4 → O.WellFormed ≡ draftRead area
+unfolding draftRead summarized optionsOf some-key
 area-short area h = rw (options-end (length area) area 0 4 h)
 
 -- the whole area, by the walk's end and the two summary tests
 module _ (area : List ℕ) (read : AreaRead) (is : foundBy read ≡ walkOf false false (optionsOf area)) where
-  pub area-faulty : (number place : ℕ) → read ≡ Faulty number place → judgedBy read ≡ areaRead area
-  unfolding areaRead summarized
+  pub area-faulty : (number place : ℕ) → read ≡ Faulty number place → judgedBy read ≡ draftRead area
+  unfolding draftRead summarized
   area-faulty number place e = go (optionsOf area) refl
     where
-      go : (o : Options) → optionsOf area ≡ o → judgedBy read ≡ areaRead area
+      go : (o : Options) → optionsOf area ≡ o → judgedBy read ≡ draftRead area
       go (fault m q) f =
           let same : stopped number place ≡ stopped m q = ap foundBy (sym e) ∙ is ∙ ap (walkOf false false) f in
-          rw (areaRead, f, summarized, e) (cc same)
+          rw (draftRead, f, summarized, e) (cc same)
       go (options os) f = let z : _≡_ {A = ℕ} 0 1 = cc (ap foundBy (sym e) ∙ is ∙ ap (walkOf false false) f) in absurd (omega arith)
 
   module _ (c : Cursor) (e : read ≡ Read c) where
     abbrev summed : O.AreaRead
     summed = if c .hop && not (chbh area) then O.Faulty 34 0 else if c .egress && not (cite area) then O.Faulty 35 0 else O.WellFormed
 
-    area-ended : areaRead area ≡ summed
-    unfolding areaRead summarized
+    area-ended : draftRead area ≡ summed
+    unfolding draftRead summarized
     area-ended = go (optionsOf area) refl
       where
-        go : (o : Options) → optionsOf area ≡ o → areaRead area ≡ summed
+        go : (o : Options) → optionsOf area ≡ o → draftRead area ≡ summed
         go (options os) f =
             let q : ended (some-key hopByHopCritical os) (some-key ingressToEgressCritical os) ≡ ended (c .hop) (c .egress) = sym (is ∙ ap (walkOf false false) f) ∙ ap foundBy e in
             let h : some-key hopByHopCritical os ≡ c .hop = cc q in
             let g : some-key ingressToEgressCritical os ≡ c .egress = cc q in
-            rw (areaRead, f, summarized, h, g)
+            rw (draftRead, f, summarized, h, g)
         go (fault m q) f = let z : _≡_ {A = ℕ} 0 1 = cc (ap foundBy (sym e) ∙ is ∙ ap (walkOf false false) f) in absurd (omega arith)
 
     module _ {summary lacks : Bool} (s : summary ≡ chbh area) (m : lacks ≡ (c .hop && not summary)) where
       lacking : {b : Bool} → lacks ≡ b → (c .hop && not (chbh area)) ≡ b
       lacking t = sym (rw s at m) ∙ t
 
-      pub area-hop : lacks ≡ true → O.Faulty 34 0 ≡ areaRead area
+      pub area-hop : lacks ≡ true → O.Faulty 34 0 ≡ draftRead area
       area-hop t = sym (area-ended ∙ rw (lacking t))
 
       module _ (t : lacks ≡ false) {summary2 lacks2 : Bool} (s2 : summary2 ≡ cite area) (m2 : lacks2 ≡ (c .egress && not summary2)) where
-        pub area-egress : lacks2 ≡ true → O.Faulty 35 0 ≡ areaRead area
+        pub area-egress : lacks2 ≡ true → O.Faulty 35 0 ≡ draftRead area
         area-egress t2 = sym (area-ended ∙ rw (lacking t, sym (rw s2 at m2) ∙ t2))
 
-        pub area-whole : lacks2 ≡ false → O.WellFormed ≡ areaRead area
+        pub area-whole : lacks2 ≡ false → O.WellFormed ≡ draftRead area
         area-whole t2 = sym (area-ended ∙ rw (lacking t, sym (rw s2 at m2) ∙ t2))
 
 pub ruleset summarized-laws = (needs, area-faulty, area-hop, area-egress, area-whole)

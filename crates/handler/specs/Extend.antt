@@ -1,14 +1,15 @@
--- A store made field by field, from any words: opened for a switch, and extended by a record or a strip flag.
-use Prim.Native.Nat.{ℕ, _+_, _*_, _/_}
+-- A store made field by field, from any words: opened for a switch, and extended by a record, a strip flag or an edition.
+use Prim.Native.Nat.{ℕ, _+_, _*_, _/_, _%_}
 use mathlib.Core.Path.{_≡_}
 use mathlib.Core.List.{List, [], _∷_}
 use mathlib.Core.Bool.{Bool, not, _&&_}
 use lib.Dec.{ltb, leb, eqb}
-use lib.ListN.{length, set}
+use lib.ListN.{length, getD, set}
 use Rattle.rules.specs.Octets.{if_then_else_, octet, put}
 use Rattle.rules.specs.Fields.{field, lengthGood}
 use Rattle.rules.specs.Settings as S
 use Rattle.rules.specs.Link.{ethertypeTrill}
+use Rattle.handler.specs.Keys.{flagTag, flagValue}
 use Rattle.handler.specs.Store.{countIn}
 use Rattle.handler.specs.Insert.{storeKey, storeValue, metIn, insertedIn}
 
@@ -48,15 +49,16 @@ recordCode w v =
     if metBy w v then 47
     else 0
 
-unfoldable pub flagCode : List ℕ → List ℕ → ℕ
-flagCode w v =
-    if not (lengthGood 3 (length v)) then 42 else
-    if not (S.stripGood v) then 44 else
+unfoldable pub flagCode : List ℕ → ℕ → List ℕ → ℕ
+flagCode w tag v =
+    if not (flagTag tag) then 43 else
+    if not (eqb (length v) 1) then 42 else
+    if not (flagValue tag v) then 44 else
     if ltb (length w) 4 then 46
     else 0
 
 unfoldable pub extending : List ℕ → ℕ → List ℕ → ℕ
-extending w tag v = if eqb tag 2 then recordCode w v else if eqb tag 3 then flagCode w v else 43
+extending w tag v = if eqb tag 2 then recordCode w v else flagCode w tag v
 
 -- the words with one more record, and with the flag
 abbrev pub withRecord : List ℕ → List ℕ → List ℕ
@@ -65,12 +67,21 @@ withRecord w v = set (insertedIn w (countIn w) (storeKey (S.hopOf v)) (storeValu
 abbrev pub addedTo : List ℕ → List ℕ → List ℕ
 addedTo w v = if metBy w v then w else withRecord w v
 
-abbrev pub withFlag : List ℕ → List ℕ → List ℕ
-withFlag w v = set w 2 (octet v 0)
+-- the strip flag, and above it the edition less 1
+abbrev pub flagWord : ℕ → ℕ → ℕ → ℕ
+flagWord x tag o = if eqb tag 3 then x / 2 % 2 * 2 + o else (if eqb o 2 then 2 else 0) + x % 2
+
+abbrev pub withFlag : List ℕ → ℕ → List ℕ → List ℕ
+withFlag w tag v = set w 2 (flagWord (getD w 2 0) tag (octet v 0))
+
+-- a flag that is refused leaves the words as they were
+pub record FlagIn (w : List ℕ) (tag : ℕ) (v : List ℕ) (r : ℕ) (w′ : List ℕ) : Type 0 where
+  pub code : r ≡ flagCode w tag v
+  pub words : w′ ≡ (if eqb (flagCode w tag v) 0 then withFlag w tag v else w)
 
 -- a field that is refused leaves the words as they were
 unfoldable pub extended : List ℕ → ℕ → List ℕ → List ℕ
-extended w tag v = if not (eqb (extending w tag v) 0) then w else if eqb tag 2 then withRecord w v else withFlag w v
+extended w tag v = if not (eqb (extending w tag v) 0) then w else if eqb tag 2 then withRecord w v else withFlag w tag v
 
 pub record Extends (w : List ℕ) (tag : ℕ) (v : List ℕ) (r : ℕ) (w′ : List ℕ) : Type 0 where
   pub code : r ≡ extending w tag v

@@ -7,13 +7,13 @@ use lib.ListN.{length, getD, take}
 use lib.Dec.{ltb, leb, eqb}
 use Rattle.rules.specs.Octets.{if_then_else_}
 use Rattle.rules.specs.Fields.{fieldsFrom, hopSize}
-use Rattle.rules.specs.Settings.{Settings, hopGood, hopOf, hopsMost, stripGood, settingsFrom, settingsOf, settingsRead, waysOf}
+use Rattle.rules.specs.Settings.{Settings, hopGood, hopOf, hopsMost, stripGood, editionGood, settingsFrom, settingsOf, settingsRead, waysOf}
 use Rattle.rules.specs.Campus.{known}
 use Rattle.rules.specs.declared.NextHop.{NextHop}
 use Rattle.rules.specs.declared.Ruling.the-variants.{Absent}
 use Rattle.handler.specs.declared.judged.Scan.{Scan}
 use Rattle.handler.specs.declared.judged.Judged.{Judged}
-use Rattle.handler.specs.Shapes.{ruledBy, flaggedBy, FoldedFrom, waysBy, onlyFor}
+use Rattle.handler.specs.Shapes.{ruledBy, noFlags, flaggedBy, FoldedFrom, waysBy, onlyFor}
 
 -- destination above serial: two records of one destination with equal serials have one key
 abbrev pub keyOf : NextHop → ℕ
@@ -54,8 +54,15 @@ pub record Kept (keys seen : List ℕ) (n : ℕ) : Type 0 where
 unfoldable pub hopTaken : List ℕ → ℕ → List ℕ → Bool
 hopTaken keys n v = hopSize (length v) && (hopGood (hopOf v) && ltb n hopsMost && not (keyMet (keyOf (hopOf v)) keys))
 
+-- a strip flag or an edition, and whether its value is good
+unfoldable pub flagTag : ℕ → Bool
+flagTag tag = eqb tag 3 || eqb tag 6
+
+unfoldable pub flagValue : ℕ → List ℕ → Bool
+flagValue tag v = if eqb tag 3 then stripGood v else editionGood v
+
 unfoldable pub flagTaken : ℕ → List ℕ → Bool
-flagTaken tag v = eqb tag 3 && (eqb (length v) 1 && stripGood v)
+flagTaken tag v = flagTag tag && (eqb (length v) 1 && flagValue tag v)
 
 unfoldable pub fieldTaken : List ℕ → ℕ → ℕ → List ℕ → Bool
 fieldTaken keys n tag v = if eqb tag 2 then hopTaken keys n v else flagTaken tag v
@@ -81,7 +88,7 @@ Verdict s from r = (T : Settings) (g : ℕ) → T .hops ≡ [] → length s ≤ 
 pub record Scanned (s : List ℕ) (from d : ℕ) (r : Scan) : Type 0 where
   pub verdict : Verdict s from (r .good)
   pub ruled : r .good ≡ true → FoldedFrom (ruledBy d) Absent s from (r .best)
-  pub flagged : r .good ≡ true → FoldedFrom flaggedBy false s from (r .strip)
+  pub flagged : r .good ≡ true → FoldedFrom flaggedBy noFlags s from (r .flags)
 
 -- settings octets judged, and what they say of one destination if they are good
 pub record JudgedBy (s : List ℕ) (d : ℕ) (r : Judged) : Type 0 where

@@ -6,3 +6,4 @@ pub mod Treatment
 pub mod Store
 pub mod Insert
 pub mod Extend
+pub mod Calls

@@ -10,7 +10,6 @@ use Rattle.rules.specs.Fields.{Field, field, cut, fieldsFrom}
 use Rattle.rules.specs.Settings.{Ways, newer, hopOf}
 use Rattle.rules.specs.Link.{ethertypeTag, ethertypeTrill}
 use Rattle.rules.specs.Header.{version, reserved, multi, hopCount, headerWord, readFrame, innerStart, innerOf}
-use Rattle.rules.specs.Handling.{vlan}
 use Rattle.rules.specs.Options as O
 use Rattle.rules.specs.Options.{OptionRead, Taken, Fault, Options, options, fault, some-key, hopByHopCritical, ingressToEgressCritical, keptOptions, octetsOf}
 use Rattle.rules.specs.Channel.{allEgressRBridges, ethertypeChannel, ethertypeIsIs}
@@ -20,9 +19,8 @@ use Rattle.rules.specs.declared.Ruling.{Ruling}
 use Rattle.rules.specs.declared.Ruling.the-variants.{Found, Absent}
 use Rattle.rules.specs.declared.Header.{Header}
 use Rattle.rules.specs.declared.FrameRead.the-variants.{Trill}
-use Rattle.handler.specs.declared.answers.Handled.{Handled}
-use Rattle.handler.specs.declared.Answer.{Answer}
-use Rattle.handler.specs.declared.Routed.{Routed}
+use Rattle.handler.specs.declared.answers.Answer.{Answer}
+use Rattle.handler.specs.declared.judged.Flags.{Flags}
 use Rattle.handler.specs.declared.way.Own.{Own}
 use Rattle.handler.specs.declared.way.Told.{Told}
 use Rattle.handler.specs.declared.way.WayOut.{WayOut}
@@ -32,36 +30,65 @@ use Rattle.handler.specs.declared.options.AreaRead.the-variants.{Read, F
 
 -- what settings say, asked for one destination only
 abbrev pub onlyFor : ℕ → Ways → Ways
-onlyFor d S = record { nickname = S .nickname; mac = S .mac; strip = S .strip; hop = λ e. S .hop d }
+onlyFor d S = record { nickname = S .nickname; mac = S .mac; strip = S .strip; rfc7179 = S .rfc7179; hop = λ e. S .hop d }
 
 -- an answer as numbers: the octets written by their length
-abbrev pub numbersOf : A.Handled → Handled
-numbersOf a = record { number = a .number; written = length (a .octets); start = a .start; length = a .size; via = a .via }
-
 abbrev pub answerOf : A.Handled → Answer
-answerOf a = record { number = a .number; written = length (a .octets); start = a .start; length = a .size }
+answerOf a =
+    record {
+      number = a .number;
+      written = length (a .octets);
+      start = a .start;
+      length = a .size;
+      neighbour = a .via;
+      beside = length (a .beside);
+      «beside_neighbour» = a .besideVia;
+    }
 
-abbrev pub routedOf : A.Handled → Routed
-routedOf a = record { answer = answerOf a; via = a .via }
+abbrev pub droppedBy : ℕ → ℕ → Answer
+droppedBy number place = answerOf (A.droppedAt number place)
 
-abbrev pub toldBy : Handled → Routed
-toldBy a = record { answer = record { number = a .number; written = a .written; start = a .start; length = a .length }; via = a .via }
+abbrev pub wroteBy : ℕ → ℕ → ℕ → Answer
+wroteBy number written via =
+    record { number = number; written = written; start = 0; length = 0; neighbour = via; beside = 0; «beside_neighbour» = 0 }
+
+abbrev pub deliveredBy : ℕ → ℕ → ℕ → Answer
+deliveredBy number start size = answerOf (A.delivered number start size)
+
+-- with what another has written beside it
+abbrev pub besideBy : Answer → Answer → Answer
+besideBy a reply =
+    record {
+      number = a .number;
+      written = a .written;
+      start = a .start;
+      length = a .length;
+      neighbour = a .neighbour;
+      beside = reply .written;
+      «beside_neighbour» = reply .neighbour;
+    }
 
 abbrev pub ownOf : Ways → Own
 ownOf S = record { nickname = S .nickname; mac = S .mac }
 
 -- what a handling is told, which asks for the next hop of one destination only
 abbrev pub waysBy : Told → Ways
-waysBy t = record { nickname = t .own .nickname; mac = t .own .mac; strip = t .strip; hop = λ d. t .hop }
+waysBy t = record { nickname = t .own .nickname; mac = t .own .mac; strip = t .strip; rfc7179 = t .rfc7179; hop = λ d. t .hop }
 
--- the record that rules, and the strip flag, once one more field is read
+-- the record that rules, and the flags, once one more field is read
 unfoldable pub ruledBy : ℕ → Ruling → Field → Ruling
 ruledBy d best cut = best
 ruledBy d best (field tag v) = if eqb tag 2 then newer d best (hopOf v) else best
 
-unfoldable pub flaggedBy : Bool → Field → Bool
-flaggedBy strip cut = strip
-flaggedBy strip (field tag v) = if eqb tag 3 then not (eqb (octet v 0) 0) else strip
+abbrev pub noFlags : Flags
+noFlags = record { strip = false; rfc7179 = false }
+
+unfoldable pub flaggedBy : Flags → Field → Flags
+flaggedBy flags cut = flags
+flaggedBy flags (field tag v) =
+    if eqb tag 3 then record { strip = not (eqb (octet v 0) 0); rfc7179 = flags .rfc7179 } else
+    if eqb tag 6 then record { strip = flags .strip; rfc7179 = eqb (octet v 0) 2 }
+    else flags
 
 -- "if it is a withdrawal, there is no next hop"
 unfoldable pub unlessWithdrawn : Ruling → Ruling
@@ -155,9 +182,6 @@ pub record Fits (area f : List ℕ) (h : Header) (out : List ℕ) (at : ℕ) : T
 abbrev pub timesBy : List ℕ → List ℕ → List ℕ
 timesBy body clock = part body 1 11 ++ clock ++ drop 18 body
 
-abbrev pub untaggedBy : List ℕ → Bool
-untaggedBy inner = not (eqb (be16 inner 12) ethertypeTag) || eqb (vlan inner) 0 || eqb (vlan inner) 4095
-
 -- neither the channel's Ethertype nor that of L2-IS-IS
 abbrev pub foreignBy : ℕ → Bool
 foreignBy ethertype = not (eqb ethertype ethertypeChannel) && not (eqb ethertype ethertypeIsIs)
@@ -179,7 +203,8 @@ pub record Replied (reply : List ℕ) (n : ℕ) (out out′ : List ℕ) : Type 0
   pub few : n ≤ 576
   pub after : out′ ≡ put out 0 reply
 
--- the answer, and the output buffer after it
-pub record Done (a : A.Handled) (r : Handled) (out out′ : List ℕ) : Type 0 where
-  pub answer : r ≡ numbersOf a
+-- an answer with nothing beside it, and the output buffer after it
+pub record Done (a : A.Handled) (r : Answer) (out out′ : List ℕ) : Type 0 where
+  pub answer : r ≡ answerOf a
   pub after : out′ ≡ put out 0 (a .octets)
+  pub alone : a .beside ≡ []

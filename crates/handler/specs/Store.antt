@@ -73,13 +73,14 @@ placeIn w n d = if lastAt w n d (hintAt w d) then hintAt w d else searched w n d
 unfoldable pub hopFor : List ℕ → ℕ → ℕ → ℕ → Ruling
 hopFor w n d i = if ltb i n && (eqb (destAt w i) d && not (eqb (valueAt w i % 65536) 0)) then Found (hopAt w i) else Absent
 
--- word 0 own nickname, word 1 own MAC above 16 bits unused here, word 2 strip flag, word 3 number of records
+-- word 0 own nickname, word 1 own MAC above 16 bits unused here, word 2 strip flag and above it the edition, word 3 number of records
 abbrev pub waysIn : List ℕ → S.Ways
 waysIn w =
     record {
       nickname = nicknameIn w;
       mac = getD w 1 0 / 65536;
-      strip = not (eqb (getD w 2 0) 0);
+      strip = eqb (getD w 2 0 % 2) 1;
+      rfc7179 = eqb (getD w 2 0 / 2 % 2) 1;
       hop = λ d. hopFor w (countIn w) d (placeIn w (countIn w) d);
     }
 
@@ -88,8 +89,8 @@ unfoldable pub storeGood : List ℕ → Bool
 storeGood w = leb 4 (length w) && (S.nicknameValid (nicknameIn w) && (leb (countIn w) S.hopsMost && leb (4 + 2 * countIn w) (length w)))
 
 -- the handling by a store: a bad one is bad settings
-unfoldable pub handledIn : List ℕ → List ℕ → ℕ → List ℕ → A.Handled
-handledIn w clock room f = if storeGood w then handledWith (waysIn w) clock room f else A.dropped 1
+unfoldable pub handledIn : List ℕ → List ℕ → ℕ → ℕ → List ℕ → A.Handled
+handledIn w clock room besideRoom f = if storeGood w then handledWith (waysIn w) clock room besideRoom f else A.dropped 1
 
 -- what a good store is known to have
 pub record Whole (w : List ℕ) : Type 0 where
@@ -118,7 +119,8 @@ pub record StandsFor (w : List ℕ) (n : ℕ) (hops : List NextHop) : Type 0 whe
 pub record Stands (w : List ℕ) (T : S.Settings) : Type 0 where
   pub nickname : nicknameIn w ≡ T .nickname
   pub mac : getD w 1 0 / 65536 ≡ T .mac
-  pub strip : not (eqb (getD w 2 0) 0) ≡ T .strip
+  pub strip : eqb (getD w 2 0 % 2) 1 ≡ T .strip
+  pub rfc7179 : eqb (getD w 2 0 / 2 % 2) 1 ≡ T .rfc7179
   pub records : StandsFor w (countIn w) (T .hops)
 
 -- room for every record
@@ -151,7 +153,7 @@ pub record Prepared (settings store store′ : List ℕ) (r : ℕ) : Type 0 wher
   pub told : r ≡ preparing settings (length store)
   pub refused : (r ≡ 0 → ⊥) → store′ ≡ store
   pub says : (T : S.Settings) → r ≡ 0 → S.settingsOf settings ≡ some T → (storeGood store′ ≡ true) × (waysIn store′ ≡ S.waysOf T)
-  pub handles : r ≡ 0 → (clock : List ℕ) (room : ℕ) (f : List ℕ) → handledIn store′ clock room f ≡ handled settings clock room f
+  pub handles : r ≡ 0 → (clock : List ℕ) (room besideRoom : ℕ) (f : List ℕ) → handledIn store′ clock room besideRoom f ≡ handled settings clock room besideRoom f
   pub beyond : drop storeWords store′ ≡ drop storeWords store
 
 -- the way out by a store

@@ -1,67 +1,157 @@
--- What is left of a handling once a frame is examined: an answer, or what a next hop is asked for.
+-- What is left of a handling once a frame is received, and once its area is read: an answer, or what a next hop is asked for.
 use Prim.Native.Nat.{ℕ, _≤_}
 use mathlib.Core.Path.{_≡_}
 use mathlib.Core.List.{List, []}
+use mathlib.Core.Bool.{Bool, true, false, not, _&&_, _||_}
 use lib.ListN.{length}
+use Rattle.rules.specs.Octets.{if_then_else_, put}
 use Rattle.rules.specs.Settings.{Ways}
-use Rattle.rules.specs.Header.{areaOf, innerOf}
-use Rattle.rules.specs.Options.{WellFormed, areaRead}
-use Rattle.rules.specs.Channel.{bodyOf}
-use Rattle.rules.specs.Handling.{transit, faulted, echoed, handledWith}
+use Rattle.rules.specs.Header.{areaOf, innerOf, weAreEgress}
+use Rattle.rules.specs.Options as O
+use Rattle.rules.specs.Options.{WellFormed, draftRead, draftStops}
+use Rattle.rules.specs.Extension.{flagsWord, criticalAlert, nonCriticalAlert, extensionRead, extensionStops}
+use Rattle.rules.specs.Channel.{bodyOf, channelRead}
+use Rattle.rules.specs.Handling.{onward, channelMessage, alertTo, faulted, echoed, routed, handling, handledWith}
 use Rattle.rules.specs.Answer as A
+use Rattle.rules.specs.declared.NextHop.{NextHop}
 use Rattle.rules.specs.declared.Header.{Header}
-use Rattle.handler.specs.declared.answers.Handled.{Handled}
+use Rattle.rules.specs.declared.Ruling.the-variants.{Found, Absent}
+use Rattle.rules.specs.declared.Alert.{Alert}
+use Rattle.rules.specs.declared.Alert.the-variants.{NoAlert, AlertFault, AlertErr, AlertRequest}
+use Rattle.handler.specs.declared.answers.Answer.{Answer}
 use Rattle.handler.specs.declared.way.Own.{Own}
+use Rattle.handler.specs.declared.options.AreaRead.{AreaRead}
 use Rattle.handler.specs.declared.handling.Task.{Task}
 use Rattle.handler.specs.declared.handling.Task.the-variants.{Answered, Forward, Error, Echo}
-use Rattle.handler.specs.declared.handling.Examined.{Examined}
-use Rattle.handler.specs.Shapes.{ownOf, Ready}
+use Rattle.handler.specs.declared.handling.Received.{Received}
+use Rattle.handler.specs.declared.handling.Received.the-variants as R
+use Rattle.handler.specs.Shapes.{answerOf, ownOf, judgedBy, Ready}
+
+-- the area by the edition
+abbrev pub areaReadBy : Bool → List ℕ → O.AreaRead
+areaReadBy rfc7179 area = if rfc7179 then extensionRead area else draftRead area
+
+abbrev pub ReadBy : Bool → List ℕ → AreaRead → Type 0
+ReadBy rfc7179 area r = judgedBy r ≡ areaReadBy rfc7179 area
+
+abbrev pub stopsBy : Bool → Bool → List ℕ → Bool
+stopsBy rfc7179 egress area = if rfc7179 then extensionStops egress (flagsWord area) else draftStops egress area
+
+unfoldable pub alertBy : Bool → List ℕ → List ℕ → Alert
+alertBy rfc7179 area inner =
+    if rfc7179 && (criticalAlert (flagsWord area) || nonCriticalAlert (flagsWord area)) && channelMessage inner
+    then alertTo (criticalAlert (flagsWord area)) (not (stopsBy rfc7179 true area)) (channelRead inner)
+    else NoAlert
 
 -- an answer that writes nothing, from its numbers
-abbrev pub answerBy : Handled → A.Handled
-answerBy a = record { number = a .number; octets = []; start = a .start; size = a .length; via = a .via }
+abbrev pub answerBy : Answer → A.Handled
+answerBy a =
+    record { number = a .number; octets = []; start = a .start; size = a .length; via = a .neighbour; beside = []; besideVia = a .«beside_neighbour» }
+
+-- the reply beside a forwarded frame; `B` is asked for the next hop of the ingress
+abbrev pub besideOf : Ways → Ways → NextHop → List ℕ → List ℕ → Header → A.Handled
+besideOf T B r clock f h = onward T r f h (echoed B clock f h .octets) (echoed B clock f h .via)
+
+abbrev pub alertedBy : Ways → Ways → NextHop → List ℕ → List ℕ → Header → Alert → A.Handled
+alertedBy T B r clock f h NoAlert = onward T r f h [] 0
+alertedBy T B r clock f h (AlertFault code) = faulted B f h code
+alertedBy T B r clock f h AlertErr = A.dropped 26
+alertedBy T B r clock f h AlertRequest = besideOf T B r clock f h
+
+unfoldable pub transitBy : Ways → Ways → List ℕ → List ℕ → Header → Alert → A.Handled
+transitBy T B clock f h alert = elim (T .hop (h .egress)) [ Absent ↦ A.dropped 21 | Found r ↦ alertedBy T B r clock f h alert ]
 
 -- what a task comes to at a switch
-abbrev pub doneBy : Ways → List ℕ → List ℕ → Header → Task → A.Handled
-doneBy S clock f h (Answered a) = answerBy a
-doneBy S clock f h Forward = transit S f h
-doneBy S clock f h (Error code) = faulted S f h code
-doneBy S clock f h Echo = echoed S clock f h
+abbrev pub doneBy : Ways → Ways → List ℕ → List ℕ → Header → Task → A.Handled
+doneBy T B clock f h (Answered a) = answerBy a
+doneBy T B clock f h (Forward alert) = transitBy T B clock f h alert
+doneBy T B clock f h (Error code) = faulted T f h code
+doneBy T B clock f h Echo = echoed T clock f h
 
--- the one destination that it asks for, 0 for none
-abbrev pub askedBy : Header → Task → ℕ
-askedBy h (Answered a) = 0
-askedBy h Forward = h .egress
-askedBy h (Error code) = h .ingress
-askedBy h Echo = h .ingress
+-- the one destination that it asks for by itself, and whether an alert asks for the ingress too
+abbrev pub wantedBy : ℕ → Header → ℕ
+wantedBy nickname h = if weAreEgress nickname h then h .ingress else h .egress
+
+abbrev pub alertsBy : Task → Bool
+alertsBy (Answered a) = false
+alertsBy (Forward NoAlert) = false
+alertsBy (Forward (AlertFault code)) = true
+alertsBy (Forward AlertErr) = false
+alertsBy (Forward AlertRequest) = true
+alertsBy (Error code) = false
+alertsBy Echo = false
 
 -- what is known of the frame
-abbrev pub Left : List ℕ → Header → Task → Type 0
-Left f h (Answered a) = a .written ≡ 0
-Left f h Forward = (areaRead (areaOf f h) ≡ WellFormed) × Ready f h
-Left f h (Error code) = Ready f h
-Left f h Echo = (18 ≤ length (bodyOf (innerOf f h))) × (length (bodyOf (innerOf f h)) ≤ 530) × Ready f h
+abbrev pub EchoIn : List ℕ → Header → Type 0
+EchoIn f h = (18 ≤ length (bodyOf (innerOf f h))) × (length (bodyOf (innerOf f h)) ≤ 530)
 
--- and of the clock and the room that are lent
-abbrev pub Lent : List ℕ → ℕ → Task → Type 0
-Lent clock room (Answered a) = Unit {0}
-Lent clock room Forward = 2048 ≤ room
-Lent clock room (Error code) = 2048 ≤ room
-Lent clock room Echo = (length clock ≡ 6) × (2048 ≤ room)
+abbrev pub Answerable : List ℕ → Header → Alert → Type 0
+Answerable f h NoAlert = Unit {0}
+Answerable f h (AlertFault code) = Unit {0}
+Answerable f h AlertErr = Unit {0}
+Answerable f h AlertRequest = EchoIn f h
 
-abbrev pub Held : List ℕ → List ℕ → ℕ → Header → Task → Type 0
-Held clock f room h t = Left f h t × Lent clock room t
+pub record Forwardable (rfc7179 : Bool) (f : List ℕ) (h : Header) (alert : Alert) : Type 0 where
+  pub well : rfc7179 ≡ false → draftRead (areaOf f h) ≡ WellFormed
+  pub is-ready : Ready f h
+  pub answerable : Answerable f h alert
 
--- a stage of the handling comes to a task, at every switch or at those of a nickname and MAC
+abbrev pub Left : Bool → List ℕ → Header → Task → Type 0
+Left rfc7179 f h (Answered a) = (a .written ≡ 0) × (a .beside ≡ 0)
+Left rfc7179 f h (Forward alert) = Forwardable rfc7179 f h alert
+Left rfc7179 f h (Error code) = Ready f h
+Left rfc7179 f h Echo = EchoIn f h × Ready f h
+
+-- a task of an egress, which forwards nothing
+abbrev pub Ends : List ℕ → Header → Task → Type 0
+Ends f h (Answered a) = (a .written ≡ 0) × (a .beside ≡ 0)
+Ends f h (Forward alert) = ⊥
+Ends f h (Error code) = Ready f h
+Ends f h Echo = EchoIn f h × Ready f h
+
+-- a stage of the egress comes to a task
 pub record Comes (f : List ℕ) (h : Header) (stage : Ways → List ℕ → A.Handled) (t : Task) : Type 0 where
-  pub same : (S : Ways) (clock : List ℕ) → stage S clock ≡ doneBy S clock f h t
-  pub left : Left f h t
+  pub same : (S B : Ways) (clock : List ℕ) → stage S clock ≡ doneBy S B clock f h t
+  pub ends : Ends f h t
 
-pub record ComesAt (own : Own) (f : List ℕ) (h : Header) (stage : Ways → List ℕ → A.Handled) (t : Task) : Type 0 where
-  pub same : (S : Ways) (clock : List ℕ) → own ≡ ownOf S → stage S clock ≡ doneBy S clock f h t
-  pub left : Left f h t
+-- a task is that of our role
+abbrev pub Role : ℕ → Header → Task → Type 0
+Role nickname h (Answered a) = Unit {0}
+Role nickname h (Forward alert) = weAreEgress nickname h ≡ false
+Role nickname h (Error code) = weAreEgress nickname h ≡ true
+Role nickname h Echo = weAreEgress nickname h ≡ true
 
--- the whole call
-pub record Examining (own : Own) (clock f : List ℕ) (room : ℕ) (e : Examined) : Type 0 where
-  pub same : (S : Ways) → own ≡ ownOf S → handledWith S clock room f ≡ doneBy S clock f (e .header) (e .task)
-  pub held : Held clock f room (e .header) (e .task)
+-- a frame that was received comes to a task, at every switch of a nickname and an edition
+pub record Routes (nickname : ℕ) (rfc7179 : Bool) (f : List ℕ) (h : Header) (t : Task) : Type 0 where
+  pub same : (S : Ways) (clock : List ℕ) → nickname ≡ S .nickname → rfc7179 ≡ S .rfc7179 → routed S clock f h ≡ doneBy S S clock f h t
+  pub left : Left rfc7179 f h t
+  pub role : Role nickname h t
+
+-- a frame as received, at every switch of a nickname and MAC
+abbrev pub receivedBy : Ways → List ℕ → List ℕ → Received → A.Handled
+receivedBy S clock f (R.Answered a) = answerBy a
+receivedBy S clock f (R.Trill h) = routed S clock f h
+
+abbrev pub Got : List ℕ → Received → Type 0
+Got f (R.Answered a) = (a .written ≡ 0) × (a .beside ≡ 0)
+Got f (R.Trill h) = Ready f h
+
+pub record Receives (own : Own) (f : List ℕ) (r : Received) : Type 0 where
+  pub same : (S : Ways) (clock : List ℕ) → own ≡ ownOf S → handling S clock f ≡ receivedBy S clock f r
+  pub got : Got f r
+
+-- and with the clock and the buffers that are lent
+abbrev pub Lent : List ℕ → ℕ → ℕ → Received → Type 0
+Lent clock room besideRoom (R.Answered a) = Unit {0}
+Lent clock room besideRoom (R.Trill h) = (length clock ≡ 6) × (2048 ≤ room) × (576 ≤ besideRoom)
+
+pub record Receiving (own : Own) (clock f : List ℕ) (room besideRoom : ℕ) (r : Received) : Type 0 where
+  pub same : (S : Ways) → own ≡ ownOf S → handledWith S clock room besideRoom f ≡ receivedBy S clock f r
+  pub got : Got f r
+  pub lent : Lent clock room besideRoom r
+
+-- an answer, and both buffers after it
+pub record Both (a : A.Handled) (r : Answer) (out out′ beside beside′ : List ℕ) : Type 0 where
+  pub answer : r ≡ answerOf a
+  pub after : out′ ≡ put out 0 (a .octets)
+  pub after-beside : beside′ ≡ put beside 0 (a .beside)

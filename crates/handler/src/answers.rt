@@ -1,64 +1,84 @@
 // The answer of one handling, made in one of four ways.
 ghost use mathlib.Core.Path.{_≡_};
 ghost use Prim.Native.Nat.{_≤_};
+ghost use Rattle.handler.specs.Shapes.{droppedBy, wroteBy, deliveredBy, besideBy};
 
-// `via` is the neighbour nickname used for what was written, 0 where nothing was.
-pub struct Handled {
-    pub number: u32,
-    pub written: u32,
-    pub start: u32,
-    pub length: u32,
-    pub via: u32,
+// What the driver is answered. `neighbour` is the one used for what was written, 0 where nothing was; `beside` is the length of a reply made
+// beside a forwarded frame, with its neighbour (document 02, T-09).
+#[repr(C)]
+pub struct Answer {
+    pub number: u16,
+    pub written: u16,
+    pub start: u16,
+    pub length: u16,
+    pub neighbour: u16,
+    pub beside: u16,
+    pub beside_neighbour: u16,
 }
 
-pub fn dropped(number: u8) -> Handled
-    ensures { λ r. ⌜ r ≡ record { number = number; written = 0; start = 0; length = 0; via = 0 } ⌝ }
+pub fn dropped(number: u8) -> Answer
+    ensures { λ r. ⌜ r ≡ droppedBy number 0 ⌝ }
 {
-    Handled {
-        number: number as u32,
-        written: 0,
-        start: 0,
-        length: 0,
-        via: 0,
-    }
+    dropped_at(number, 0)
 }
 
 // Dropped for what stands at a place of the options area.
-pub fn dropped_at(number: u8, place: usize) -> Handled
+pub fn dropped_at(number: u8, place: usize) -> Answer
     requires { ⌜ place ≤ 2048 ⌝ }
-    ensures { λ r. ⌜ r ≡ record { number = number; written = 0; start = place; length = 0; via = 0 } ⌝ }
+    ensures { λ r. ⌜ r ≡ droppedBy number place ⌝ }
 {
-    Handled {
-        number: number as u32,
+    Answer {
+        number: number as u16,
         written: 0,
-        start: place as u32,
+        start: place as u16,
         length: 0,
-        via: 0,
+        neighbour: 0,
+        beside: 0,
+        beside_neighbour: 0,
     }
 }
 
-pub fn wrote(number: u8, written: usize, via: u16) -> Handled
+pub fn wrote(number: u8, written: usize, neighbour: u16) -> Answer
     requires { ⌜ written ≤ 2048 ⌝ }
-    ensures { λ r. ⌜ r ≡ record { number = number; written = written; start = 0; length = 0; via = via } ⌝ }
+    ensures { λ r. ⌜ r ≡ wroteBy number written neighbour ⌝ }
 {
-    Handled {
-        number: number as u32,
-        written: written as u32,
+    Answer {
+        number: number as u16,
+        written: written as u16,
         start: 0,
         length: 0,
-        via: via as u32,
+        neighbour: neighbour,
+        beside: 0,
+        beside_neighbour: 0,
     }
 }
 
-pub fn delivered(number: u8, start: usize, length: usize) -> Handled
+pub fn delivered(number: u8, start: usize, length: usize) -> Answer
     requires { ⌜ (start ≤ 2048) × (length ≤ 2048) ⌝ }
-    ensures { λ r. ⌜ r ≡ record { number = number; written = 0; start = start; length = length; via = 0 } ⌝ }
+    ensures { λ r. ⌜ r ≡ deliveredBy number start length ⌝ }
 {
-    Handled {
-        number: number as u32,
+    Answer {
+        number: number as u16,
         written: 0,
-        start: start as u32,
-        length: length as u32,
-        via: 0,
+        start: start as u16,
+        length: length as u16,
+        neighbour: 0,
+        beside: 0,
+        beside_neighbour: 0,
+    }
+}
+
+// With what a second answer has written, beside it.
+pub fn with_beside(a: Answer, reply: Answer) -> Answer
+    ensures { λ r. ⌜ r ≡ besideBy a reply ⌝ }
+{
+    Answer {
+        number: a.number,
+        written: a.written,
+        start: a.start,
+        length: a.length,
+        neighbour: a.neighbour,
+        beside: reply.written,
+        beside_neighbour: reply.neighbour,
     }
 }

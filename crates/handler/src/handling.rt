@@ -1,7 +1,8 @@
 // One handling, the answers in the order of document 01: first what a frame comes to before a next hop is asked for, then what is done with it.
 use crate::answers;
-use crate::answers::Handled;
+use crate::answers::Answer;
 use crate::channel;
+use crate::extension;
 use crate::forward;
 use crate::header;
 use crate::options;
@@ -10,37 +11,40 @@ use crate::reply;
 use crate::way;
 use crate::way::Own;
 use crate::way::Told;
+use rules::Alert;
 use rules::ChannelRead;
 use rules::FrameRead;
 use rules::Header;
 use rules::NextHop;
 use rules::Ruling;
 ghost use mathlib.Core.Path.{_≡_};
-ghost use mathlib.Core.Bool.{_&&_};
+ghost use mathlib.Core.Bool.{false, not, _&&_};
+ghost use mathlib.Core.List.{[]};
 ghost use Prim.Native.Nat.{_≤_};
 ghost use lib.ListN.{length};
 ghost use lib.Dec.{leb};
 ghost use Rattle.rules.specs.Header.{opLength, readFrame, areaOf, innerOf};
-ghost use Rattle.rules.specs.Options.{WellFormed, areaRead, areaSent, stripped};
+ghost use Rattle.rules.specs.Options.{WellFormed, draftRead, stripped};
+ghost use Rattle.rules.specs.Extension.{areaSent};
 ghost use Rattle.rules.specs.Channel.{bodyOf, channelRead};
 ghost use Rattle.rules.specs.Handling as Rules;
 ghost use Rattle.rules.specs.declared.FrameRead.the-variants.{Trill};
-ghost use Rattle.handler.specs.Shapes.{Ready, Done, untaggedBy, waysBy};
-ghost use Rattle.handler.specs.declared.handling.Task.the-variants.{Answered};
-ghost use Rattle.handler.specs.Tasks.{askedBy, doneBy, Comes, ComesAt, Examining, Held};
+ghost use Rattle.handler.specs.Shapes.{Ready, Done, waysBy};
+ghost use Rattle.rules.specs.declared.Alert.the-variants.{AlertRequest};
+ghost use Rattle.handler.specs.Tasks.{ReadBy, stopsBy, alertBy, wantedBy, alertsBy, transitBy, besideOf, doneBy, Forwardable, Left, Comes, Routes, Receives, Receiving, Both};
 
-// An answer with nothing written, or what a next hop is asked for.
-pub enum Task {
-    Answered(Handled),
-    Forward,
-    Error { code: u8 },
-    Echo,
+// A frame as received: an answer with nothing written, or a TRILL frame of which none of 10 to 18 is given.
+pub enum Received {
+    Answered(Answer),
+    Trill(Header),
 }
 
-// The task that a frame comes to, with its header; an answered one may have none.
-pub struct Examined {
-    pub header: Header,
-    pub task: Task,
+// An answer with nothing written, or what a next hop is asked for: that of the egress to forward, that of the ingress to reply.
+pub enum Task {
+    Answered(Answer),
+    Forward(Alert),
+    Error { code: u8 },
+    Echo,
 }
 
 fn channelled(f: &[u8], h: Header) -> Task
@@ -61,7 +65,7 @@ fn channelled(f: &[u8], h: Header) -> Task
 
 // What is wrong with the inner frame's tag.
 fn untagged(inner: &[u8]) -> bool
-    ensures { λ r. ⌜ r ≡ untaggedBy (now (inner .entry)) ⌝ }
+    ensures { λ r. ⌜ r ≡ Rules.untagged (now (inner .entry)) ⌝ }
 {
     if octets::be16(inner, 12) != 0x8100 {
         return true;
@@ -104,118 +108,253 @@ fn decapsulated(f: &[u8], h: Header) -> Task
     channelled(f, h)
 }
 
-// 30 to 35 and 20, then by our role.
-fn routed(own: Own, f: &[u8], h: Header) -> Task
+// The area by the edition: its first fault.
+fn read_area(rfc7179: bool, area: &[u8]) -> AreaRead
+    ensures { λ r. ⌜ ReadBy rfc7179 (now (area .entry)) r ⌝ }
+{
+    if !rfc7179 {
+        return options::read_area(area);
+    }
+    if extension::refused(octets::be32(area, 0), area.len() == 4) {
+        return AreaRead::Faulty {
+            number: 38,
+            place: 0,
+        };
+    }
+    AreaRead::Read(options::START)
+}
+
+// 20, by the edition.
+fn area_stops(rfc7179: bool, egress: bool, area: &[u8]) -> bool
+    ensures { λ r. ⌜ r ≡ stopsBy rfc7179 egress (now (area .entry)) ⌝ }
+{
+    if rfc7179 {
+        return extension::stops(egress, octets::be32(area, 0));
+    }
+    options::area_stops(egress, area)
+}
+
+// "only on a readable inner frame to All-Egress-RBridges with Ethertype 0x8946"
+fn channel_message(inner: &[u8]) -> bool
+    ensures { λ r. ⌜ r ≡ Rules.channelMessage (now (inner .entry)) ⌝ }
+{
+    if inner.len() < 18 {
+        return false;
+    }
+    if untagged(inner) {
+        return false;
+    }
+    if !to_all_egress(inner) {
+        return false;
+    }
+    octets::be16(inner, 16) == 0x8946
+}
+
+fn alert_to(critical: bool, answered: bool, read: ChannelRead) -> Alert
+    ensures { λ r. ⌜ r ≡ Rules.alertTo critical answered read ⌝ }
+{
+    match read {
+        ChannelRead::Fault { code } => {
+            if critical {
+                return Alert::AlertFault { code: code };
+            }
+            Alert::NoAlert
+        }
+        ChannelRead::BadErr => {
+            if critical {
+                return Alert::AlertErr;
+            }
+            Alert::NoAlert
+        }
+        ChannelRead::EchoRequest => {
+            if answered {
+                return Alert::AlertRequest;
+            }
+            Alert::NoAlert
+        }
+        ChannelRead::ErrorHeard => Alert::NoAlert,
+        ChannelRead::BadEcho => Alert::NoAlert,
+        ChannelRead::EchoHeard => Alert::NoAlert,
+    }
+}
+
+// What an alert flag of the area makes of the message.
+fn alert_of(rfc7179: bool, area: &[u8], inner: &[u8]) -> Alert
+    ensures { λ r. ⌜ r ≡ alertBy rfc7179 (now (area .entry)) (now (inner .entry)) ⌝ }
+{
+    if !rfc7179 {
+        return Alert::NoAlert;
+    }
+    let w = octets::be32(area, 0);
+    if !extension::some_alert(w) {
+        return Alert::NoAlert;
+    }
+    if !channel_message(inner) {
+        return Alert::NoAlert;
+    }
+    let read = channel::channel_read(inner);
+    alert_to(
+        extension::critical_alert(w),
+        !extension::stops(true, w),
+        read,
+    )
+}
+
+// 30 to 35 or 38, and 20, then by our role.
+pub fn route(nickname: u16, rfc7179: bool, f: &[u8], h: Header) -> Task
     requires { ⌜ Ready (now f) h ⌝ }
-    ensures { λ r. ⌜ ComesAt own (now (f .entry)) h (λ S clock. Rules.routed S clock (now (f .entry)) h) r ⌝ }
+    ensures { λ r. ⌜ Routes nickname rfc7179 (now (f .entry)) h r ⌝ }
 {
     let start = h.place + 6;
     let inner = header::inner_start(h);
     let area = &f[start..inner];
-    let read = options::read_area(area);
+    let read = read_area(rfc7179, area);
     if let AreaRead::Faulty { number, place } = read {
         return Task::Answered(answers::dropped_at(number, place));
     }
-    let egress = header::we_are_egress(own.nickname, h);
-    if options::area_stops(egress, area) {
+    let egress = header::we_are_egress(nickname, h);
+    if area_stops(rfc7179, egress, area) {
         return Task::Answered(answers::dropped(20));
     }
     if egress {
         return decapsulated(f, h);
     }
-    Task::Forward
+    Task::Forward(alert_of(rfc7179, area, &f[inner..]))
 }
 
-// 12 to 18, then the area.
-fn received(own: Own, f: &[u8], h: Header) -> Examined
+// 12 to 18.
+fn passed(own: Own, f: &[u8], h: Header) -> Received
     requires { ⌜ (readFrame (now f) ≡ Trill h) × (length (now f) ≤ 2048) ⌝ }
-    ensures { λ r. ⌜ ComesAt own (now (f .entry)) (r .header) (λ S clock. Rules.handling S clock (now (f .entry))) (r .task) ⌝ }
+    ensures { λ r. ⌜ Receives own (now (f .entry)) r ⌝ }
 {
     let refusal = header::header_refusal(own.mac, f, h);
     if refusal != 0 {
-        return answered(answers::dropped(refusal));
+        return Received::Answered(answers::dropped(refusal));
     }
-    Examined {
-        header: h,
-        task: routed(own, f, h),
-    }
+    Received::Trill(h)
 }
 
 // 10 and 11, then the rest.
-fn read(own: Own, f: &[u8]) -> Examined
+fn read(own: Own, f: &[u8]) -> Received
     requires { ⌜ length (now f) ≤ 2048 ⌝ }
-    ensures { λ r. ⌜ ComesAt own (now (f .entry)) (r .header) (λ S clock. Rules.handling S clock (now (f .entry))) (r .task) ⌝ }
+    ensures { λ r. ⌜ Receives own (now (f .entry)) r ⌝ }
 {
     let read = octets::read_frame(f);
     match read {
-        FrameRead::Unreadable(n) => answered(answers::dropped(n)),
-        FrameRead::Trill(h) => received(own, f, h),
+        FrameRead::Unreadable(n) => Received::Answered(answers::dropped(n)),
+        FrameRead::Trill(h) => passed(own, f, h),
     }
 }
 
-fn answered(a: Handled) -> Examined
-    ensures { λ r. ⌜ r .task ≡ Answered a ⌝ }
-{
-    Examined {
-        header: Header {
-            place: 0,
-            word: 0,
-            egress: 0,
-            ingress: 0,
-        },
-        task: Task::Answered(a),
-    }
-}
-
-// 1 for the clock, 2 and 3, then the rest; `room` is the length of the output buffer.
-pub fn examine(own: Own, clock: &[u8], f: &[u8], room: usize) -> Examined
-    ensures { λ r. ⌜ Examining own (now (clock .entry)) (now (f .entry)) room r ⌝ }
+// 1 for the clock, 2, 37 and 3, then 10 to 18; `room` and `beside` are the lengths of the output buffers.
+pub fn receive(own: Own, clock: &[u8], f: &[u8], room: usize, beside: usize) -> Received
+    ensures { λ r. ⌜ Receiving own (now (clock .entry)) (now (f .entry)) room beside r ⌝ }
 {
     if clock.len() != 6 {
-        return answered(answers::dropped(1));
+        return Received::Answered(answers::dropped(1));
     }
     if room < 2048 {
-        return answered(answers::dropped(2));
+        return Received::Answered(answers::dropped(2));
+    }
+    if beside < 576 {
+        return Received::Answered(answers::dropped(37));
     }
     if 2048 < f.len() {
-        return answered(answers::dropped(3));
+        return Received::Answered(answers::dropped(3));
     }
     read(own, f)
 }
 
-// The destination that a next hop is asked for, 0 where none is.
-pub fn asked(e: Examined) -> u16
-    ensures { λ r. ⌜ r ≡ askedBy (e .header) (e .task) ⌝ }
+// The destination that a next hop is asked for.
+pub fn wanted(nickname: u16, h: Header) -> u16
+    ensures { λ r. ⌜ r ≡ wantedBy nickname h ⌝ }
 {
-    let h = e.header;
-    let task = e.task;
+    if header::we_are_egress(nickname, h) {
+        return h.ingress;
+    }
+    h.egress
+}
+
+// Whether a reply beside, or in place of, a forwarded frame asks for the next hop of the ingress too.
+pub fn alerts(task: Task) -> bool
+    ensures { λ r. ⌜ r ≡ alertsBy task ⌝ }
+{
     match task {
-        Task::Answered(_) => 0,
-        Task::Forward => h.egress,
-        Task::Error { code: _ } => h.ingress,
-        Task::Echo => h.ingress,
+        Task::Answered(_) => false,
+        Task::Forward(alert) => match alert {
+            Alert::NoAlert => false,
+            Alert::AlertFault { code: _ } => true,
+            Alert::AlertErr => false,
+            Alert::AlertRequest => true,
+        },
+        Task::Error { code: _ } => false,
+        Task::Echo => false,
     }
 }
 
-// 21, 29 and 50.
-fn transit(t: Told, f: &[u8], h: Header, out: &mut [u8]) -> Handled
-    requires { ⌜ (areaRead (areaOf (now f) h) ≡ WellFormed) × Ready (now f) h × (2048 ≤ length (now out)) ⌝ }
-    ensures { λ r. ⌜ Done (Rules.transit (waysBy t) (now (f .entry)) h) r (now (out .entry)) (now (out .exit)) ⌝ }
+// 21, then what the alert asks for, 29 and 50; `b` has the next hop of the ingress.
+fn transit(
+    t: Told,
+    b: Told,
+    clock: &[u8],
+    f: &[u8],
+    h: Header,
+    alert: Alert,
+    out: &mut [u8],
+    beside: &mut [u8],
+) -> Answer
+    requires { ⌜ Forwardable (t .rfc7179) (now f) h alert × (length (now clock) ≡ 6) × (2048 ≤ length (now out)) × (576 ≤ length (now beside)) ⌝ }
+    ensures { λ r. ⌜ Both (transitBy (waysBy t) (waysBy b) (now (clock .entry)) (now (f .entry)) h alert) r (now (out .entry)) (now (out .exit)) (now (beside .entry)) (now (beside .exit)) ⌝ }
 {
     let hop = t.hop;
     let Ruling::Found(r) = hop else {
         return answers::dropped(21);
     };
-    if strips(t.strip, h) {
+    match alert {
+        Alert::NoAlert => send(t, r, f, h, out),
+        Alert::AlertFault { code } => faulted(b, f, h, code, out),
+        Alert::AlertErr => answers::dropped(26),
+        Alert::AlertRequest => send_and_answer(t, b, r, clock, f, h, out, beside),
+    }
+}
+
+// 29, or 50 with an echo reply beside it.
+fn send_and_answer(
+    t: Told,
+    b: Told,
+    r: NextHop,
+    clock: &[u8],
+    f: &[u8],
+    h: Header,
+    out: &mut [u8],
+    beside: &mut [u8],
+) -> Answer
+    requires { ⌜ Forwardable (t .rfc7179) (now f) h AlertRequest × (length (now clock) ≡ 6) × (2048 ≤ length (now out)) × (576 ≤ length (now beside)) ⌝ }
+    ensures { λ a. ⌜ Both (besideOf (waysBy t) (waysBy b) r (now (clock .entry)) (now (f .entry)) h) a (now (out .entry)) (now (out .exit)) (now (beside .entry)) (now (beside .exit)) ⌝ }
+{
+    let a = send(t, r, f, h, out);
+    if a.number != 50 {
+        return a;
+    }
+    let reply = echoed(b, clock, f, h, beside);
+    answers::with_beside(a, reply)
+}
+
+// 29 and 50.
+fn send(t: Told, r: NextHop, f: &[u8], h: Header, out: &mut [u8]) -> Answer
+    requires { ⌜ (t .rfc7179 ≡ false → draftRead (areaOf (now f) h) ≡ WellFormed) × Ready (now f) h × (2048 ≤ length (now out)) ⌝ }
+    ensures { λ a. ⌜ Done (Rules.onward (waysBy t) r (now (f .entry)) h [] 0) a (now (out .entry)) (now (out .exit)) ⌝ }
+{
+    if strips(t, h) {
         return send_stripped(t, r, f, h, out);
     }
     send_whole(t, r, f, h, out)
 }
 
 // 29 and 50, with the area as it is.
-fn send_whole(t: Told, r: NextHop, f: &[u8], h: Header, out: &mut [u8]) -> Handled
+fn send_whole(t: Told, r: NextHop, f: &[u8], h: Header, out: &mut [u8]) -> Answer
     requires { ⌜ (areaSent (waysBy t) (areaOf (now f) h) ≡ areaOf (now f) h) × Ready (now f) h × (2048 ≤ length (now out)) ⌝ }
-    ensures { λ a. ⌜ Done (Rules.onward (waysBy t) r (now (f .entry)) h) a (now (out .entry)) (now (out .exit)) ⌝ }
+    ensures { λ a. ⌜ Done (Rules.onward (waysBy t) r (now (f .entry)) h [] 0) a (now (out .entry)) (now (out .exit)) ⌝ }
 {
     let size = f.len() - h.place;
     if 2048 < way::link_length(r.vlan) + size {
@@ -227,9 +366,9 @@ fn send_whole(t: Told, r: NextHop, f: &[u8], h: Header, out: &mut [u8]) -> Handl
 }
 
 // The same with another area than the one received.
-fn send_with(t: Told, r: NextHop, area: &[u8], f: &[u8], h: Header, out: &mut [u8]) -> Handled
+fn send_with(t: Told, r: NextHop, area: &[u8], f: &[u8], h: Header, out: &mut [u8]) -> Answer
     requires { ⌜ (areaSent (waysBy t) (areaOf (now f) h) ≡ now area) × (length (now area) ≤ 124) × Ready (now f) h × (2048 ≤ length (now out)) ⌝ }
-    ensures { λ a. ⌜ Done (Rules.onward (waysBy t) r (now (f .entry)) h) a (now (out .entry)) (now (out .exit)) ⌝ }
+    ensures { λ a. ⌜ Done (Rules.onward (waysBy t) r (now (f .entry)) h [] 0) a (now (out .entry)) (now (out .exit)) ⌝ }
 {
     let inner = header::inner_start(h);
     let size = 6 + area.len() + (f.len() - inner);
@@ -242,10 +381,10 @@ fn send_with(t: Told, r: NextHop, area: &[u8], f: &[u8], h: Header, out: &mut [u
 }
 
 // Stripped aside: 29 looks at how long the frame is then, and writes nothing.
-fn send_stripped(t: Told, r: NextHop, f: &[u8], h: Header, out: &mut [u8]) -> Handled
+fn send_stripped(t: Told, r: NextHop, f: &[u8], h: Header, out: &mut [u8]) -> Answer
     requires { ⌜ (areaSent (waysBy t) (areaOf (now f) h) ≡ stripped (areaOf (now f) h)) × (4 ≤ length (areaOf (now f) h))
-        × (areaRead (areaOf (now f) h) ≡ WellFormed) × Ready (now f) h × (2048 ≤ length (now out)) ⌝ }
-    ensures { λ a. ⌜ Done (Rules.onward (waysBy t) r (now (f .entry)) h) a (now (out .entry)) (now (out .exit)) ⌝ }
+        × (draftRead (areaOf (now f) h) ≡ WellFormed) × Ready (now f) h × (2048 ≤ length (now out)) ⌝ }
+    ensures { λ a. ⌜ Done (Rules.onward (waysBy t) r (now (f .entry)) h [] 0) a (now (out .entry)) (now (out .exit)) ⌝ }
 {
     let mut kept = [0u8; 124];
     let start = h.place + 6;
@@ -254,19 +393,22 @@ fn send_stripped(t: Told, r: NextHop, f: &[u8], h: Header, out: &mut [u8]) -> Ha
     send_with(t, r, &kept[..n], f, h, out)
 }
 
-// Whether anything can be stripped: only where the area has an option.
-fn strips(strip: bool, h: Header) -> bool
-    ensures { λ r. ⌜ r ≡ (leb 2 (opLength (h .word)) && strip) ⌝ }
+// Whether anything can be stripped: in edition 1, where the area has an option.
+fn strips(t: Told, h: Header) -> bool
+    ensures { λ r. ⌜ r ≡ (leb 2 (opLength (h .word)) && (t .strip && not (t .rfc7179))) ⌝ }
 {
     if header::op_length(h.word) < 2 {
         return false;
     }
-    strip
+    if t.rfc7179 {
+        return false;
+    }
+    t.strip
 }
 
 // 53 and 25.
-fn faulted(t: Told, f: &[u8], h: Header, code: u8, out: &mut [u8]) -> Handled
-    requires { ⌜ Ready (now f) h × (2048 ≤ length (now out)) ⌝ }
+fn faulted(t: Told, f: &[u8], h: Header, code: u8, out: &mut [u8]) -> Answer
+    requires { ⌜ Ready (now f) h × (576 ≤ length (now out)) ⌝ }
     ensures { λ r. ⌜ Done (Rules.faulted (waysBy t) (now (f .entry)) h code) r (now (out .entry)) (now (out .exit)) ⌝ }
 {
     let start = header::inner_start(h);
@@ -281,8 +423,8 @@ fn faulted(t: Told, f: &[u8], h: Header, code: u8, out: &mut [u8]) -> Handled
 }
 
 // 54 and 28.
-fn echoed(t: Told, clock: &[u8], f: &[u8], h: Header, out: &mut [u8]) -> Handled
-    requires { ⌜ (18 ≤ length (bodyOf (innerOf (now f) h))) × (length (bodyOf (innerOf (now f) h)) ≤ 530) × (length (now clock) ≡ 6) × Ready (now f) h × (2048 ≤ length (now out)) ⌝ }
+fn echoed(t: Told, clock: &[u8], f: &[u8], h: Header, out: &mut [u8]) -> Answer
+    requires { ⌜ (18 ≤ length (bodyOf (innerOf (now f) h))) × (length (bodyOf (innerOf (now f) h)) ≤ 530) × (length (now clock) ≡ 6) × Ready (now f) h × (576 ≤ length (now out)) ⌝ }
     ensures { λ r. ⌜ Done (Rules.echoed (waysBy t) (now (clock .entry)) (now (f .entry)) h) r (now (out .entry)) (now (out .exit)) ⌝ }
 {
     let start = header::inner_start(h) + 22;
@@ -301,16 +443,23 @@ fn echoed(t: Told, clock: &[u8], f: &[u8], h: Header, out: &mut [u8]) -> Handled
     )
 }
 
-// What is done with a frame, once the next hop is told.
-pub fn carry_out(t: Told, e: Examined, clock: &[u8], f: &[u8], out: &mut [u8]) -> Handled
-    requires { ⌜ Held (now clock) (now f) (length (now out)) (e .header) (e .task) ⌝ }
-    ensures { λ r. ⌜ Done (doneBy (waysBy t) (now (clock .entry)) (now (f .entry)) (e .header) (e .task)) r (now (out .entry)) (now (out .exit)) ⌝ }
+// What is done with a frame, once the next hops are told.
+pub fn carry_out(
+    t: Told,
+    b: Told,
+    clock: &[u8],
+    f: &[u8],
+    h: Header,
+    task: Task,
+    out: &mut [u8],
+    beside: &mut [u8],
+) -> Answer
+    requires { ⌜ Left (t .rfc7179) (now f) h task × (length (now clock) ≡ 6) × (2048 ≤ length (now out)) × (576 ≤ length (now beside)) ⌝ }
+    ensures { λ r. ⌜ Both (doneBy (waysBy t) (waysBy b) (now (clock .entry)) (now (f .entry)) h task) r (now (out .entry)) (now (out .exit)) (now (beside .entry)) (now (beside .exit)) ⌝ }
 {
-    let h = e.header;
-    let task = e.task;
     match task {
         Task::Answered(a) => a,
-        Task::Forward => transit(t, f, h, out),
+        Task::Forward(alert) => transit(t, b, clock, f, h, alert, out, beside),
         Task::Error { code } => faulted(t, f, h, code, out),
         Task::Echo => echoed(t, clock, f, h, out),
     }

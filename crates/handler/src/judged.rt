@@ -1,17 +1,17 @@
-// Whether settings octets are good (document 01, "Settings"): one tag 1 field, then tag 2 and 3 fields; anything else is bad.
+// Whether settings octets are good (document 01, "Settings"): one tag 1 field, then tag 2, 3 and 6 fields; anything else is bad.
 use crate::settings;
 use crate::way::Own;
 use crate::way::Told;
 use rules::FieldRead;
 use rules::Ruling;
 ghost use mathlib.Core.Path.{_≡_};
-ghost use mathlib.Core.Bool.{false, _||_, not};
+ghost use mathlib.Core.Bool.{true, false, _||_, not};
 ghost use Prim.Native.Nat.{_<_, _≤_};
 ghost use lib.ListN.{length, take};
 ghost use Rattle.rules.specs.Fields.{field};
 ghost use Rattle.rules.specs.Settings as S;
-ghost use Rattle.handler.specs.Keys.{keyOf, mixOf, slotBy, markBy, coversBy, markedBy, keyMet, Kept, hopTaken, withKey, flagTaken, Taking, Scanned, JudgedBy};
-ghost use Rattle.handler.specs.Shapes.{ownOf, unlessWithdrawn};
+ghost use Rattle.handler.specs.Keys.{keyOf, mixOf, slotBy, markBy, coversBy, markedBy, keyMet, Kept, hopTaken, withKey, flagTag, flagValue, flagTaken, Taking, Scanned, JudgedBy};
+ghost use Rattle.handler.specs.Shapes.{ownOf, unlessWithdrawn, flaggedBy};
 
 pub fn opens(tag: u8, v: &[u8]) -> bool
     ensures { λ r. ⌜ r ≡ S.opens (field tag (now (v .entry))) ⌝ }
@@ -121,24 +121,75 @@ fn admit(keys: &mut [u64], seen: &mut [u8], n: usize, v: &[u8]) -> usize
     n + 1
 }
 
-pub fn flag_good(tag: u8, v: &[u8]) -> bool
+// What the flags among the fields say.
+pub struct Flags {
+    pub strip: bool,
+    pub rfc7179: bool,
+}
+
+// A strip flag or an edition.
+pub fn flag_tag(tag: u8) -> bool
+    ensures { λ r. ⌜ r ≡ flagTag tag ⌝ }
+{
+    if tag == 3 {
+        return true;
+    }
+    tag == 6
+}
+
+pub fn flag_value(tag: u8, v: &[u8]) -> bool
+    ensures { λ r. ⌜ r ≡ flagValue tag (now (v .entry)) ⌝ }
+{
+    let o = octets::octet(v, 0);
+    if tag == 3 {
+        return o <= 1;
+    }
+    if o == 1 {
+        return true;
+    }
+    o == 2
+}
+
+fn flag_good(tag: u8, v: &[u8]) -> bool
     ensures { λ r. ⌜ r ≡ flagTaken tag (now (v .entry)) ⌝ }
 {
-    if tag != 3 {
+    if !flag_tag(tag) {
         return false;
     }
     if v.len() != 1 {
         return false;
     }
-    octets::octet(v, 0) <= 1
+    flag_value(tag, v)
 }
 
-// What one pass over the fields tells: whether they are good, and then the strip flag and the record that rules for a destination.
+// The flags once one more is seen.
+fn flagged(flags: Flags, tag: u8, v: &[u8]) -> Flags
+    requires { ⌜ flagTag tag ≡ true ⌝ }
+    ensures { λ r. ⌜ r ≡ flaggedBy flags (field tag (now (v .entry))) ⌝ }
+{
+    if tag == 3 {
+        return Flags {
+            strip: octets::octet(v, 0) != 0,
+            rfc7179: flags.rfc7179,
+        };
+    }
+    Flags {
+        strip: flags.strip,
+        rfc7179: octets::octet(v, 0) == 2,
+    }
+}
+
+// What one pass over the fields tells: whether they are good, and then the flags and the record that rules for a destination.
 pub struct Scan {
     pub good: bool,
-    pub strip: bool,
+    pub flags: Flags,
     pub best: Ruling,
 }
+
+const NO_FLAGS: Flags = Flags {
+    strip: false,
+    rfc7179: false,
+};
 
 fn scan_from(s: &[u8], from: usize, d: u16) -> Scan
     requires { ⌜ from ≤ length (now s) ⌝ }
@@ -148,7 +199,7 @@ fn scan_from(s: &[u8], from: usize, d: u16) -> Scan
     let mut seen = [0u8; 256];
     let mut n = 0;
     let mut best = Ruling::Absent;
-    let mut strip = false;
+    let mut flags = NO_FLAGS;
     let mut at = from;
     while at < s.len() {
         let FieldRead::Taken {
@@ -175,13 +226,13 @@ fn scan_from(s: &[u8], from: usize, d: u16) -> Scan
             if !flag_good(tag, v) {
                 return bad_scan();
             }
-            strip = octets::octet(v, 0) != 0;
+            flags = flagged(flags, tag, v);
             at = next;
         }
     }
     Scan {
         good: true,
-        strip: strip,
+        flags: flags,
         best: best,
     }
 }
@@ -191,7 +242,7 @@ fn bad_scan() -> Scan
 {
     Scan {
         good: false,
-        strip: false,
+        flags: NO_FLAGS,
         best: Ruling::Absent,
     }
 }
@@ -223,6 +274,7 @@ fn bad(own: Own) -> Judged
         told: Told {
             own: own,
             strip: false,
+            rfc7179: false,
             hop: Ruling::Absent,
         },
     }
@@ -249,7 +301,8 @@ pub fn judge(s: &[u8], own: Own, d: u16) -> Judged
         good: r.good,
         told: Told {
             own: own,
-            strip: r.strip,
+            strip: r.flags.strip,
+            rfc7179: r.flags.rfc7179,
             hop: unless_withdrawn(best),
         },
     }

@@ -1,6 +1,7 @@
 // One received frame at one switch: the handling call and the call for a delivered part (document 01).
 mod answers;
 mod channel;
+mod extension;
 mod forward;
 mod handling;
 mod header;
@@ -13,61 +14,26 @@ mod store;
 mod treatment;
 mod way;
 
+use crate::handling::Received;
+use crate::handling::Task;
+use crate::way::Own;
+use crate::way::Told;
 use crate::way::WayOut;
+pub use answers::Answer;
+use rules::Header;
 ghost use mathlib.Core.Path.{_≡_};
+ghost use Prim.Native.Nat.{_≤_};
 ghost use lib.ListN.{length};
 ghost use Rattle.rules.specs.WayOut.{wayOut};
-ghost use Rattle.rules.specs.Handling.{handled, outputAfter, partOf};
-ghost use Rattle.handler.specs.Store.{handledIn, wayOutIn, Prepared};
+ghost use mathlib.Core.Bool.{true};
+ghost use Rattle.rules.specs.Settings.{settingsOf, settingsRead, waysOf};
+ghost use Rattle.rules.specs.Campus.{known};
+ghost use Rattle.rules.specs.Handling.{handled, routed, partOf};
+ghost use Rattle.handler.specs.Store.{handledIn, wayOutIn, waysIn, Whole, Prepared};
 ghost use Rattle.handler.specs.Extend.{Opens, Extends};
-ghost use Rattle.handler.specs.Shapes.{answerOf, routedOf, toldBy, WayDone};
-
-// What the C driver is answered.
-#[repr(C)]
-pub struct Answer {
-    pub number: u32,
-    pub written: u32,
-    pub start: u32,
-    pub length: u32,
-}
-
-// An answer with the neighbour nickname used for what was written, 0 where nothing was.
-pub struct Routed {
-    pub answer: Answer,
-    pub via: u32,
-}
-
-// The handling by a prepared store.
-pub fn handle_prepared(frame: &[u8], store: &[u64], clock: &[u8], out: &mut [u8]) -> Routed
-    ensures { λ r. ⌜ (r ≡ routedOf (handledIn (now (store .entry)) (now (clock .entry)) (length (now (out .entry))) (now (frame .entry))))
-        × (now (out .exit) ≡ outputAfter (now (out .entry)) (handledIn (now (store .entry)) (now (clock .entry)) (length (now (out .entry))) (now (frame .entry)))) ⌝ }
-{
-    if !store::good(store) {
-        return told(answers::dropped(1));
-    }
-    let own = store::own_of(store);
-    let e = handling::examine(own, clock, frame, out.len());
-    let task = e.task;
-    if let handling::Task::Answered(a) = task {
-        return told(a);
-    }
-    let t = store::told(store, own, handling::asked(e));
-    told(handling::carry_out(t, e, clock, frame, out))
-}
-
-fn told(a: answers::Handled) -> Routed
-    ensures { λ r. ⌜ r ≡ toldBy a ⌝ }
-{
-    Routed {
-        answer: Answer {
-            number: a.number,
-            written: a.written,
-            start: a.start,
-            length: a.length,
-        },
-        via: a.via,
-    }
-}
+ghost use Rattle.handler.specs.Shapes.{ownOf, onlyFor, waysBy, Ready, WayDone};
+ghost use Rattle.handler.specs.Tasks.{alertsBy, Both};
+ghost use Rattle.handler.specs.Calls.{unlessBad, BackBy, ToldOf, RoutedIn};
 
 // The part of a frame that an answer's start and length name, or an empty part if it does not lie within the frame.
 pub fn part(frame: &[u8], start: usize, size: usize) -> &[u8]
@@ -88,18 +54,67 @@ pub extern "C" fn trill_handle(
     settings: &[u8],
     clock: &[u8],
     out: &mut [u8],
+    beside: &mut [u8],
 ) -> Answer
-    ensures { λ r. ⌜ (r ≡ answerOf (handled (now (settings .entry)) (now (clock .entry)) (length (now (out .entry))) (now (frame .entry))))
-        × (now (out .exit) ≡ outputAfter (now (out .entry)) (handled (now (settings .entry)) (now (clock .entry)) (length (now (out .entry))) (now (frame .entry)))) ⌝ }
+    ensures { λ r. ⌜ Both (handled (now (settings .entry)) (now (clock .entry)) (length (now (out .entry))) (length (now (beside .entry))) (now (frame .entry))) r (now (out .entry)) (now (out .exit)) (now (beside .entry)) (now (beside .exit)) ⌝ }
 {
     let own = settings::own_of(settings);
-    let e = handling::examine(own, clock, frame, out.len());
-    let j = judged::judge(settings, own, handling::asked(e));
+    let received = handling::receive(own, clock, frame, out.len(), beside.len());
+    let Received::Trill(h) = received else {
+        return unless_bad(settings, own, received);
+    };
+    let j = judged::judge(settings, own, handling::wanted(own.nickname, h));
     if !j.good {
-        return told(answers::dropped(1)).answer;
+        return answers::dropped(1);
     }
     let t = j.told;
-    told(handling::carry_out(t, e, clock, frame, out)).answer
+    handle_told(settings, own, t, clock, frame, h, out, beside)
+}
+
+// A frame of which none of 10 to 18 is given, once good settings have told what it asks for.
+fn handle_told(
+    settings: &[u8],
+    own: Own,
+    t: Told,
+    clock: &[u8],
+    frame: &[u8],
+    h: Header,
+    out: &mut [u8],
+    beside: &mut [u8],
+) -> Answer
+    requires { ⌜ ToldOf (now settings) own h t × Ready (now frame) h × (length (now clock) ≡ 6) × (2048 ≤ length (now out)) × (576 ≤ length (now beside)) ⌝ }
+    ensures { λ r. ⌜ Both (routed (waysOf (settingsRead (now (settings .entry)))) (now (clock .entry)) (now (frame .entry)) h) r (now (out .entry)) (now (out .exit)) (now (beside .entry)) (now (beside .exit)) ⌝ }
+{
+    let task = handling::route(own.nickname, t.rfc7179, frame, h);
+    let b = back(settings, own, h, task, t);
+    handling::carry_out(t, b, clock, frame, h, task, out, beside)
+}
+
+// The answer that a frame has before its area is read, unless the settings are bad.
+fn unless_bad(settings: &[u8], own: Own, received: Received) -> Answer
+    requires { ⌜ own ≡ ownOf (waysOf (settingsRead (now settings))) ⌝ }
+    ensures { λ r. ⌜ r ≡ unlessBad (now (settings .entry)) received ⌝ }
+{
+    let j = judged::judge(settings, own, 0);
+    if !j.good {
+        return answers::dropped(1);
+    }
+    let Received::Answered(a) = received else {
+        return answers::dropped(1);
+    };
+    a
+}
+
+// What is told that asks for the next hop of the ingress, where the task does.
+fn back(settings: &[u8], own: Own, h: Header, task: Task, t: Told) -> Told
+    requires { ⌜ (own ≡ ownOf (waysOf (settingsRead (now settings)))) × (known (settingsOf (now settings)) ≡ true) ⌝ }
+    ensures { λ r. ⌜ BackBy (now (settings .entry)) h task r ⌝ }
+{
+    if !handling::alerts(task) {
+        return t;
+    }
+    let j = judged::judge(settings, own, h.ingress);
+    j.told
 }
 
 // Settings octets into a store of 164 words or more, once for all frames: 0, 1 for bad settings, 2 for too few words.
@@ -145,11 +160,69 @@ pub extern "C" fn trill_handle_prepared(
     store: &[u64],
     clock: &[u8],
     out: &mut [u8],
+    beside: &mut [u8],
 ) -> Answer
-    ensures { λ r. ⌜ (r ≡ answerOf (handledIn (now (store .entry)) (now (clock .entry)) (length (now (out .entry))) (now (frame .entry))))
-        × (now (out .exit) ≡ outputAfter (now (out .entry)) (handledIn (now (store .entry)) (now (clock .entry)) (length (now (out .entry))) (now (frame .entry)))) ⌝ }
+    ensures { λ r. ⌜ Both (handledIn (now (store .entry)) (now (clock .entry)) (length (now (out .entry))) (length (now (beside .entry))) (now (frame .entry))) r (now (out .entry)) (now (out .exit)) (now (beside .entry)) (now (beside .exit)) ⌝ }
 {
-    handle_prepared(frame, store, clock, out).answer
+    if !store::good(store) {
+        return answers::dropped(1);
+    }
+    let own = store::own_of(store);
+    let received = handling::receive(own, clock, frame, out.len(), beside.len());
+    match received {
+        Received::Answered(a) => a,
+        Received::Trill(h) => handle_received(store, own, clock, frame, h, out, beside),
+    }
+}
+
+// A frame of which none of 10 to 18 is given, by a good store.
+fn handle_received(
+    store: &[u64],
+    own: Own,
+    clock: &[u8],
+    frame: &[u8],
+    h: Header,
+    out: &mut [u8],
+    beside: &mut [u8],
+) -> Answer
+    requires { ⌜ Whole (now store) × (own ≡ ownOf (waysIn (now store))) × Ready (now frame) h × (length (now clock) ≡ 6) × (2048 ≤ length (now out)) × (576 ≤ length (now beside)) ⌝ }
+    ensures { λ r. ⌜ Both (routed (waysIn (now (store .entry))) (now (clock .entry)) (now (frame .entry)) h) r (now (out .entry)) (now (out .exit)) (now (beside .entry)) (now (beside .exit)) ⌝ }
+{
+    let task = handling::route(own.nickname, store::rfc7179(store), frame, h);
+    if let Task::Answered(a) = task {
+        return a;
+    }
+    carry_out_in(store, own, clock, frame, h, task, out, beside)
+}
+
+// Its task, by what the store tells.
+fn carry_out_in(
+    store: &[u64],
+    own: Own,
+    clock: &[u8],
+    frame: &[u8],
+    h: Header,
+    task: Task,
+    out: &mut [u8],
+    beside: &mut [u8],
+) -> Answer
+    requires { ⌜ RoutedIn (now store) own (now frame) h task × (length (now clock) ≡ 6) × (2048 ≤ length (now out)) × (576 ≤ length (now beside)) ⌝ }
+    ensures { λ r. ⌜ Both (routed (waysIn (now (store .entry))) (now (clock .entry)) (now (frame .entry)) h) r (now (out .entry)) (now (out .exit)) (now (beside .entry)) (now (beside .exit)) ⌝ }
+{
+    let t = store::told(store, own, handling::wanted(own.nickname, h));
+    let b = back_in(store, own, h, task, t);
+    handling::carry_out(t, b, clock, frame, h, task, out, beside)
+}
+
+// What the store tells that is asked for the next hop of the ingress, where the task does.
+fn back_in(store: &[u64], own: Own, h: Header, task: Task, t: Told) -> Told
+    requires { ⌜ Whole (now store) × (own ≡ ownOf (waysIn (now store))) ⌝ }
+    ensures { λ r. ⌜ (alertsBy task ≡ true → waysBy r ≡ onlyFor (h .ingress) (waysIn (now (store .entry)))) ⌝ }
+{
+    if !handling::alerts(task) {
+        return t;
+    }
+    store::told(store, own, h.ingress)
 }
 
 // T-11: the link header towards a destination; 1, 21 or 2 where there is none.

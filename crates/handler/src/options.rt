@@ -22,7 +22,7 @@ pub struct Cursor {
 }
 
 // The options begin behind the first word.
-const START: Cursor = Cursor {
+pub const START: Cursor = Cursor {
     at: 4,
     floor: 0,
     hop: false,
@@ -151,7 +151,7 @@ pub fn cite(area: &[u8]) -> bool
     octets::octet(area, 0) >> 6 & 1 == 1
 }
 
-fn missing(needed: bool, there: bool) -> bool
+pub fn missing(needed: bool, there: bool) -> bool
     ensures { λ r. ⌜ r ≡ (needed && not there) ⌝ }
 {
     if needed { !there } else { false }
@@ -160,7 +160,7 @@ fn missing(needed: bool, there: bool) -> bool
 // 34 and 35, after all options.
 fn summarized(area: &[u8], read: AreaRead) -> AreaRead
     requires { ⌜ foundBy read ≡ walkOf false false (O.optionsOf (now area)) ⌝ }
-    ensures { λ r. ⌜ judgedBy r ≡ O.areaRead (now (area .entry)) ⌝ }
+    ensures { λ r. ⌜ judgedBy r ≡ O.draftRead (now (area .entry)) ⌝ }
 {
     let AreaRead::Read(end) = read else {
         return read;
@@ -182,7 +182,7 @@ fn summarized(area: &[u8], read: AreaRead) -> AreaRead
 
 // The whole area, or the first fault.
 pub fn read_area(area: &[u8]) -> AreaRead
-    ensures { λ r. ⌜ judgedBy r ≡ O.areaRead (now (area .entry)) ⌝ }
+    ensures { λ r. ⌜ judgedBy r ≡ O.draftRead (now (area .entry)) ⌝ }
 {
     if area.len() <= 4 {
         return AreaRead::Read(START);
@@ -193,7 +193,7 @@ pub fn read_area(area: &[u8]) -> AreaRead
 
 // 20: "CHbH is 1, or CItE is 1 and we are the egress"
 pub fn area_stops(egress: bool, area: &[u8]) -> bool
-    ensures { λ r. ⌜ r ≡ O.areaStops egress (now (area .entry)) ⌝ }
+    ensures { λ r. ⌜ r ≡ O.draftStops egress (now (area .entry)) ⌝ }
 {
     if chbh(area) {
         return true;
@@ -216,7 +216,7 @@ fn keep(out: &mut [u8], to: usize, stripped: bool, option: &[u8]) -> usize
 
 // Writes a well formed area of one word or more into `out` from `base` on, without what is stripped, and says how long that is.
 pub fn strip_area(area: &[u8], out: &mut [u8], base: usize) -> usize
-    requires { ⌜ (O.areaRead (now area) ≡ WellFormed) × (4 ≤ length (now area)) × (base + length (now area) ≤ length (now out)) ⌝ }
+    requires { ⌜ (O.draftRead (now area) ≡ WellFormed) × (4 ≤ length (now area)) × (base + length (now area) ≤ length (now out)) ⌝ }
     ensures { λ r. ⌜ (r ≡ length (O.stripped (now (area .entry))))
         × (now (out .exit) ≡ put (now (out .entry)) base (O.stripped (now (area .entry)))) ⌝ }
 {
@@ -227,7 +227,7 @@ pub fn strip_area(area: &[u8], out: &mut [u8], base: usize) -> usize
 
 // The options alone, from `from` on; says where they end.
 fn strip_options(area: &[u8], table: &[u8; 512], out: &mut [u8], from: usize) -> usize
-    requires { ⌜ (O.areaRead (now area) ≡ WellFormed) × (4 ≤ length (now area)) × (from + length (now area) ≤ length (now out) + 4) × Treats (now table) ⌝ }
+    requires { ⌜ (O.draftRead (now area) ≡ WellFormed) × (4 ≤ length (now area)) × (from + length (now area) ≤ length (now out) + 4) × Treats (now table) ⌝ }
     ensures { λ r. ⌜ (r ≡ from + length (keptFrom (O.optionsOf (now (area .entry)))))
         × (now (out .exit) ≡ put (now (out .entry)) from (keptFrom (O.optionsOf (now (area .entry))))) ⌝ }
 {

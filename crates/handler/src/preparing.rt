@@ -5,12 +5,12 @@ ghost use mathlib.Core.Path.{_≡_};
 ghost use mathlib.Core.Bool.{not};
 ghost use Prim.Native.Nat.{_+_, _*_, _/_, _≤_, _<_};
 ghost use lib.ListN.{length};
-ghost use Rattle.rules.specs.Octets.{put};
+ghost use Rattle.rules.specs.Octets.{put, octet};
 ghost use Rattle.rules.specs.Fields.{field};
 ghost use Rattle.rules.specs.Settings as S;
 ghost use Rattle.handler.specs.Store.{countIn, Roomy, Filled, Fills, Hinted};
 ghost use Rattle.handler.specs.Insert.{storeKey, storeValue, placeFor, metAt, metIn, putIn, insertedIn, Shifted};
-ghost use Rattle.handler.specs.Extend.{withSwitch, countBy, metBy, addedTo, Extends};
+ghost use Rattle.handler.specs.Extend.{withSwitch, countBy, metBy, addedTo, flagWord, FlagIn, Extends};
 
 // From behind: records in order take one comparison each.
 fn place_for(w: &[u64], n: usize, rank: u64) -> usize
@@ -133,20 +133,37 @@ fn admit(w: &mut [u64], v: &[u8]) -> u32
     0
 }
 
-// The strip flag.
-fn flag(w: &mut [u64], v: &[u8]) -> u32
-    ensures { λ r. ⌜ Extends (now (w .entry)) 3 (now (v .entry)) r (now (w .exit)) ⌝ }
+// The word of the flags with one set anew: the strip flag, or above it the edition less 1.
+fn flag_word(x: u64, tag: u8, v: &[u8]) -> u64
+    ensures { λ r. ⌜ r ≡ flagWord x tag (octet (now (v .entry)) 0) ⌝ }
 {
+    let o = octets::octet(v, 0);
+    if tag == 3 {
+        return x / 2 % 2 * 2 + o as u64;
+    }
+    if o == 2 {
+        return 2 + x % 2;
+    }
+    x % 2
+}
+
+// A strip flag or an edition.
+fn flag(w: &mut [u64], tag: u8, v: &[u8]) -> u32
+    ensures { λ r. ⌜ FlagIn (now (w .entry)) tag (now (v .entry)) r (now (w .exit)) ⌝ }
+{
+    if !judged::flag_tag(tag) {
+        return 43;
+    }
     if v.len() != 1 {
         return 42;
     }
-    if 1 < octets::octet(v, 0) {
+    if !judged::flag_value(tag, v) {
         return 44;
     }
     if w.len() < 4 {
         return 46;
     }
-    w[2] = octets::octet(v, 0) as u64;
+    w[2] = flag_word(w[2], tag, v);
     0
 }
 
@@ -157,10 +174,7 @@ pub fn extend(w: &mut [u64], tag: u8, v: &[u8]) -> u32
     if tag == 2 {
         return admit(w, v);
     }
-    if tag == 3 {
-        return flag(w, v);
-    }
-    43
+    flag(w, tag, v)
 }
 
 fn fill_from(s: &[u8], from: usize, w: &mut [u64]) -> bool

@@ -1,4 +1,5 @@
-// A prepared store: the settings of one switch in words. 0 own nickname; 1 own MAC above the TRILL Ethertype; 2 strip flag; 3 number of records;
+// A prepared store: the settings of one switch in words. 0 own nickname; 1 own MAC above the TRILL Ethertype; 2 strip flag, and above it the
+// edition less 1; 3 number of records;
 // from 4 on the records, two words each, in order of destination and serial; from 132 on 256 hints, eight to a word.
 use crate::way::Own;
 use crate::way::Told;
@@ -158,6 +159,13 @@ fn next_hop(w: &[u64], d: u16) -> Ruling
     hop_for(w, n, d, place_in(w, n, d))
 }
 
+pub fn rfc7179(w: &[u64]) -> bool
+    requires { ⌜ Whole (now w) ⌝ }
+    ensures { λ r. ⌜ r ≡ waysIn (now (w .entry)) .rfc7179 ⌝ }
+{
+    w[2] / 2 % 2 == 1
+}
+
 // What a handling is told that asks for the next hop of `d`.
 pub fn told(w: &[u64], own: Own, d: u16) -> Told
     requires { ⌜ Whole (now w) × (own ≡ ownOf (waysIn (now w))) ⌝ }
@@ -165,7 +173,8 @@ pub fn told(w: &[u64], own: Own, d: u16) -> Told
 {
     Told {
         own: own,
-        strip: w[2] != 0,
+        strip: w[2] % 2 == 1,
+        rfc7179: rfc7179(w),
         hop: next_hop(w, d),
     }
 }

@@ -16,10 +16,11 @@ pub struct Own {
     pub mac: u64,
 }
 
-// With the strip flag and the next hop for the one destination that is asked for.
+// With the strip flag, the edition, and the next hop for the one destination that is asked for.
 pub struct Told {
     pub own: Own,
     pub strip: bool,
+    pub rfc7179: bool,
     pub hop: Ruling,
 }
 

@@ -12,7 +12,7 @@ use lib.Dec.{ltb, leb, eqb}
 use lib.ListN.{length, drop, length-append, length-drop}
 use Rattle.rules.specs.Octets.{be16}
 use Rattle.rules.specs.Fields.{Field, field, cut, fields, lengthGood}
-use Rattle.rules.specs.Settings.{Settings, nicknameValid, macGood, hopGood, switchGood, switchOf, hopOf, hopsMost, withField}
+use Rattle.rules.specs.Settings.{Settings, nicknameValid, macGood, hopGood, switchGood, switchOf, hopOf, hopsMost, withField, withHop}
 use Rattle.rules.specs.Handling.{frameMost}
 use Rattle.rules.specs.Campus.{Described, nothingYet, switchNamed, known, placeGood, valueGood, nicknameNew, switchesMost, latestHops, roomGood, fieldRefusal, onLatest, withNext, refused, accepted, describedFrom, fileMost, described, clockOf}
 use Rattle.rules.specs.declared.NextHop.{NextHop}
@@ -78,19 +78,24 @@ length-frame n e = leb-true n 2050 (and-true (leb 2 n) (leb n 2050) e .1)
 none-after : (d : Described) (tag : ℕ) → placeGood d tag ≡ true → known (d .entry) ≡ false
 unfolding placeGood
 none-after d tag e =
-    let unmoved = not ((eqb tag 2 || eqb tag 3) && eqb (length (d .switches)) 0) in
+    let unmoved = not ((eqb tag 2 || eqb tag 3 || eqb tag 6) && eqb (length (d .switches)) 0) in
     let p = and-true (not (known (d .entry)) && unmoved) (not (eqb tag 4 && known (d .clock))) e .0 in
     not-true (known (d .entry)) (and-true (not (known (d .entry))) unmoved p .0)
 
 -- one more field keeps a switch good
-good-with : (S : Settings) (tag : ℕ) (v : List ℕ) → GoodSwitch S → valueGood tag v ≡ true → (tag ≡ 2 → length (S .hops) < hopsMost) → GoodSwitch (withField S (field tag v))
+good-with : (S : Settings) (tag : ℕ) (v : List ℕ) → GoodSwitch S → valueGood tag v ≡ true → (tag ≡ 2 → length (S .hops) < hopsMost)
+    → GoodSwitch (withField S (field tag v))
 unfolding withField switchGood
 good-with S tag v g value room =
     by-test (eqb tag 2)
     (λ a. rw a (hop (eqb-true tag 2 a)))
-    (λ a. rw a (by-test (eqb tag 3) (λ b. rw b (record { own = g .own; few-hops = g .few-hops; good-hops = g .good-hops })) (λ b. rw b g)))
+    (λ a. rw a
+    (by-test (eqb tag 3)
+    (λ b. rw b (record { own = g .own; few-hops = g .few-hops; good-hops = g .good-hops }))
+    (λ b. rw b
+    (by-test (eqb tag 6) (λ c. rw c (record { own = g .own; few-hops = g .few-hops; good-hops = g .good-hops })) (λ c. rw c g)))))
   where
-    hop : tag ≡ 2 → GoodSwitch (record { nickname = S .nickname; mac = S .mac; strip = S .strip; hops = S .hops ++ (hopOf v ∷ []) })
+    hop : tag ≡ 2 → GoodSwitch (withHop S (hopOf v))
     hop two = record { own = g .own; few-hops = rw (length-append (S .hops)) (omega (arith, room two)); good-hops = λ r i. among r (List·Memᴰ·append-cases (S .hops) i) }
       where
         among : (r : NextHop) → List·Memᴰ r (S .hops) ⊎ List·Memᴰ r (hopOf v ∷ []) → hopGood r ≡ true

@@ -116,14 +116,18 @@ module _ (tag size : ℕ) where
   unfolding lengthGood
   length-flag e = rw e
 
+  pub length-edition : tag ≡ 6 → eqb size 1 ≡ lengthGood tag size
+  unfolding lengthGood
+  length-edition e = rw e
+
   pub length-clock : tag ≡ 4 → eqb size 6 ≡ lengthGood tag size
   unfolding lengthGood
   length-clock e = rw e
 
   module _ (one : tag ≡ 1 → ⊥) (two : tag ≡ 2 → ⊥) (three : tag ≡ 3 → ⊥) (four : tag ≡ 4 → ⊥) where
-    pub length-unknown : (tag ≡ 5 → ⊥) → false ≡ lengthGood tag size
+    pub length-unknown : (tag ≡ 5 → ⊥) → (tag ≡ 6 → ⊥) → false ≡ lengthGood tag size
     unfolding lengthGood
-    length-unknown n = rw (ne-eqb tag 1 one, ne-eqb tag 2 two, ne-eqb tag 3 three, ne-eqb tag 4 four, ne-eqb tag 5 n)
+    length-unknown n m = rw (ne-eqb tag 1 one, ne-eqb tag 2 two, ne-eqb tag 3 three, ne-eqb tag 4 four, ne-eqb tag 5 n, ne-eqb tag 6 m)
 
   module _ (five : tag ≡ 5) where
     pub length-short : size < 2 → false ≡ lengthGood tag size
@@ -134,4 +138,4 @@ module _ (tag size : ℕ) where
     unfolding lengthGood
     length-frame h = rw (five, le-leb 2 size h)
 
-pub ruleset length-good-laws = (needs, length-switch, length-hop, length-flag, length-clock, length-unknown, length-short, length-frame)
+pub ruleset length-good-laws = (needs, length-switch, length-hop, length-flag, length-edition, length-clock, length-unknown, length-short, length-frame)

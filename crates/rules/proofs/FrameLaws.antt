@@ -3,11 +3,11 @@
 -- Assumes nothing.
 use mathlib.Core.Path.{_≡_, refl, sym, ap, _∙_}
 use mathlib.Core.List.{List, _++_}
-use mathlib.Core.Bool.{Bool, true, false, not, _||_, cond}
+use mathlib.Core.Bool.{Bool, true, false, not, _&&_, _||_, cond}
 use Prim.Native.Nat.{ℕ, suc, _+_, _-_, _*_, _/_, _%_, _<_, _≤_}
 use native.Mathlib.Omega.{arith}
 use native.Mathlib.Nat.{add-zero}
-use borrow.Author.Tests.{lt-ltb, le-ltb, eq-eqb, ne-eqb, ltb-false, leb-false, eqb-true, eqb-false, not-false}
+use borrow.Author.Tests.{lt-ltb, le-ltb, eq-eqb, ne-eqb, ltb-false, leb-false, eqb-true, eqb-false, not-true, not-false}
 use lib.Dec.{ltb, leb, eqb}
 use lib.ListN.{length, drop, length-append}
 use lib.Seq.{take-at, drop-at, drop-drop, drop-append-add}
@@ -15,13 +15,14 @@ use Rattle.rules.specs.Octets.{be16, be48, octets16}
 use Rattle.rules.specs.Settings.{Ways}
 use Rattle.rules.specs.Link.{linkLength, linkEthertype, outerTag, link, ethertypeTag, ethertypeTrill}
 use Rattle.rules.specs.Header.{version, reserved, multi, opLength, hopCount, headerWord, readFrame, innerStart, areaOf, innerOf, headerRefusal}
-use Rattle.rules.specs.Options.{WellFormed, areaRead, areaSent}
+use Rattle.rules.specs.Options.{AreaRead, WellFormed, draftRead}
+use Rattle.rules.specs.Extension.{areaRead, areaSent}
 use Rattle.rules.specs.Handling.{forwardedRest}
 use Rattle.rules.specs.declared.NextHop.{NextHop}
 use Rattle.rules.specs.declared.Header.{Header}
 use Rattle.rules.specs.declared.FrameRead.{FrameRead}
 use Rattle.rules.specs.declared.FrameRead.the-variants.{Trill, Unreadable}
-use Rattle.rules.proofs.TestLaws.{by-test, or-false}
+use Rattle.rules.proofs.TestLaws.{by-test, and-true, or-false}
 use Rattle.rules.proofs.OctetLaws.{be16-before, be16-after, length-part}
 use Rattle.rules.proofs.OptionLaws.{stripped-shorter, stripped-words}
 
@@ -208,17 +209,22 @@ header-passed S f h e =
     }
 
 -- the area sent is no longer than the one received, and of whole words
-module _ (S : Ways) (area : List ℕ) (well : areaRead area ≡ WellFormed) where
+module _ (S : Ways) (area : List ℕ) (well : areaRead S area ≡ WellFormed) where
+  -- only in edition 1 is anything stripped
+  pub strips-draft : (S .strip && not (S .rfc7179)) ≡ true → draftRead area ≡ WellFormed
+  unfolding areaRead
+  strips-draft e = let old = not-true (S .rfc7179) (and-true (S .strip) (not (S .rfc7179)) e .1) in rw old at well
+
   pub sent-shorter : length (areaSent S area) ≤ length area
   unfolding areaSent
-  sent-shorter = by-test (S .strip) (λ e. rw e (stripped-shorter area well)) (λ e. rw e (omega arith))
+  sent-shorter = by-test (S .strip && not (S .rfc7179)) (λ e. rw e (stripped-shorter area (strips-draft e))) (λ e. rw e (omega arith))
 
   pub sent-words : length area % 4 ≡ 0 → length (areaSent S area) % 4 ≡ 0
   unfolding areaSent
-  sent-words m = by-test (S .strip) (λ e. rw e (stripped-words area well m)) (λ e. rw e m)
+  sent-words m = by-test (S .strip && not (S .rfc7179)) (λ e. rw e (stripped-words area (strips-draft e) m)) (λ e. rw e m)
 
 -- a forwarded frame, behind any link header
-module _ (S : Ways) (f : List ℕ) (h : Header) (read : readFrame f ≡ Trill h) (passed : Passed S f h) (well : areaRead (areaOf f h) ≡ WellFormed) where
+module _ (S : Ways) (f : List ℕ) (h : Header) (read : readFrame f ≡ Trill h) (passed : Passed S f h) (well : areaRead S (areaOf f h) ≡ WellFormed) where
   pub area-length : length (areaOf f h) ≡ 4 * opLength (h .word)
   area-length = length-part f (h .place + 6) (4 * opLength (h .word)) (passed .area-whole)
 

@@ -13,10 +13,11 @@ use Rattle.rules.specs.Octets.{be16, be48}
 use Rattle.rules.specs.Settings.{Settings, Ways, waysOf, settingsOf}
 use Rattle.rules.specs.Link.{link, linkLength, linkEthertype, ethertypeTag, ethertypeTrill}
 use Rattle.rules.specs.Header.{version, multi, hopCount, anyRBridge, readFrame, innerStart, areaOf, innerOf, headerRefusal, weAreEgress}
-use Rattle.rules.specs.Options.{WellFormed, Faulty, areaRead, areaStops, areaSent}
-use Rattle.rules.specs.Answer.{dropped, droppedAt, wrote, delivered}
+use Rattle.rules.specs.Options.{WellFormed, Faulty}
+use Rattle.rules.specs.Extension.{areaRead, areaStops, areaSent}
+use Rattle.rules.specs.Answer.{dropped, droppedAt, wrote, wroteBoth, delivered}
 use Rattle.rules.specs.Channel.{ethertypeChannel, ethertypeIsIs, protocolError, protocolEcho, innerEthertype, chv, protocol, na, err, bodyOf, replyMode, echoRead, channelRead, silenced, returnPath, errorReply, echoReply}
-use Rattle.rules.specs.Handling.{forwardedRest, forwarded, onward, transit, faulted, echoed, channelled, vlan, toAllEgressRBridges, decapsulated, routed, handling, frameMost, handledWith, handled}
+use Rattle.rules.specs.Handling.{forwardedRest, forwarded, onward, alertOf, alerted, transit, faulted, echoed, channelled, untagged, toAllEgressRBridges, decapsulated, routed, handling, frameMost, besideLeast, handledWith, handled}
 use Rattle.rules.specs.declared.NextHop.{NextHop}
 use Rattle.rules.specs.declared.Header.{Header}
 use Rattle.rules.specs.declared.Ruling.the-variants.{Found, Absent}
@@ -28,20 +29,21 @@ use Rattle.rules.proofs.FrameLaws.{link-most}
 use Rattle.rules.proofs.ReplyLaws.{length-reply, echo-body-length}
 
 module _ (S : Ways) (f : List ℕ) (h : Header) where
-  pub transit-none : S .hop (h .egress) ≡ Absent → transit S f h ≡ dropped 21
-  unfolding transit
-  transit-none e = rw (transit, e)
-
-  module _ (r : NextHop) where
-    pub transit-over : S .hop (h .egress) ≡ Found r → transit S f h ≡ onward S r f h
+  module _ (clock : List ℕ) where
+    pub transit-none : S .hop (h .egress) ≡ Absent → transit S clock f h ≡ dropped 21
     unfolding transit
-    transit-over e = rw (transit, e)
+    transit-none e = rw (transit, e)
 
-    pub onward-long : frameMost < length (forwarded S r f h) → onward S r f h ≡ dropped 29
+    pub transit-over : (r : NextHop) → S .hop (h .egress) ≡ Found r → transit S clock f h ≡ alerted S r clock f h (alertOf S f h)
+    unfolding transit
+    transit-over r e = rw (transit, e)
+
+  module _ (r : NextHop) (beside : List ℕ) (besideVia : ℕ) where
+    pub onward-long : frameMost < length (forwarded S r f h) → onward S r f h beside besideVia ≡ dropped 29
     unfolding onward
     onward-long n = rw (lt-ltb frameMost (length (forwarded S r f h)) n)
 
-    pub onward-sent : length (forwarded S r f h) ≤ frameMost → onward S r f h ≡ wrote 50 (forwarded S r f h) (r .neighbour)
+    pub onward-sent : length (forwarded S r f h) ≤ frameMost → onward S r f h beside besideVia ≡ wroteBoth 50 (forwarded S r f h) (r .neighbour) beside besideVia
     unfolding onward
     onward-sent n = rw (le-ltb frameMost (length (forwarded S r f h)) n)
 
@@ -119,11 +121,11 @@ module _ (S : Ways) (clock f : List ℕ) (h : Header) where
   inner-short a = simp (lt-ltb (length (innerOf f h)) 18 a)
 
   module _ (a : 18 ≤ length (innerOf f h)) where
-    pub inner-untagged : (not (eqb (be16 (innerOf f h) 12) ethertypeTag) || eqb (vlan (innerOf f h)) 0 || eqb (vlan (innerOf f h)) 4095) ≡ true → decapsulated S clock f h ≡ dropped 23
+    pub inner-untagged : untagged (innerOf f h) ≡ true → decapsulated S clock f h ≡ dropped 23
     unfolding decapsulated
     inner-untagged b = simp (le-ltb (length (innerOf f h)) 18 a, b)
 
-    module _ (b : (not (eqb (be16 (innerOf f h) 12) ethertypeTag) || eqb (vlan (innerOf f h)) 0 || eqb (vlan (innerOf f h)) 4095) ≡ false) where
+    module _ (b : untagged (innerOf f h) ≡ false) where
       pub inner-any : h .egress ≡ anyRBridge → toAllEgressRBridges (innerOf f h) ≡ false → decapsulated S clock f h ≡ dropped 24
       unfolding decapsulated
       inner-any c d = simp (le-ltb (length (innerOf f h)) 18 a, b, eq-eqb (h .egress) anyRBridge c, d)
@@ -141,21 +143,21 @@ module _ (S : Ways) (clock f : List ℕ) (h : Header) where
         unfolding decapsulated
         inner-channel g = simp (le-ltb (length (innerOf f h)) 18 a, b, d, and-no, ne-eqb (innerEthertype (innerOf f h)) ethertypeIsIs g)
 
-  pub routed-faulty : (number place : ℕ) → areaRead (areaOf f h) ≡ Faulty number place → routed S clock f h ≡ droppedAt number place
+  pub routed-faulty : (number place : ℕ) → areaRead S (areaOf f h) ≡ Faulty number place → routed S clock f h ≡ droppedAt number place
   unfolding routed
   routed-faulty number place a = rw (routed, a)
 
-  module _ (a : areaRead (areaOf f h) ≡ WellFormed) where
-    pub routed-stopped : areaStops (weAreEgress (S .nickname) h) (areaOf f h) ≡ true → routed S clock f h ≡ dropped 20
+  module _ (a : areaRead S (areaOf f h) ≡ WellFormed) where
+    pub routed-stopped : areaStops S (weAreEgress (S .nickname) h) (areaOf f h) ≡ true → routed S clock f h ≡ dropped 20
     unfolding routed
     routed-stopped b = rw (routed, a, b)
 
-    module _ (b : areaStops (weAreEgress (S .nickname) h) (areaOf f h) ≡ false) where
+    module _ (b : areaStops S (weAreEgress (S .nickname) h) (areaOf f h) ≡ false) where
       pub routed-egress : weAreEgress (S .nickname) h ≡ true → routed S clock f h ≡ decapsulated S clock f h
       unfolding routed
       routed-egress c = rw (routed, a, b, c)
 
-      pub routed-transit : weAreEgress (S .nickname) h ≡ false → routed S clock f h ≡ transit S f h
+      pub routed-transit : weAreEgress (S .nickname) h ≡ false → routed S clock f h ≡ transit S clock f h
       unfolding routed
       routed-transit c = rw (routed, a, b, c)
 
@@ -172,58 +174,67 @@ unfolding handling
 handling-unread S clock f n e = rw (handling, e)
 
 -- the refusals before a frame is looked at
-module _ (S : Ways) (clock : List ℕ) (room : ℕ) (f : List ℕ) where
-  pub clock-bad : (length clock ≡ 6 → ⊥) → handledWith S clock room f ≡ dropped 1
+module _ (S : Ways) (clock : List ℕ) (room besideRoom : ℕ) (f : List ℕ) where
+  pub clock-bad : (length clock ≡ 6 → ⊥) → handledWith S clock room besideRoom f ≡ dropped 1
   unfolding handledWith
   clock-bad a = simp (ne-eqb (length clock) 6 a)
 
   module _ (a : length clock ≡ 6) where
-    pub room-short : room < frameMost → handledWith S clock room f ≡ dropped 2
+    pub room-short : room < frameMost → handledWith S clock room besideRoom f ≡ dropped 2
     unfolding handledWith
     room-short b = simp (eq-eqb (length clock) 6 a, lt-ltb room frameMost b)
 
     module _ (b : frameMost ≤ room) where
-      pub frame-long : frameMost < length f → handledWith S clock room f ≡ dropped 3
+      pub beside-short : besideRoom < besideLeast → handledWith S clock room besideRoom f ≡ dropped 37
       unfolding handledWith
-      frame-long c = simp (eq-eqb (length clock) 6 a, le-ltb room frameMost b, lt-ltb frameMost (length f) c)
+      beside-short c = simp (eq-eqb (length clock) 6 a, le-ltb room frameMost b, lt-ltb besideRoom besideLeast c)
 
-      pub frame-handled : length f ≤ frameMost → handledWith S clock room f ≡ handling S clock f
-      unfolding handledWith
-      frame-handled c = simp (eq-eqb (length clock) 6 a, le-ltb room frameMost b, le-ltb frameMost (length f) c)
+      module _ (c : besideLeast ≤ besideRoom) where
+        pub frame-long : frameMost < length f → handledWith S clock room besideRoom f ≡ dropped 3
+        unfolding handledWith
+        frame-long d = simp (eq-eqb (length clock) 6 a, le-ltb room frameMost b, le-ltb besideRoom besideLeast c, lt-ltb frameMost (length f) d)
 
-module _ (settings clock : List ℕ) (room : ℕ) (f : List ℕ) where
-  pub settings-bad : settingsOf settings ≡ none → handled settings clock room f ≡ dropped 1
+        pub frame-handled : length f ≤ frameMost → handledWith S clock room besideRoom f ≡ handling S clock f
+        unfolding handledWith
+        frame-handled d = simp (eq-eqb (length clock) 6 a, le-ltb room frameMost b, le-ltb besideRoom besideLeast c, le-ltb frameMost (length f) d)
+
+module _ (settings clock : List ℕ) (room besideRoom : ℕ) (f : List ℕ) where
+  pub settings-bad : settingsOf settings ≡ none → handled settings clock room besideRoom f ≡ dropped 1
   unfolding handled
   settings-bad e = rw (handled, e)
 
-  pub settings-good : (S : Settings) → settingsOf settings ≡ some S → handled settings clock room f ≡ handledWith (waysOf S) clock room f
+  pub settings-good : (S : Settings) → settingsOf settings ≡ some S → handled settings clock room besideRoom f ≡ handledWith (waysOf S) clock room besideRoom f
   unfolding handled
   settings-good S e = rw (handled, e)
 
 -- the numbers of what is refused before 50
-one-small : (b : Bool) (n x : ℕ) → n < 50 → x < 50 → cond b n x < 50
-one-small true n x hn hx = hn
-one-small false n x hn hx = hx
+pub record HeaderNumber (n : ℕ) : Type 0 where
+  pub most : n ≤ 18
+  pub least : 1 ≤ n → 12 ≤ n
 
-pub header-refused-small : (S : Ways) (f : List ℕ) (h : Header) → headerRefusal (S .mac) f h < 50
+one-number : (b : Bool) (n x : ℕ) → 12 ≤ n → n ≤ 18 → HeaderNumber x → HeaderNumber (cond b n x)
+one-number true n x lo hi hx = record { most = hi; least = λ _. lo }
+one-number false n x lo hi hx = hx
+
+pub header-number : (S : Ways) (f : List ℕ) (h : Header) → HeaderNumber (headerRefusal (S .mac) f h)
 unfolding headerRefusal
-header-refused-small S f h =
-    one-small (not (eqb (be48 f 0) (S .mac))) 12 _ (omega arith)
-    (one-small (not (eqb (version (h .word)) 0)) 13 _ (omega arith)
-    (one-small (eqb (multi (h .word)) 1) 14 _ (omega arith)
-    (one-small (eqb (h .ingress) 0 || leb 0xFFC0 (h .ingress)) 15 _ (omega arith)
-    (one-small (eqb (h .egress) 0 || ltb 0xFFC0 (h .egress)) 16 _ (omega arith)
-    (one-small (eqb (hopCount (h .word)) 0) 17 _ (omega arith)
-    (one-small (ltb (length f) (innerStart h)) 18 0 (omega arith) (omega arith)))))))
+header-number S f h =
+    one-number (not (eqb (be48 f 0) (S .mac))) 12 _ (omega arith) (omega arith)
+    (one-number (not (eqb (version (h .word)) 0)) 13 _ (omega arith) (omega arith)
+    (one-number (eqb (multi (h .word)) 1) 14 _ (omega arith) (omega arith)
+    (one-number (eqb (h .ingress) 0 || leb 0xFFC0 (h .ingress)) 15 _ (omega arith) (omega arith)
+    (one-number (eqb (h .egress) 0 || ltb 0xFFC0 (h .egress)) 16 _ (omega arith) (omega arith)
+    (one-number (eqb (hopCount (h .word)) 0) 17 _ (omega arith) (omega arith)
+    (one-number (ltb (length f) (innerStart h)) 18 0 (omega arith) (omega arith) (record { most = omega arith; least = λ k. omega arith })))))))
 
-unread-one : (a b c d : Bool) (g : Header) (n : ℕ) → cond a (Unreadable 10) (cond b (Unreadable 10) (cond c (Unreadable 11) (cond d (Unreadable 10) (Trill g)))) ≡ Unreadable n → n < 50
-unread-one true b c d g n e = let q : 10 ≡ n = cc in omega arith
-unread-one false true c d g n e = let q : 10 ≡ n = cc in omega arith
-unread-one false false true d g n e = let q : 11 ≡ n = cc in omega arith
-unread-one false false false true g n e = let q : 10 ≡ n = cc in omega arith
+unread-one : (a b c d : Bool) (g : Header) (n : ℕ) → cond a (Unreadable 10) (cond b (Unreadable 10) (cond c (Unreadable 11) (cond d (Unreadable 10) (Trill g)))) ≡ Unreadable n → (10 ≤ n) × (n ≤ 11)
+unread-one true b c d g n e = let q : 10 ≡ n = cc in (omega arith, omega arith)
+unread-one false true c d g n e = let q : 10 ≡ n = cc in (omega arith, omega arith)
+unread-one false false true d g n e = let q : 11 ≡ n = cc in (omega arith, omega arith)
+unread-one false false false true g n e = let q : 10 ≡ n = cc in (omega arith, omega arith)
 unread-one false false false false g n e = let z : _≡_ {A = ℕ} 0 1 = cc in absurd (omega arith)
 
-pub unread-small : (f : List ℕ) (n : ℕ) → readFrame f ≡ Unreadable n → n < 50
+pub unread-number : (f : List ℕ) (n : ℕ) → readFrame f ≡ Unreadable n → (10 ≤ n) × (n ≤ 11)
 unfolding readFrame
-unread-small f n e =
+unread-number f n e =
     unread-one (ltb (length f) 14) (ltb (length f) (linkLength f)) (not (eqb (linkEthertype f) ethertypeTrill)) (ltb (length f) (linkLength f + 6)) _ n e

@@ -8,9 +8,12 @@ pub mod FrameLaws
 pub mod ReplyLaws
 pub mod HandlingLaws
 pub mod HandledLaws
+pub mod NextLaws
 pub mod StepLaws
 pub mod WalkLaws
 pub mod RunLaws
+pub mod SingleLaws
+pub mod AlikeLaws
 pub mod DescriptionLaws
 pub mod OutcomeLaws
 pub mod DemandLaws

@@ -12,7 +12,7 @@ use lib.Dec.{ltb, leb, eqb}
 use lib.ListN.{length, take, drop, take-append-drop, length-append, length-drop, drop-of-length-le}
 use lib.Seq.{drop-append-seam, take-at, take-all, length-take-le}
 use Rattle.rules.specs.Octets.{octet, be16, part}
-use Rattle.rules.specs.Options.{chbh, cite, keyOf, lengthOf, ie, nc, mt, optionSize, optionAt, TlvOption, Options, options, fault, optionFirst, optionsFrom, optionsOf, hopByHopCritical, ingressToEgressCritical, some-key, summarized, areaRead, implemented, strippable, keptOptions, octetsOf, stripped}
+use Rattle.rules.specs.Options.{chbh, cite, keyOf, lengthOf, ie, nc, mt, optionSize, optionAt, TlvOption, Options, options, fault, optionFirst, optionsFrom, optionsOf, hopByHopCritical, ingressToEgressCritical, some-key, summarized, draftRead, implemented, strippable, keptOptions, octetsOf, stripped}
 use Rattle.rules.specs.Options.{OptionRead, Taken, Fault, AreaRead, WellFormed, Faulty, Laid, none, one, WellFormedArea}
 use Rattle.rules.proofs.TestLaws.{by-test, and-true, and-no}
 use Rattle.rules.proofs.OctetLaws.{octet-before, octet-part, be16-before, be16-after, be16-part, drop-part, length-part}
@@ -321,8 +321,8 @@ both-summarized false false e = (refl, refl)
 both-summarized true b e = let z : _≡_ {A = ℕ} 0 1 = cc in absurd (omega arith)
 both-summarized false true e = let z : _≡_ {A = ℕ} 0 1 = cc in absurd (omega arith)
 
-pub area-well : (area : List ℕ) → areaRead area ≡ WellFormed → Well area
-unfolding areaRead summarized
+pub area-well : (area : List ℕ) → draftRead area ≡ WellFormed → Well area
+unfolding draftRead summarized
 area-well area e = go (optionsOf area) refl
   where
     go : (w : Options) → optionsOf area ≡ w → Well area
@@ -334,12 +334,12 @@ area-well area e = go (optionsOf area) refl
         let z : _≡_ {A = ℕ} 0 1 = cc g in
         absurd (omega arith)
 
-pub well-area : (area : List ℕ) → Well area → areaRead area ≡ WellFormed
-unfolding areaRead summarized
+pub well-area : (area : List ℕ) → Well area → draftRead area ≡ WellFormed
+unfolding draftRead summarized
 well-area area w = rw (w .are, w .hop-by-hop, w .ingress-to-egress)
 
 -- a stripped area is well formed, with the same summary bits, no longer, of whole words; and stripping it changes nothing
-module _ (area : List ℕ) (e : areaRead area ≡ WellFormed) where
+module _ (area : List ℕ) (e : draftRead area ≡ WellFormed) where
   Its : Well area
   Its = area-well area e
 
@@ -352,7 +352,7 @@ module _ (area : List ℕ) (e : areaRead area ≡ WellFormed) where
   pub stripped-cite : cite (stripped area) ≡ cite area
   stripped-cite = ap (λ (x : ℕ). eqb (x / 64 % 2) 1) (read-again .first)
 
-  pub stripped-well : areaRead (stripped area) ≡ WellFormed
+  pub stripped-well : draftRead (stripped area) ≡ WellFormed
   stripped-well =
       well-area (stripped area)
       record {
@@ -389,7 +389,7 @@ none-lacks : (a b : Bool) → (a ≡ true → b ≡ true) → (a && not b) ≡ f
 none-lacks true b h = rw (h refl)
 none-lacks false b h = refl
 
-pub well-formed-before : (area : List ℕ) → areaRead area ≡ WellFormed → WellFormedArea area
+pub well-formed-before : (area : List ℕ) → draftRead area ≡ WellFormed → WellFormedArea area
 unfolding optionsOf octetsOf
 well-formed-before area e =
     let w = area-well area e in
@@ -410,7 +410,7 @@ well-formed-before area e =
       ingress-to-egress = lacks-none (some-key ingressToEgressCritical os) (cite area) (w .ingress-to-egress);
     }
 
-pub well-formed-after : (area : List ℕ) → WellFormedArea area → areaRead area ≡ WellFormed
+pub well-formed-after : (area : List ℕ) → WellFormedArea area → draftRead area ≡ WellFormed
 unfolding optionsOf
 well-formed-after area w =
     let os = w .its in
@@ -482,8 +482,8 @@ options-number (suc fuel) area floor at n p e =
         rest (record { key = key; size = size; octets = part area at (next - at) }) (optionsFrom fuel area (key + 1) next) (ih key next)
         (sym (options-on fuel area floor at key size next lt f) ∙ e)
 
-pub area-number : (area : List ℕ) (n p : ℕ) → areaRead area ≡ Faulty n p → Numbered 30 35 (length area) n p
-unfolding areaRead summarized optionsOf
+pub area-number : (area : List ℕ) (n p : ℕ) → draftRead area ≡ Faulty n p → Numbered 30 35 (length area) n p
+unfolding draftRead summarized optionsOf
 area-number area n p e = go (optionsOf area) refl
   where
     is : (m : ℕ) → 30 ≤ m → m ≤ 35 → Faulty m 0 ≡ Faulty n p → Numbered 30 35 (length area) n p

@@ -3,8 +3,10 @@ use mathlib.Core.Path.{_≡_}
 use mathlib.Core.List.{List}
 use Prim.Native.Nat.{ℕ, _<_, _≤_}
 use borrow.Author.Tests.{lt-ltb, le-ltb}
+use native.Mathlib.Omega.{arith}
 use lib.ListN.{length}
-use Rattle.rules.specs.Campus.{Described, refused, accepted, described, plainRun, traceOctets, traceLeast, refusal, campus}
+use Rattle.rules.specs.Campus.{Described, refused, accepted, described, plainRun, traceOctets, traceLeast, refusal, someEdition2, traceNeeded, campus}
+use Rattle.rules.proofs.TestLaws.{by-test}
 
 module _ (file : List ℕ) (room : ℕ) where
   pub campus-short : room < traceLeast → campus file room ≡ refusal 49
@@ -16,7 +18,20 @@ module _ (file : List ℕ) (room : ℕ) where
     unfolding campus
     campus-refused code e = rw (campus, le-ltb room traceLeast h, e)
 
-    pub campus-accepted : (d : Described) → described file ≡ accepted d
-        → campus file room ≡ record { code = 0; count = length (plainRun d); trace = traceOctets (plainRun d) }
-    unfolding campus
-    campus-accepted d e = rw (campus, le-ltb room traceLeast h, e)
+    module _ (d : Described) (e : described file ≡ accepted d) where
+      pub campus-needed : room < traceNeeded d → campus file room ≡ refusal 49
+      unfolding campus
+      campus-needed n = rw (campus, le-ltb room traceLeast h, e, lt-ltb room (traceNeeded d) n)
+
+      pub campus-run : traceNeeded d ≤ room → campus file room ≡ record { code = 0; count = length (plainRun d); trace = traceOctets (plainRun d) }
+      unfolding campus
+      campus-run n = rw (campus, le-ltb room traceLeast h, e, le-ltb room (traceNeeded d) n)
+
+-- every description needs the 640 octets at least
+pub least-needed : (d : Described) → traceLeast ≤ traceNeeded d
+unfolding traceNeeded
+least-needed d = by-test (someEdition2 (d .switches)) (λ e. rw e (omega arith)) (λ e. rw e (omega arith))
+
+pub campus-accepted : (file : List ℕ) (room : ℕ) (d : Described) → described file ≡ accepted d → traceNeeded d ≤ room
+    → campus file room ≡ record { code = 0; count = length (plainRun d); trace = traceOctets (plainRun d) }
+campus-accepted file room d e n = campus-run file room (omega (arith, n, least-needed d)) d e n

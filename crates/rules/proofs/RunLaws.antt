@@ -1,25 +1,28 @@
--- Laws of the run, by its turns: it has at most 64 handlings and the smaller of the number of switches and the hop count, so it ends; at most
--- one reply arises and nothing answers it; every frame fits. By induction on the handlings looked at. Assumes nothing.
-use mathlib.Core.Path.{_≡_, refl, ap, subst, _∙_}
+-- Laws of the plain run, whatever the editions: it has at most 65h + 1 handlings, so it ends; at most h replies arise and nothing answers one; every
+-- frame fits, and at most 63 replies wait, of 576 octets each at most. By induction on the handlings looked at: a handling costs one, an original of
+-- hop count x has 65x + 1 to spend, a reply x + 1, and each reply that waits 64. Assumes nothing.
+use mathlib.Core.Path.{_≡_, refl, sym, ap, _∙_}
 use mathlib.Core.Logic.{_⊎_, inl, inr}
-use mathlib.Core.List.{List, [], _∷_, List·Memᴰ, List·Memᴰ·head, List·Memᴰ·tail, List·Memᴰ·not-nil, List·Memᴰ·cases-cons}
-use mathlib.Core.Bool.{Bool, true, false}
+use mathlib.Core.List.{List, [], _∷_, _++_, List·Memᴰ, List·Memᴰ·head, List·Memᴰ·tail, List·Memᴰ·not-nil, List·Memᴰ·cases-cons}
+use mathlib.Core.Bool.{Bool, true, false, false≢true}
 use mathlib.Core.Option.{Option, none, some}
-use Prim.Native.Nat.{ℕ, zero, suc, _+_, _*_, _<_, _≤_, min}
-use native.Mathlib.Nat.{not-suc-le-zero, zero-add}
+use Prim.Native.Nat.{ℕ, zero, suc, _+_, _*_, _<_, _≤_}
+use native.Mathlib.Nat.{not-suc-le-zero}
 use native.Mathlib.Omega.{arith}
+use borrow.Author.Tests.{eqb-true}
 use lib.Dec.{eqb}
-use lib.ListN.{length}
+use lib.ListN.{length, length-append}
 use Rattle.rules.specs.Settings.{Settings, waysOf}
-use Rattle.rules.specs.Handling.{handling, frameMost}
-use Rattle.rules.specs.Campus.{switchNamed, Kind, reply, State, kindAfter, runFrom, handlingsMost, hopReceived, egressReceived, entryOctets, traceOctets}
-use Rattle.rules.specs.Demand.{writesReply, repliesIn}
-use Rattle.rules.proofs.TestLaws.{by-test}
-use Rattle.rules.proofs.HandledLaws.{handling-bounded}
-use Rattle.rules.proofs.StepLaws.{hop-most, ours, towards, IsReply, Forwarded, Replied, Does, does}
-use Rattle.rules.proofs.WalkLaws.{Arrives, here, on, arrives-le}
+use Rattle.rules.specs.Answer.{Handled}
+use Rattle.rules.specs.Handling.{handling, frameMost, besideLeast}
+use Rattle.rules.specs.Campus.{switchNamed, known, Kind, original, reply, State, Waiting, repliesMade, inCampus, staying, waitingAfter}
+use Rattle.rules.specs.Campus.{Next, over, next, sentOn, firstWaiting, nextAfter, runFrom, handlingsMost, hopReceived, entryOctets, traceOctets}
+use Rattle.rules.specs.Demand.{repliesIn}
+use Rattle.rules.proofs.TestLaws.{by-test, and-true}
+use Rattle.rules.proofs.HandledLaws.{Bounded, handling-bounded}
+use Rattle.rules.proofs.StepLaws.{hop-most, IsReply, Forwarded, Made, nothing, one, does, does-forward, does-make}
 
--- a switch found by its nickname is one of the campus
+-- a switch found by its nickname is one of the campus, and has it
 pub named-member : (switches : List Settings) (n : ℕ) (S : Settings) → switchNamed switches n ≡ some S → List·Memᴰ S switches
 unfolding switchNamed
 named-member [] n S e = let z : _≡_ {A = ℕ} 0 1 = cc in absurd (omega arith)
@@ -31,240 +34,422 @@ named-member (T ∷ switches) n S e = go (eqb (T .nickname) n) refl (named-membe
         List·Memᴰ·head {x = T} (cc)
     go false c ih = List·Memᴰ·tail (ih (rw (switchNamed, c) at e))
 
--- how many replies arise, by the first state
-no-replies : repliesIn [] ≡ 0
+pub named-nickname : (switches : List Settings) (n : ℕ) (S : Settings) → switchNamed switches n ≡ some S → S .nickname ≡ n
+unfolding switchNamed
+named-nickname [] n S e = let z : _≡_ {A = ℕ} 0 1 = cc in absurd (omega arith)
+named-nickname (T ∷ switches) n S e = go (eqb (T .nickname) n) refl (named-nickname switches n S)
+  where
+    go : (b : Bool) → eqb (T .nickname) n ≡ b → (switchNamed switches n ≡ some S → S .nickname ≡ n) → S .nickname ≡ n
+    go true c ih =
+        let same : some T ≡ some S = (rw (switchNamed, c) at e) in
+        let is : T ≡ S = cc in
+        ap (λ (x : Settings). x .nickname) (sym is) ∙ eqb-true (T .nickname) n c
+    go false c ih = ih (rw (switchNamed, c) at e)
+
+-- a switch that the campus has, looked up
+pub known-named : (w : Option Settings) → known w ≡ true → (S : Settings) × (w ≡ some S)
+known-named none e = absurd (false≢true e)
+known-named (some S) e = (S, refl)
+
+-- how many replies a handling makes: one at most, none to a reply, and none where no hop is left
+module _ (S : Settings) (f : List ℕ) where
+  pub made-most : (l : List Waiting) → Made S f l → length l ≤ 1
+  made-most l nothing = omega arith
+  made-most l (one w o) = omega arith
+
+  pub made-alive : (l : List Waiting) → Made S f l → length l ≤ hopReceived f
+  made-alive l nothing = omega arith
+  made-alive l (one w o) = o .hops-left
+
+  pub made-mute : (l : List Waiting) → IsReply f → Made S f l → l ≡ []
+  made-mute l y nothing = refl
+  made-mute l y (one w o) = absurd (o .not-a-reply y)
+
+pub no-replies : repliesIn [] ≡ 0
 unfolding repliesIn
 no-replies = refl
 
-replies-none : (s : State) (states : List State) → writesReply (s .answer .number) ≡ false → repliesIn (s ∷ states) ≡ repliesIn states
+pub replies-on : (s : State) (states : List State) → repliesIn (s ∷ states) ≡ length (repliesMade (s .answer)) + repliesIn states
 unfolding repliesIn
-replies-none s states e = rw (repliesIn, e) (zero-add (repliesIn states))
+replies-on s states = refl
 
-replies-most : (s : State) (states : List State) → repliesIn (s ∷ states) ≤ suc (repliesIn states)
-unfolding repliesIn
-replies-most s states = by-test (writesReply (s .answer .number)) (λ e. rw (repliesIn, e) (omega arith)) (λ e. rw (repliesIn, e) (omega arith))
+module _ (switches : List Settings) where
+  -- those that wait are replies, of at most 576 octets, each to a switch of the campus
+  pub data Replies : List Waiting → Type 0 where
+    none-waits : Replies []
+    waits : (w : Waiting) (q : List Waiting) → IsReply (w .frame) → length (w .frame) ≤ besideLeast → inCampus switches (w .towards) ≡ true
+        → Replies q → Replies (w ∷ q)
 
-module _ (switches : List Settings) (clock : List ℕ) where
-  abbrev pub run : ℕ → Settings → Kind → List ℕ → List State
-  run m S kind f = runFrom m switches clock S kind f
+  -- what is made and stays in the campus
+  stays-made : (S : Settings) (f : List ℕ) (l : List Waiting) → Made S f l → Made S f (staying switches l)
+  unfolding staying
+  stays-made S f l nothing = nothing
+  stays-made S f l (one w o) =
+      by-test (inCampus switches (w .towards)) (λ e. rw e (one w o)) (λ e. rw e nothing)
 
-  -- what is written, and the switch that it goes to
-  abbrev pub sent : Settings → List ℕ → List ℕ
-  sent S f = (handling (waysOf S) clock f) .octets
+  stays-known : (S : Settings) (f : List ℕ) (l : List Waiting) → Made S f l → Replies (staying switches l)
+  unfolding staying
+  stays-known S f l nothing = none-waits
+  stays-known S f l (one w o) =
+      by-test (inCampus switches (w .towards)) (λ e. rw e (waits w [] (o .is-reply) (o .short) e none-waits)) (λ e. rw e none-waits)
 
-  abbrev pub neighbour : Settings → List ℕ → Option Settings
-  neighbour S f = switchNamed switches ((handling (waysOf S) clock f) .via)
+  joined : (q l : List Waiting) → Replies q → Replies l → Replies (q ++ l)
+  joined q l none-waits b = b
+  joined q l (waits w r y k t a) b = waits w (r ++ l) y k t (joined r l a b)
 
-  abbrev pub state : Settings → Kind → List ℕ → State
-  state S kind f = record { switch = S; kind = kind; frame = f; answer = handling (waysOf S) clock f }
+  -- what an original may still make wait
+  abbrev pub spends : Kind → List ℕ → ℕ
+  spends original f = hopReceived f
+  spends reply f = 0
 
-  -- what a run looks like, by its first handling
-  pub run-none : (S : Settings) (kind : Kind) (f : List ℕ) → run zero S kind f ≡ []
-  unfolding runFrom
-  run-none S kind f = refl
+  -- what holds of a frame to be handled at the switch with that nickname, and of the replies that wait: they are 63 at most
+  pub record Lawful (n : ℕ) (kind : Kind) (f : List ℕ) (q : List Waiting) : Type 0 where
+    pub at : inCampus switches n ≡ true
+    pub fits : length f ≤ frameMost
+    pub is-reply : kind ≡ reply → IsReply f
+    pub replies : Replies q
+    pub few : length q + spends kind f ≤ 63
 
-  pub run-some : (m : ℕ) (S : Settings) (kind : Kind) (f : List ℕ) → 1 ≤ length (runFrom (suc m) switches clock S kind f)
-  unfolding runFrom
-  run-some m S kind f = omega arith
+  pub begins-lawful : (n : ℕ) (f : List ℕ) → inCampus switches n ≡ true → length f ≤ frameMost → Lawful n original f []
+  begins-lawful n f t k =
+      record { at = t; fits = k; is-reply = λ e. let z : _≡_ {A = ℕ} 0 1 = cc in absurd (omega arith); replies = none-waits; few = omega (arith, hop-most f) }
 
-  module _ (m : ℕ) (S : Settings) (kind : Kind) (f : List ℕ) where
-    pub run-over : kindAfter kind ((handling (waysOf S) clock f) .number) ≡ none → run (suc m) S kind f ≡ state S kind f ∷ []
+  abbrev pub LawfulNext : Next → Type 0
+  LawfulNext over = Unit {0}
+  LawfulNext (next n kind f q) = Lawful n kind f q
+
+  first-lawful : (q : List Waiting) → Replies q → length q ≤ 63 → LawfulNext (firstWaiting q)
+  unfolding firstWaiting
+  first-lawful q none-waits k = Prim.tt
+  first-lawful q (waits w r y short t a) k = record { at = t; fits = omega (arith, short); is-reply = λ e. y; replies = a; few = omega (arith, k) }
+
+  module _ (clock : List ℕ) where
+    abbrev pub run : ℕ → ℕ → ℕ → Kind → List ℕ → List Waiting → List State
+    run m i n kind f q = runFrom m i switches clock n kind f q
+
+    abbrev pub answer : Settings → List ℕ → Handled
+    answer S f = handling (waysOf S) clock f
+
+    abbrev pub state : ℕ → Settings → Kind → List ℕ → State
+    state i S kind f = record { handlingNo = i; switch = S; kind = kind; frame = f; answer = handling (waysOf S) clock f }
+
+    -- the replies that wait after a handling
+    abbrev pub queue : Settings → List ℕ → List Waiting → List Waiting
+    queue S f q = waitingAfter switches q (handling (waysOf S) clock f)
+
+    -- the handlings after one, by what is next
+    unfoldable pub rest : ℕ → ℕ → Next → List State
+    rest m i over = []
+    rest m i (next n kind f q) = runFrom m (suc i) switches clock n kind f q
+
+    -- what a run looks like, by its first handling
+    pub run-none : (i n : ℕ) (kind : Kind) (f : List ℕ) (q : List Waiting) → run zero i n kind f q ≡ []
     unfolding runFrom
-    run-over e = rw (runFrom, e)
+    run-none i n kind f q = refl
 
-    module _ (kind′ : Kind) (e : kindAfter kind ((handling (waysOf S) clock f) .number) ≡ some kind′) where
-      pub run-left : neighbour S f ≡ none → run (suc m) S kind f ≡ state S kind f ∷ []
+    module _ (m i n : ℕ) (kind : Kind) (f : List ℕ) (q : List Waiting) where
+      pub run-nowhere : switchNamed switches n ≡ none → run (suc m) i n kind f q ≡ []
       unfolding runFrom
-      run-left n = rw (runFrom, e, n)
+      run-nowhere e = rw (runFrom, e)
 
-      pub run-on : (T : Settings) → neighbour S f ≡ some T → run (suc m) S kind f ≡ state S kind f ∷ run m T kind′ (sent S f)
-      unfolding runFrom
-      run-on T n = rw (runFrom, e, n)
+      module _ (S : Settings) (e : switchNamed switches n ≡ some S) where
+        pub run-step : run (suc m) i n kind f q ≡ state i S kind f ∷ rest m i (nextAfter switches kind q (answer S f))
+        unfolding runFrom rest
+        run-step = rw (runFrom, e) (ap (λ (r : List State). state i S kind f ∷ r) (go (nextAfter switches kind q (answer S f))))
+          where
+            go : (x : Next) → elim x as (λ y. List State) [ over ↦ [] | next n′ kind′ g q′ ↦ run m (suc i) n′ kind′ g q′ ] ≡ rest m i x
+            go over = refl
+            go (next n′ kind′ g q′) = refl
 
-  -- one turn: the run stops, or goes on with what was forwarded, or with a reply
-  data Turn (S : Settings) (kind : Kind) (f : List ℕ) : Type 0 where
-    stops : (IsReply f → writesReply ((handling (waysOf S) clock f) .number) ≡ false) → ((m : ℕ) → run (suc m) S kind f ≡ state S kind f ∷ []) → Turn S kind f
-    forwards : (T : Settings) → neighbour S f ≡ some T → Forwarded S f (handling (waysOf S) clock f)
-        → ((m : ℕ) → run (suc m) S kind f ≡ state S kind f ∷ run m T kind (sent S f)) → Turn S kind f
-    replies : (T : Settings) → neighbour S f ≡ some T → Replied S f (handling (waysOf S) clock f)
-        → ((m : ℕ) → run (suc m) S kind f ≡ state S kind f ∷ run m T reply (sent S f)) → Turn S kind f
+        pub run-over : nextAfter switches kind q (answer S f) ≡ over → run (suc m) i n kind f q ≡ state i S kind f ∷ []
+        unfolding rest
+        run-over z = run-step ∙ ap (λ (x : Next). state i S kind f ∷ rest m i x) z
 
-  -- an original's way: without a reply at most h + 1 in all; with one it arrived at the k-th handling, k ≤ h, and the rest is 64
-  data Way (e : ℕ) (S : Settings) (h c : ℕ) : Type 0 where
-    unanswered : c ≤ suc h → Way e S h c
-    answered : (k : ℕ) → Arrives switches (ours e) (towards switches e) S k → k ≤ h → c ≤ k + 64 → Way e S h c
+        pub run-on : (n′ : ℕ) (kind′ : Kind) (g : List ℕ) (q′ : List Waiting) → nextAfter switches kind q (answer S f) ≡ next n′ kind′ g q′
+            → run (suc m) i n kind f q ≡ state i S kind f ∷ run m (suc i) n′ kind′ g q′
+        unfolding rest
+        run-on n′ kind′ g q′ z = run-step ∙ ap (λ (x : Next). state i S kind f ∷ rest m i x) z
 
-  module _ (six : length clock ≡ 6) (fit : (S : Settings) → List·Memᴰ S switches → S .nickname < 65536) where
-    turn : (S : Settings) → List·Memᴰ S switches → (kind : Kind) (f : List ℕ) → Turn S kind f
-    turn S i kind f = go (does S clock f (fit S i) six)
-      where
-        forwarded : Forwarded S f (handling (waysOf S) clock f) → (w : Option Settings) → neighbour S f ≡ w → Turn S kind f
-        forwarded o none n = stops (λ y. o .no-reply) (λ m. run-left m S kind f kind (o .stays kind) n)
-        forwarded o (some T) n = forwards T n o (λ m. run-on m S kind f kind (o .stays kind) T n)
-
-        replied : Replied S f (handling (waysOf S) clock f) → (w : Option Settings) → neighbour S f ≡ w → Turn S kind f
-        replied o none n = stops (λ y. absurd (o .not-a-reply y)) (λ m. run-left m S kind f reply (o .turns kind) n)
-        replied o (some T) n = replies T n o (λ m. run-on m S kind f reply (o .turns kind) T n)
-
-        go : Does S f (handling (waysOf S) clock f) → Turn S kind f
-        go (Does.ends o) = stops (λ y. o .no-reply) (λ m. run-over m S kind f (o .over kind))
-        go (Does.forwards o) = forwarded o (neighbour S f) refl
-        go (Does.replies o) = replied o (neighbour S f) refl
-
-    member : (S : Settings) (f : List ℕ) (T : Settings) → neighbour S f ≡ some T → List·Memᴰ T switches
-    member S f T n = named-member switches ((handling (waysOf S) clock f) .via) T n
-
-    -- a reply's way is at most its hop count and one
-    reply-way : (m : ℕ) (S : Settings) (kind : Kind) (f : List ℕ) → List·Memᴰ S switches → IsReply f → length (run m S kind f) ≤ suc (hopReceived f)
-    reply-way zero S kind f i y = rw (run-none S kind f) (omega arith)
-    reply-way (suc m) S kind f i y = go (turn S i kind f) (λ T j. reply-way m T kind (sent S f) j)
-      where
-        go : Turn S kind f → ((T : Settings) → List·Memᴰ T switches → IsReply (sent S f) → length (run m T kind (sent S f)) ≤ suc (hopReceived (sent S f)))
-            → length (run (suc m) S kind f) ≤ suc (hopReceived f)
-        go (stops w e) ih = omega (arith, ap length (e m))
-        go (forwards T n o e) ih = omega (arith, ap length (e m), ih T (member S f T n) (o .reply-kept y), o .one-less)
-        go (replies T n o e) ih = absurd (o .not-a-reply y)
-
-    way : (m : ℕ) (S : Settings) (kind : Kind) (f : List ℕ) → List·Memᴰ S switches → Way (egressReceived f) S (hopReceived f) (length (run m S kind f))
-    way zero S kind f i = rw (run-none S kind f) (unanswered (omega arith))
-    way (suc m) S kind f i = go (turn S i kind f) (λ T j. way m T kind (sent S f) j)
-      where
-        further : (T : Settings) → neighbour S f ≡ some T → Forwarded S f (handling (waysOf S) clock f)
-            → length (run (suc m) S kind f) ≡ suc (length (run m T kind (sent S f)))
-            → Way (egressReceived (sent S f)) T (hopReceived (sent S f)) (length (run m T kind (sent S f)))
-            → Way (egressReceived f) S (hopReceived f) (length (run (suc m) S kind f))
-        further T n o e (unanswered q) = unanswered (omega (arith, e, q, o .one-less))
-        further T n o e (answered k a q c) =
-            answered (suc k)
-            (on i (o .transit) (o .goes switches ∙ n) (subst (λ (x : ℕ). Arrives switches (ours x) (towards switches x) T k) (o .same-egress) a))
-            (omega (arith, q, o .one-less))
-            (omega (arith, c, e))
-
-        go : Turn S kind f
-            → ((T : Settings) → List·Memᴰ T switches → Way (egressReceived (sent S f)) T (hopReceived (sent S f)) (length (run m T kind (sent S f))))
-            → Way (egressReceived f) S (hopReceived f) (length (run (suc m) S kind f))
-        go (stops w e) ih = unanswered (omega (arith, ap length (e m)))
-        go (forwards T n o e) ih = further T n o (ap length (e m)) (ih T (member S f T n))
-        go (replies T n o e) ih =
-            answered 1 (here i (o .egress)) (o .hops-left)
-            (omega (arith, ap length (e m), reply-way m T reply (sent S f) (member S f T n) (o .is-reply), o .full))
-
-    -- the number of handlings, however many are looked at
-    pub run-count : (m : ℕ) (S : Settings) (kind : Kind) (f : List ℕ) → List·Memᴰ S switches
-        → length (runFrom m switches clock S kind f) ≤ 64 + min (length switches) (hopReceived f)
-    run-count m S kind f i = go (way m S kind f i)
-      where
-        go : Way (egressReceived f) S (hopReceived f) (length (run m S kind f)) → length (run m S kind f) ≤ 64 + min (length switches) (hopReceived f)
-        go (unanswered q) = omega (arith, q, hop-most f)
-        go (answered k a q c) = omega (arith, c, q, arrives-le switches (ours (egressReceived f)) (towards switches (egressReceived f)) a)
-
-    -- a frame that is unreadable or has no hop left is handled once
-    pub run-single : (m : ℕ) (S : Settings) (kind : Kind) (f : List ℕ) → List·Memᴰ S switches → hopReceived f ≡ 0
-        → length (runFrom (suc m) switches clock S kind f) ≡ 1
-    run-single m S kind f i z = go (turn S i kind f)
-      where
-        go : Turn S kind f → length (run (suc m) S kind f) ≡ 1
-        go (stops w e) = ap length (e m)
-        go (forwards T n o e) = absurd (omega (arith, z, o .one-less))
-        go (replies T n o e) = absurd (omega (arith, z, o .hops-left))
+        pub run-some : 1 ≤ length (run (suc m) i n kind f q)
+        run-some = rw run-step (omega arith)
 
     -- a run of fewer handlings than were looked at has ended: looking at more changes nothing
-    run-ended : (m more : ℕ) (S : Settings) (kind : Kind) (f : List ℕ) → List·Memᴰ S switches → length (run m S kind f) < m
-        → run (m + more) S kind f ≡ run m S kind f
-    run-ended zero more S kind f i lt = absurd (not-suc-le-zero lt)
-    run-ended (suc m) more S kind f i lt = go (turn S i kind f) (λ T k j q. run-ended m more T k (sent S f) j q)
+    run-ended : (m more i n : ℕ) (kind : Kind) (f : List ℕ) (q : List Waiting) → length (run m i n kind f q) < m
+        → run (m + more) i n kind f q ≡ run m i n kind f q
+    run-ended zero more i n kind f q lt = absurd (not-suc-le-zero lt)
+    run-ended (suc m) more i n kind f q lt = at (switchNamed switches n) refl (λ n′ k′ g q′ z. run-ended m more (suc i) n′ k′ g q′ z)
       where
         suc-add : suc m + more ≡ suc (m + more)
         suc-add = omega arith
 
-        onward : (T : Settings) (k : Kind) → neighbour S f ≡ some T → ((n : ℕ) → run (suc n) S kind f ≡ state S kind f ∷ run n T k (sent S f))
-            → (length (run m T k (sent S f)) < m → run (m + more) T k (sent S f) ≡ run m T k (sent S f)) → run (suc m + more) S kind f ≡ run (suc m) S kind f
-        onward T k n e ih =
-            rw (suc-add, e (m + more), e m) (ap (λ (r : List State). state S kind f ∷ r) (ih (omega (arith, lt, ap length (e m)))))
-
-        go : Turn S kind f
-            → ((T : Settings) (k : Kind) → List·Memᴰ T switches → length (run m T k (sent S f)) < m → run (m + more) T k (sent S f) ≡ run m T k (sent S f))
-            → run (suc m + more) S kind f ≡ run (suc m) S kind f
-        go (stops w e) ih = rw (suc-add, e (m + more), e m)
-        go (forwards T n o e) ih = onward T kind n e (ih T kind (member S f T n))
-        go (replies T n o e) ih = onward T reply n e (ih T reply (member S f T n))
-
-    pub run-whole : (more : ℕ) (S : Settings) (kind : Kind) (f : List ℕ) → List·Memᴰ S switches
-        → runFrom (handlingsMost + more) switches clock S kind f ≡ runFrom handlingsMost switches clock S kind f
-    run-whole more S kind f i = run-ended handlingsMost more S kind f i (omega (arith, run-count handlingsMost S kind f i, hop-most f))
-
-    -- replies: none arises from one, and one at most in a run
-    reply-count : (m : ℕ) (S : Settings) (kind : Kind) (f : List ℕ) → List·Memᴰ S switches → IsReply f → repliesIn (run m S kind f) ≡ 0
-    reply-count zero S kind f i y = rw (run-none S kind f) no-replies
-    reply-count (suc m) S kind f i y = go (turn S i kind f) (λ T j. reply-count m T kind (sent S f) j)
-      where
-        go : Turn S kind f → ((T : Settings) → List·Memᴰ T switches → IsReply (sent S f) → repliesIn (run m T kind (sent S f)) ≡ 0)
-            → repliesIn (run (suc m) S kind f) ≡ 0
-        go (stops w e) ih = rw (e m) (replies-none (state S kind f) [] (w y) ∙ no-replies)
-        go (forwards T n o e) ih = rw (e m) (replies-none (state S kind f) (run m T kind (sent S f)) (o .no-reply) ∙ ih T (member S f T n) (o .reply-kept y))
-        go (replies T n o e) ih = absurd (o .not-a-reply y)
-
-    pub one-reply : (m : ℕ) (S : Settings) (kind : Kind) (f : List ℕ) → List·Memᴰ S switches → repliesIn (runFrom m switches clock S kind f) ≤ 1
-    one-reply zero S kind f i = rw (run-none S kind f) (omega (arith, no-replies))
-    one-reply (suc m) S kind f i = go (turn S i kind f) (λ T j. one-reply m T kind (sent S f) j)
-      where
-        go : Turn S kind f → ((T : Settings) → List·Memᴰ T switches → repliesIn (run m T kind (sent S f)) ≤ 1) → repliesIn (run (suc m) S kind f) ≤ 1
-        go (stops w e) ih = rw (e m) (omega (arith, replies-most (state S kind f) [], no-replies))
-        go (forwards T n o e) ih = rw (e m, replies-none (state S kind f) (run m T kind (sent S f)) (o .no-reply)) (ih T (member S f T n))
-        go (replies T n o e) ih =
-            let none-after = reply-count m T reply (sent S f) (member S f T n) (o .is-reply) in
-            rw (e m) (omega (arith, replies-most (state S kind f) (run m T reply (sent S f)), none-after))
-
-    -- of every state: what holds at a handling under an invariant that forwarding and replying keep
-    module _ (P : State → Type 0) (Q : Kind → List ℕ → Type 0)
-        (here-holds : (S : Settings) (kind : Kind) (f : List ℕ) → Does S f (handling (waysOf S) clock f) → Q kind f → P (state S kind f))
-        (on-holds : (S : Settings) (kind : Kind) (f : List ℕ) → Forwarded S f (handling (waysOf S) clock f) → Q kind f → Q kind (sent S f))
-        (back-holds : (S : Settings) (kind : Kind) (f : List ℕ) → Replied S f (handling (waysOf S) clock f) → Q kind f → Q reply (sent S f))
-      where
-        every : (m : ℕ) (S : Settings) (kind : Kind) (f : List ℕ) → List·Memᴰ S switches → Q kind f → (s : State) → List·Memᴰ s (run m S kind f) → P s
-        every zero S kind f i q s w = absurd (List·Memᴰ·not-nil (rw (run-none S kind f) at w))
-        every (suc m) S kind f i q s w = go (turn S i kind f) (λ T k j q′ w′. every m T k (sent S f) j q′ s w′)
+        at : (w : Option Settings) → switchNamed switches n ≡ w
+            → ((n′ : ℕ) (k′ : Kind) (g : List ℕ) (q′ : List Waiting) → length (run m (suc i) n′ k′ g q′) < m
+            → run (m + more) (suc i) n′ k′ g q′ ≡ run m (suc i) n′ k′ g q′)
+            → run (suc m + more) i n kind f q ≡ run (suc m) i n kind f q
+        at none e ih = rw (suc-add, run-nowhere (m + more) i n kind f q e, run-nowhere m i n kind f q e)
+        at (some S) e ih = by (nextAfter switches kind q (answer S f)) refl
           where
-            among : (r : List State) → run (suc m) S kind f ≡ state S kind f ∷ r → (List·Memᴰ s r → P s) → P s
-            among r e rest = pick (List·Memᴰ·cases-cons (rw e at w))
-              where
-                pick : (s ≡ state S kind f) ⊎ List·Memᴰ s r → P s
-                pick (inl same) = rw same (here-holds S kind f (does S clock f (fit S i) six) q)
-                pick (inr further) = rest further
+            by : (x : Next) → nextAfter switches kind q (answer S f) ≡ x → run (suc m + more) i n kind f q ≡ run (suc m) i n kind f q
+            by over z = rw (suc-add, run-over (m + more) i n kind f q S e z, run-over m i n kind f q S e z)
+            by (next n′ k′ g q′) z =
+                let same = run-on m i n kind f q S e n′ k′ g q′ z in
+                rw (suc-add, run-on (m + more) i n kind f q S e n′ k′ g q′ z, same)
+                (ap (λ (r : List State). state i S kind f ∷ r) (ih n′ k′ g q′ (omega (arith, lt, ap length same))))
 
-            go : Turn S kind f → ((T : Settings) (k : Kind) → List·Memᴰ T switches → Q k (sent S f) → List·Memᴰ s (run m T k (sent S f)) → P s) → P s
-            go (stops o e) ih = among [] (e m) (λ w′. absurd (List·Memᴰ·not-nil w′))
-            go (forwards T n o e) ih = among (run m T kind (sent S f)) (e m) (ih T kind (member S f T n) (on-holds S kind f o q))
-            go (replies T n o e) ih = among (run m T reply (sent S f)) (e m) (ih T reply (member S f T n) (back-holds S kind f o q))
+    module _ (six : length clock ≡ 6) (fit : (S : Settings) → List·Memᴰ S switches → S .nickname < 65536) where
+      module _ (n : ℕ) (S : Settings) (named : switchNamed switches n ≡ some S) (f : List ℕ) where
+        made : Made S f (repliesMade (answer S f))
+        made = does-make S f (answer S f) (does S clock f (fit S (named-member switches n S named)) six)
 
-    -- nothing answers a reply
-    pub unanswered-replies : (m : ℕ) (S : Settings) (kind : Kind) (f : List ℕ) → List·Memᴰ S switches → (kind ≡ reply → IsReply f)
-        → (s : State) → List·Memᴰ s (runFrom m switches clock S kind f) → s .kind ≡ reply → writesReply (s .answer .number) ≡ false
-    unanswered-replies =
-        every (λ s. s .kind ≡ reply → writesReply (s .answer .number) ≡ false) (λ kind f. kind ≡ reply → IsReply f) heard
-        (λ S kind f o q k. o .reply-kept (q k)) (λ S kind f o q k. o .is-reply)
-      where
-        heard : (S : Settings) (kind : Kind) (f : List ℕ) → Does S f (handling (waysOf S) clock f) → (kind ≡ reply → IsReply f) → kind ≡ reply
-            → writesReply ((handling (waysOf S) clock f) .number) ≡ false
-        heard S kind f (Does.ends o) q k = o .no-reply
-        heard S kind f (Does.forwards o) q k = o .no-reply
-        heard S kind f (Does.replies o) q k = absurd (o .not-a-reply (q k))
+        joins : Made S f (staying switches (repliesMade (answer S f)))
+        joins = stays-made S f (repliesMade (answer S f)) made
 
-    -- every frame of a run fits
-    pub frames-fit : (m : ℕ) (S : Settings) (kind : Kind) (f : List ℕ) → List·Memᴰ S switches → length f ≤ frameMost
-        → (s : State) → List·Memᴰ s (runFrom m switches clock S kind f) → length (s .frame) ≤ frameMost
-    frames-fit =
-        every (λ s. length (s .frame) ≤ frameMost) (λ kind f. length f ≤ frameMost) (λ S kind f o q. q)
-        (λ S kind f o q. handling-bounded (waysOf S) clock f six q .fits)
-        (λ S kind f o q. handling-bounded (waysOf S) clock f six q .fits)
+        made-none : IsReply f → length (repliesMade (answer S f)) ≡ 0
+        made-none y = ap length (made-mute S f (repliesMade (answer S f)) y made)
 
-    -- every answer has two digits at most
-    pub numbers-small : (m : ℕ) (S : Settings) (kind : Kind) (f : List ℕ) → List·Memᴰ S switches → length f ≤ frameMost
-        → (s : State) → List·Memᴰ s (runFrom m switches clock S kind f) → s .answer .number < 64
-    numbers-small =
-        every (λ s. s .answer .number < 64) (λ kind f. length f ≤ frameMost) (λ S kind f o q. handling-bounded (waysOf S) clock f six q .number-small)
-        (λ S kind f o q. handling-bounded (waysOf S) clock f six q .fits)
-        (λ S kind f o q. handling-bounded (waysOf S) clock f six q .fits)
+        joins-none : IsReply f → length (staying switches (repliesMade (answer S f))) ≡ 0
+        joins-none y = ap length (made-mute S f (staying switches (repliesMade (answer S f))) y joins)
+
+        forwarded : sentOn switches (answer S f) ≡ true → Forwarded S f (answer S f)
+        unfolding sentOn
+        forwarded e =
+            does-forward S f (answer S f) (does S clock f (fit S (named-member switches n S named)) six)
+            (eqb-true (answer S f .number) 50 (and-true (eqb (answer S f .number) 50) (inCampus switches (answer S f .via)) e .0))
+
+        long-queue : (q : List Waiting) → length (queue S f q) ≡ length q + length (staying switches (repliesMade (answer S f)))
+        long-queue q = length-append q (staying switches (repliesMade (answer S f)))
+
+        queued : (q : List Waiting) → Replies q → Replies (queue S f q)
+        queued q a = joined q (staying switches (repliesMade (answer S f))) a (stays-known S f (repliesMade (answer S f)) made)
+
+      -- one turn: the frame goes on, or what has waited longest is next
+      data Turn (S : Settings) (kind : Kind) (f : List ℕ) (q : List Waiting) : Type 0 where
+        onward : Forwarded S f (answer S f) → inCampus switches (answer S f .via) ≡ true
+            → nextAfter switches kind q (answer S f) ≡ next (answer S f .via) kind (answer S f .octets) (queue S f q) → Turn S kind f q
+        drains : nextAfter switches kind q (answer S f) ≡ firstWaiting (queue S f q) → Turn S kind f q
+
+      turn : (n : ℕ) (S : Settings) → switchNamed switches n ≡ some S → (kind : Kind) (f : List ℕ) (q : List Waiting) → Turn S kind f q
+      unfolding nextAfter sentOn
+      turn n S named kind f q =
+          by-test (sentOn switches (answer S f))
+          (λ e. onward (forwarded n S named f e) (and-true (eqb (answer S f .number) 50) (inCampus switches (answer S f .via)) e .1) (rw e))
+          (λ e. drains (rw e))
+
+      -- what a reply, and the replies behind it, may take
+      Short : ℕ → Type 0
+      Short m = (i n : ℕ) (kind : Kind) (f : List ℕ) (q : List Waiting) → IsReply f → Replies q
+          → length (run m i n kind f q) ≤ suc (hopReceived f) + 64 * length q
+
+      drain : (m i : ℕ) → Short m → (q : List Waiting) → Replies q → length (rest m i (firstWaiting q)) ≤ 64 * length q
+      unfolding rest Short firstWaiting
+      drain m i ih q none-waits = omega arith
+      drain m i ih q (waits w r y k t a) = omega (arith, ih (suc i) (w .towards) reply (w .frame) r y a, hop-most (w .frame))
+
+      -- how long the run is, by a first handling that is forwarded or not
+      module _ (m i n : ℕ) (kind : Kind) (f : List ℕ) (q : List Waiting) (S : Settings) (e : switchNamed switches n ≡ some S) where
+        on-length : nextAfter switches kind q (answer S f) ≡ next (answer S f .via) kind (answer S f .octets) (queue S f q)
+            → length (run (suc m) i n kind f q) ≡ suc (length (run m (suc i) (answer S f .via) kind (answer S f .octets) (queue S f q)))
+        on-length z = ap length (run-on m i n kind f q S e (answer S f .via) kind (answer S f .octets) (queue S f q) z)
+
+        drain-length : nextAfter switches kind q (answer S f) ≡ firstWaiting (queue S f q)
+            → length (run (suc m) i n kind f q) ≡ suc (length (rest m i (firstWaiting (queue S f q))))
+        drain-length z = ap length (run-step m i n kind f q S e ∙ ap (λ (x : Next). state i S kind f ∷ rest m i x) z)
+
+        on-replies : nextAfter switches kind q (answer S f) ≡ next (answer S f .via) kind (answer S f .octets) (queue S f q)
+            → repliesIn (run (suc m) i n kind f q)
+            ≡ length (repliesMade (answer S f)) + repliesIn (run m (suc i) (answer S f .via) kind (answer S f .octets) (queue S f q))
+        on-replies z = ap repliesIn (run-on m i n kind f q S e (answer S f .via) kind (answer S f .octets) (queue S f q) z) ∙ replies-on (state i S kind f) _
+
+        drain-replies : nextAfter switches kind q (answer S f) ≡ firstWaiting (queue S f q)
+            → repliesIn (run (suc m) i n kind f q) ≡ length (repliesMade (answer S f)) + repliesIn (rest m i (firstWaiting (queue S f q)))
+        drain-replies z =
+            ap repliesIn (run-step m i n kind f q S e ∙ ap (λ (x : Next). state i S kind f ∷ rest m i x) z) ∙ replies-on (state i S kind f) _
+
+      nowhere-length : (m i n : ℕ) (kind : Kind) (f : List ℕ) (q : List Waiting) → switchNamed switches n ≡ none → length (run (suc m) i n kind f q) ≡ 0
+      nowhere-length m i n kind f q e = ap length (run-nowhere m i n kind f q e)
+
+      nowhere-replies : (m i n : ℕ) (kind : Kind) (f : List ℕ) (q : List Waiting) → switchNamed switches n ≡ none → repliesIn (run (suc m) i n kind f q) ≡ 0
+      nowhere-replies m i n kind f q e = ap repliesIn (run-nowhere m i n kind f q e) ∙ no-replies
+
+      short : (m : ℕ) → Short m
+      unfolding Short
+      short zero = λ i n kind f q y a. rw (run-none i n kind f q) (omega arith)
+      short (suc m) = λ i n kind f q y a. at i n kind f q y a (switchNamed switches n) refl (short m)
+        where
+          at : (i n : ℕ) (kind : Kind) (f : List ℕ) (q : List Waiting) → IsReply f → Replies q → (w : Option Settings) → switchNamed switches n ≡ w → Short m
+              → length (run (suc m) i n kind f q) ≤ suc (hopReceived f) + 64 * length q
+          at i n kind f q y a none e ih = omega (arith, nowhere-length m i n kind f q e)
+          at i n kind f q y a (some S) e ih = by (turn n S e kind f q)
+            where
+              by : Turn S kind f q → length (run (suc m) i n kind f q) ≤ suc (hopReceived f) + 64 * length q
+              by (onward o t z) =
+                  omega (
+                    arith,
+                    on-length m i n kind f q S e z,
+                    joins-none n S e f y,
+                    long-queue n S e f q,
+                    o .one-less,
+                    ih (suc i) (answer S f .via) kind (answer S f .octets) (queue S f q) (o .reply-kept y) (queued n S e f q a),
+                  )
+              by (drains z) =
+                  omega (arith, drain-length m i n kind f q S e z, joins-none n S e f y, long-queue n S e f q, drain m i ih (queue S f q) (queued n S e f q a))
+
+      -- what an original, and the replies behind it, may take
+      Long : ℕ → Type 0
+      Long m = (i n : ℕ) (kind : Kind) (f : List ℕ) (q : List Waiting) → Replies q → length (run m i n kind f q) ≤ 65 * hopReceived f + 1 + 64 * length q
+
+      long : (m : ℕ) → Long m
+      unfolding Long
+      long zero = λ i n kind f q a. rw (run-none i n kind f q) (omega arith)
+      long (suc m) = λ i n kind f q a. at i n kind f q a (switchNamed switches n) refl (long m)
+        where
+          at : (i n : ℕ) (kind : Kind) (f : List ℕ) (q : List Waiting) → Replies q → (w : Option Settings) → switchNamed switches n ≡ w → Long m
+              → length (run (suc m) i n kind f q) ≤ 65 * hopReceived f + 1 + 64 * length q
+          at i n kind f q a none e ih = omega (arith, nowhere-length m i n kind f q e)
+          at i n kind f q a (some S) e ih = by (turn n S e kind f q)
+            where
+              by : Turn S kind f q → length (run (suc m) i n kind f q) ≤ 65 * hopReceived f + 1 + 64 * length q
+              by (onward o t z) =
+                  omega (
+                    arith,
+                    on-length m i n kind f q S e z,
+                    made-most S f _ (joins n S e f),
+                    long-queue n S e f q,
+                    o .one-less,
+                    ih (suc i) (answer S f .via) kind (answer S f .octets) (queue S f q) (queued n S e f q a),
+                  )
+              by (drains z) =
+                  omega (
+                    arith,
+                    drain-length m i n kind f q S e z,
+                    made-alive S f _ (joins n S e f),
+                    long-queue n S e f q,
+                    drain m i (short m) (queue S f q) (queued n S e f q a),
+                  )
+
+      -- at most 65h + 1 handlings, however many are looked at
+      pub run-count : (m i n : ℕ) (kind : Kind) (f : List ℕ) → length (runFrom m i switches clock n kind f []) ≤ 65 * hopReceived f + 1
+      unfolding Long
+      run-count m i n kind f = omega (arith, long m i n kind f [] none-waits)
+
+      pub run-whole : (more i n : ℕ) (kind : Kind) (f : List ℕ)
+          → runFrom (handlingsMost + more) i switches clock n kind f [] ≡ runFrom handlingsMost i switches clock n kind f []
+      run-whole more i n kind f = run-ended handlingsMost more i n kind f [] (omega (arith, run-count handlingsMost i n kind f, hop-most f))
+
+      -- replies: none arises from one, and at most h in a run
+      Mute : ℕ → Type 0
+      Mute m = (i n : ℕ) (kind : Kind) (f : List ℕ) (q : List Waiting) → IsReply f → Replies q → repliesIn (run m i n kind f q) ≡ 0
+
+      drain-mute : (m i : ℕ) → Mute m → (q : List Waiting) → Replies q → repliesIn (rest m i (firstWaiting q)) ≡ 0
+      unfolding rest Mute firstWaiting
+      drain-mute m i ih q none-waits = no-replies
+      drain-mute m i ih q (waits w r y k t a) = ih (suc i) (w .towards) reply (w .frame) r y a
+
+      mute : (m : ℕ) → Mute m
+      unfolding Mute
+      mute zero = λ i n kind f q y a. rw (run-none i n kind f q) no-replies
+      mute (suc m) = λ i n kind f q y a. at i n kind f q y a (switchNamed switches n) refl (mute m)
+        where
+          at : (i n : ℕ) (kind : Kind) (f : List ℕ) (q : List Waiting) → IsReply f → Replies q → (w : Option Settings) → switchNamed switches n ≡ w → Mute m
+              → repliesIn (run (suc m) i n kind f q) ≡ 0
+          at i n kind f q y a none e ih = nowhere-replies m i n kind f q e
+          at i n kind f q y a (some S) e ih = by (turn n S e kind f q)
+            where
+              by : Turn S kind f q → repliesIn (run (suc m) i n kind f q) ≡ 0
+              by (onward o t z) =
+                  omega (
+                    arith,
+                    on-replies m i n kind f q S e z,
+                    made-none n S e f y,
+                    ih (suc i) (answer S f .via) kind (answer S f .octets) (queue S f q) (o .reply-kept y) (queued n S e f q a),
+                  )
+              by (drains z) = omega (arith, drain-replies m i n kind f q S e z, made-none n S e f y, drain-mute m i ih (queue S f q) (queued n S e f q a))
+
+      few : (m i n : ℕ) (kind : Kind) (f : List ℕ) (q : List Waiting) → Replies q → repliesIn (run m i n kind f q) ≤ hopReceived f
+      few zero i n kind f q a = rw (run-none i n kind f q) (omega (arith, no-replies))
+      few (suc m) i n kind f q a = at (switchNamed switches n) refl (few m (suc i))
+        where
+          at : (w : Option Settings) → switchNamed switches n ≡ w
+              → ((n′ : ℕ) (kind′ : Kind) (g : List ℕ) (q′ : List Waiting) → Replies q′ → repliesIn (run m (suc i) n′ kind′ g q′) ≤ hopReceived g)
+              → repliesIn (run (suc m) i n kind f q) ≤ hopReceived f
+          at none e ih = omega (arith, nowhere-replies m i n kind f q e)
+          at (some S) e ih = by (turn n S e kind f q)
+            where
+              by : Turn S kind f q → repliesIn (run (suc m) i n kind f q) ≤ hopReceived f
+              by (onward o t z) =
+                  omega (
+                    arith,
+                    on-replies m i n kind f q S e z,
+                    made-most S f _ (made n S e f),
+                    o .one-less,
+                    ih (answer S f .via) kind (answer S f .octets) (queue S f q) (queued n S e f q a),
+                  )
+              by (drains z) =
+                  omega (arith, drain-replies m i n kind f q S e z, made-alive S f _ (made n S e f), drain-mute m i (mute m) (queue S f q) (queued n S e f q a))
+
+      pub few-replies : (m i n : ℕ) (kind : Kind) (f : List ℕ) → repliesIn (runFrom m i switches clock n kind f []) ≤ hopReceived f
+      few-replies m i n kind f = few m i n kind f [] none-waits
+
+      -- every handling keeps to it, and leaves 63 waiting at most
+      module _ (n : ℕ) (S : Settings) (e : switchNamed switches n ≡ some S) (f : List ℕ) where
+        pub queue-most : (kind : Kind) (q : List Waiting) → Lawful n kind f q → length (queue S f q) ≤ 63
+        queue-most original q l = omega (arith, long-queue n S e f q, made-alive S f _ (joins n S e f), l .few)
+        queue-most reply q l = omega (arith, long-queue n S e f q, joins-none n S e f (l .is-reply refl), l .few)
+
+        onward-most : (kind : Kind) (q : List Waiting) → Lawful n kind f q → Forwarded S f (answer S f)
+            → length (queue S f q) + spends kind (answer S f .octets) ≤ 63
+        onward-most original q l o = omega (arith, long-queue n S e f q, made-most S f _ (joins n S e f), o .one-less, l .few)
+        onward-most reply q l o = omega (arith, queue-most reply q l)
+
+        turn-lawful : (kind : Kind) (q : List Waiting) → Lawful n kind f q → LawfulNext (nextAfter switches kind q (answer S f))
+        turn-lawful kind q l = by (turn n S e kind f q)
+          where
+            by : Turn S kind f q → LawfulNext (nextAfter switches kind q (answer S f))
+            by (onward o t z) =
+                rw z
+                (record {
+                  at = t;
+                  fits = handling-bounded (waysOf S) clock f six (l .fits) .fits;
+                  is-reply = λ k. o .reply-kept (l .is-reply k);
+                  replies = queued n S e f q (l .replies);
+                  few = onward-most kind q l o;
+                })
+            by (drains z) = rw z (first-lawful (queue S f q) (queued n S e f q (l .replies)) (queue-most kind q l))
+
+        pub next-lawful : (kind : Kind) (q : List Waiting) → Lawful n kind f q → (n′ : ℕ) (kind′ : Kind) (g : List ℕ) (q′ : List Waiting)
+            → nextAfter switches kind q (answer S f) ≡ next n′ kind′ g q′ → Lawful n′ kind′ g q′
+        next-lawful kind q l n′ kind′ g q′ z = rw z at (turn-lawful kind q l)
+
+      -- what holds of every state: its frame fits, its answer's number is under 64 and what it writes fits, and nothing answers a reply
+      pub record Stands (s : State) : Type 0 where
+        pub frame-fits : length (s .frame) ≤ frameMost
+        pub bounded : Bounded (s .answer)
+        pub unanswered : s .kind ≡ reply → repliesMade (s .answer) ≡ []
+
+      pub every : (m i n : ℕ) (kind : Kind) (f : List ℕ) (q : List Waiting) → Lawful n kind f q → (s : State) → List·Memᴰ s (run m i n kind f q) → Stands s
+      unfolding rest
+      every zero i n kind f q l s w = absurd (List·Memᴰ·not-nil (rw (run-none i n kind f q) at w))
+      every (suc m) i n kind f q l s w = at (known-named (switchNamed switches n) (l .at)) (λ n′ k g r y z. every m (suc i) n′ k g r y s z)
+        where
+          at : (S : Settings) × (switchNamed switches n ≡ some S)
+              → ((n′ : ℕ) (k : Kind) (g : List ℕ) (r : List Waiting) → Lawful n′ k g r → List·Memᴰ s (run m (suc i) n′ k g r) → Stands s) → Stands s
+          at (S, e) ih = among (List·Memᴰ·cases-cons (rw (run-step m i n kind f q S e) at w))
+            where
+              here : Stands (state i S kind f)
+              here =
+                  record {
+                    frame-fits = l .fits;
+                    bounded = handling-bounded (waysOf S) clock f six (l .fits);
+                    unanswered = λ k. made-mute S f (repliesMade (answer S f)) (l .is-reply k) (made n S e f);
+                  }
+
+              later : (x : Next) → LawfulNext x → List·Memᴰ s (rest m i x) → Stands s
+              later over y z = absurd (List·Memᴰ·not-nil z)
+              later (next n′ k g r) y z = ih n′ k g r y z
+
+              among : (s ≡ state i S kind f) ⊎ List·Memᴰ s (rest m i (nextAfter switches kind q (answer S f))) → Stands s
+              among (inl same) = rw same here
+              among (inr z) = later (nextAfter switches kind q (answer S f)) (turn-lawful n S e f kind q l) z
 
 -- the trace has eight octets for each state
 pub length-trace : (states : List State) → length (traceOctets states) ≡ 8 * length states

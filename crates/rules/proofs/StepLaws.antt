@@ -1,24 +1,23 @@
--- What one handling does to a frame on its way: forwarding takes one from its hop count and keeps egress and inner frame, only its egress
--- replies to it, nothing replies to a reply, and the neighbour named is that of the record which rules for the written frame's egress.
--- By reading back what is written. Assumes nothing.
+-- What one handling does to a frame on its way, whatever the edition: forwarding takes one from its hop count and keeps egress and inner frame, a
+-- reply has hop count 63 and nothing replies to it, and the neighbour named is that of the record which rules for the written frame's egress; in
+-- edition 1 only the egress replies, and nothing stands beside what is forwarded. By reading back what is written. Assumes nothing.
 use mathlib.Core.Path.{_≡_, refl, sym, ap, _∙_}
-use mathlib.Core.List.{List, _++_}
-use mathlib.Core.Bool.{Bool, true, false, _||_}
-use mathlib.Core.Option.{Option, none, some}
+use mathlib.Core.List.{List, [], _∷_, _++_, List·Memᴰ, List·Memᴰ·not-nil, List·Memᴰ·eq-of-singleton}
+use mathlib.Core.Bool.{Bool, true, false, _||_, true≢false}
+use mathlib.Core.Option.{Option, none}
 use Prim.Native.Nat.{ℕ, suc, _<_, _≤_}
 use native.Mathlib.Omega.{arith}
-use borrow.Author.Tests.{ne-eqb}
+use borrow.Author.Tests.{eq-eqb, ne-eqb}
 use lib.Dec.{eqb}
 use lib.ListN.{length}
 use Rattle.rules.specs.Settings.{Settings, ruling, nextHop, Ways, waysOf}
 use Rattle.rules.specs.Link.{link}
 use Rattle.rules.specs.Header.{hopCount, anyRBridge, readFrame, innerOf, weAreEgress}
-use Rattle.rules.specs.Answer.{Handled, wrote}
+use Rattle.rules.specs.Answer.{Handled, wroteBoth}
 use Rattle.rules.specs.Channel.{protocolError, protocolEcho, bodyOf, spid, spidReply, channelRead, returnPath}
 use Rattle.rules.specs.Channel.{replyInner, replyRest, errorBody, echoBody, errorReply, echoReply}
-use Rattle.rules.specs.Handling.{forwarded, handling}
-use Rattle.rules.specs.Campus.{switchNamed, Kind, reply, kindAfter, hopReceived, egressReceived}
-use Rattle.rules.specs.Demand.{writesReply}
+use Rattle.rules.specs.Handling.{forwarded, besideLeast, handling}
+use Rattle.rules.specs.Campus.{switchNamed, Waiting, writesReply, repliesMade, hopReceived, egressReceived}
 use Rattle.rules.specs.declared.NextHop.{NextHop}
 use Rattle.rules.specs.declared.Header.{Header}
 use Rattle.rules.specs.declared.Ruling.{Ruling}
@@ -29,8 +28,9 @@ use Rattle.rules.specs.declared.FrameRead.the-variants.{Trill, Unreadabl
 use Rattle.rules.specs.declared.ChannelRead.the-variants.{Fault, ErrorHeard, EchoHeard, EchoRequest}
 use Rattle.rules.proofs.FrameLaws.{frame-read, link-written, header-passed, Passed, sent-hop, sentHeader, forwarded-read, forwarded-inner}
 use Rattle.rules.proofs.ReplyLaws.{replyHeader, reply-read, reply-inner, error-heard, echo-heard, echo-body-length, echo-body-spid}
-use Rattle.rules.proofs.HandlingLaws.{echo-ranged, channel-echo}
-use Rattle.rules.proofs.HandledLaws.{Final, Cleared, How, fault-small, how}
+use Rattle.rules.proofs.HandlingLaws.{echo-ranged, channel-echo, length-error, length-echo}
+use Rattle.rules.proofs.NextLaws.{made-reply}
+use Rattle.rules.proofs.HandledLaws.{Final, Cleared, Beside, alone, How, fault-small, how, echo-fits}
 
 -- hop count and egress of a frame
 module _ (f : List ℕ) where
@@ -98,11 +98,11 @@ reply-heard f h e y =
     let same : y .header ≡ h = cc (y .read, e) in
     rw (← same) (inner-heard (innerOf f (y .header)) (y .inner))
 
--- "the neighbour in the writing switch's ruling record for that frame's egress", where that frame is what the answer writes
-pub record NextSwitch (S : Settings) (a : Handled) : Type 0 where
+-- "the neighbour in the writing switch's ruling record for that frame's egress": of a frame written, and the neighbour that it goes to
+pub record NextSwitch (S : Settings) (written : List ℕ) (via : ℕ) : Type 0 where
   pub hop : NextHop
-  pub rules : ruling (S .hops) (egressReceived (a .octets)) ≡ Found hop
-  pub neighbour : a .via ≡ hop .neighbour
+  pub rules : ruling (S .hops) (egressReceived written) ≡ Found hop
+  pub neighbour : via ≡ hop .neighbour
 
 module _ (S : Settings) (d : ℕ) (r : NextHop) where
   hop-rules : nextHop S d ≡ Found r → ruling (S .hops) d ≡ Found r
@@ -125,13 +125,12 @@ module _ (S : Settings) (d : ℕ) (r : NextHop) where
 
 -- what goes on after a handling that answers 50
 pub record Forwarded (S : Settings) (f : List ℕ) (a : Handled) : Type 0 where
-  pub stays : (kind : Kind) → kindAfter kind (a .number) ≡ some kind
-  pub no-reply : writesReply (a .number) ≡ false
+  pub is-50 : a .number ≡ 50
   pub transit : ours (egressReceived f) S ≡ false
   pub one-less : hopReceived f ≡ suc (hopReceived (a .octets))
   pub same-egress : egressReceived (a .octets) ≡ egressReceived f
   pub goes : (switches : List Settings) → towards switches (egressReceived f) S ≡ switchNamed switches (a .via)
-  pub next : NextSwitch S a
+  pub next : NextSwitch S (a .octets) (a .via)
   pub reply-kept : IsReply f → IsReply (a .octets)
 
 module _ (S : Settings) (f : List ℕ) (h : Header) (r : NextHop) (t : Cleared (waysOf S) f h false) (found : nextHop S (h .egress) ≡ Found r) where
@@ -154,12 +153,10 @@ module _ (S : Settings) (f : List ℕ) (h : Header) (r : NextHop) (t : Cleared (
       let same : y .header ≡ h = cc (y .read, t .read) in
       record { header = sent; read = sent-read; inner = rw (sent-inner, ← same) (y .inner) }
 
-  forwarded-on : Forwarded S f (wrote 50 (forwarded (waysOf S) r f h) (r .neighbour))
-  unfolding kindAfter writesReply
-  forwarded-on =
+  forwarded-on : (beside : List ℕ) (via : ℕ) → Forwarded S f (wroteBoth 50 (forwarded (waysOf S) r f h) (r .neighbour) beside via)
+  forwarded-on beside via =
       record {
-        stays = λ kind. refl;
-        no-reply = refl;
+        is-50 = refl;
         transit = ours-role S f h (t .read) ∙ t .role;
         one-less =
             hop-read f h (t .read) ∙ sym (sent-hop (waysOf S) f h (t .read) passed (t .well)) ∙ ap suc (sym (hop-read (forwarded (waysOf S) r f h) sent sent-read));
@@ -174,17 +171,16 @@ module _ (S : Settings) (f : List ℕ) (h : Header) (r : NextHop) (t : Cleared (
         reply-kept = sent-reply;
       }
 
--- what goes on after a handling that answers 53 or 54
-pub record Replied (S : Settings) (f : List ℕ) (a : Handled) : Type 0 where
-  pub turns : (kind : Kind) → kindAfter kind (a .number) ≡ some reply
-  pub egress : ours (egressReceived f) S ≡ true
+-- a reply made to a frame, and the neighbour that it goes to
+pub record Answered (S : Settings) (f written : List ℕ) (via : ℕ) : Type 0 where
   pub hops-left : 1 ≤ hopReceived f
   pub not-a-reply : IsReply f → ⊥
-  pub full : hopReceived (a .octets) ≡ 63
-  pub next : NextSwitch S a
-  pub is-reply : IsReply (a .octets)
+  pub full : hopReceived written ≡ 63
+  pub next : NextSwitch S written via
+  pub is-reply : IsReply written
+  pub short : length written ≤ besideLeast
 
-module _ (S : Settings) (own : S .nickname < 65536) (f : List ℕ) (h : Header) (r : NextHop) (t : Cleared (waysOf S) f h true)
+module _ (S : Settings) (own : S .nickname < 65536) (f : List ℕ) (h : Header) (r : NextHop) (egress : Bool) (t : Cleared (waysOf S) f h egress)
     (found : returnPath (waysOf S) (h .ingress) ≡ Found r) where
   hops-had : 1 ≤ hopReceived f
   hops-had = omega (arith, hop-read f h (t .read), header-passed (waysOf S) f h (t .unrefused) .hops-left)
@@ -203,8 +199,8 @@ module _ (S : Settings) (own : S .nickname < 65536) (f : List ℕ) (h : Header) 
     written-full : hopReceived written ≡ 63
     written-full = hop-read written header-written read-written
 
-    written-next : (answer : ℕ) → NextSwitch S (wrote answer written (r .neighbour))
-    written-next answer =
+    written-next : NextSwitch S written (r .neighbour)
+    written-next =
         record { hop = r; rules = rw (egress-read written header-written read-written) (return-rules S (h .ingress) r found); neighbour = refl }
 
     written-reply : IsReply written
@@ -215,71 +211,146 @@ module _ (S : Settings) (own : S .nickname < 65536) (f : List ℕ) (h : Header) 
           inner = rw (reply-inner (waysOf S) own (h .ingress) (frame-read f h (t .read) .ingress-fits) number code body (link (waysOf S) r) (link-written (waysOf S) r)) is;
         }
 
-  error-replied : (code : ℕ) → channelRead (innerOf f h) ≡ Fault code → Replied S f (wrote 53 (errorReply (waysOf S) r f h code) (r .neighbour))
-  unfolding errorReply kindAfter
-  error-replied code c =
+  error-answered : (code : ℕ) → channelRead (innerOf f h) ≡ Fault code → Answered S f (errorReply (waysOf S) r f h code) (r .neighbour)
+  unfolding errorReply
+  error-answered code c =
       let is = error (waysOf S) code (errorBody f h) (fault-small (innerOf f h) code c) refl in
       record {
-        turns = λ kind. refl;
-        egress = ours-role S f h (t .read) ∙ t .role;
         hops-left = hops-had;
         not-a-reply = λ y. reply-heard f h (t .read) y .no-fault code c;
         full = written-full protocolError code (errorBody f h) is;
-        next = written-next protocolError code (errorBody f h) is 53;
+        next = written-next protocolError code (errorBody f h) is;
         is-reply = written-reply protocolError code (errorBody f h) is;
+        short = omega (arith, length-error (waysOf S) r f h code);
       }
 
-  echo-replied : (clock : List ℕ) → length clock ≡ 6 → channelRead (innerOf f h) ≡ EchoRequest
-      → Replied S f (wrote 54 (echoReply (waysOf S) r h clock (bodyOf (innerOf f h))) (r .neighbour))
-  unfolding echoReply kindAfter
-  echo-replied clock six c =
+  echo-answered : (clock : List ℕ) → length clock ≡ 6 → channelRead (innerOf f h) ≡ EchoRequest
+      → Answered S f (echoReply (waysOf S) r h clock (bodyOf (innerOf f h))) (r .neighbour)
+  unfolding echoReply
+  echo-answered clock six c =
       let body : List ℕ = bodyOf (innerOf f h) in
       let ranged = echo-ranged body (channel-echo (innerOf f h) c) in
       let n = echo-body-length body clock (ranged .0) six in
       let is = echo (waysOf S) (echoBody body clock) (omega (arith, n, ranged)) (omega (arith, n, ranged)) (echo-body-spid body clock) refl in
       record {
-        turns = λ kind. refl;
-        egress = ours-role S f h (t .read) ∙ t .role;
         hops-left = hops-had;
         not-a-reply = λ y. reply-heard f h (t .read) y .no-request c;
         full = written-full protocolEcho 0 (echoBody body clock) is;
-        next = written-next protocolEcho 0 (echoBody body clock) is 54;
+        next = written-next protocolEcho 0 (echoBody body clock) is;
         is-reply = written-reply protocolEcho 0 (echoBody body clock) is;
+        short = echo-fits (waysOf S) r clock f h six c;
       }
 
--- every handling ends the way, forwards or replies
-pub record Ended (a : Handled) : Type 0 where
-  pub over : (kind : Kind) → kindAfter kind (a .number) ≡ none
-  pub no-reply : writesReply (a .number) ≡ false
+-- the replies that a handling makes: none, or one to its frame
+pub data Made (S : Settings) (f : List ℕ) : List Waiting → Type 0 where
+  nothing : Made S f []
+  one : (w : Waiting) → Answered S f (w .frame) (w .towards) → Made S f (w ∷ [])
 
-final-ended : (a : Handled) → Final a → Ended a
-unfolding kindAfter writesReply
-final-ended a n =
-    let n50 = ne-eqb (a .number) 50 (n .not-50) in
-    let n53 = ne-eqb (a .number) 53 (n .not-53) in
-    let n54 = ne-eqb (a .number) 54 (n .not-54) in
-    record { over = λ kind. rw (n50, n53, n54); no-reply = rw (n53, n54) }
+-- every handling ends the frame's way, forwards it, perhaps with a reply beside, or replies; in edition 1 nothing stands beside what is
+-- forwarded, and only the egress replies
+pub record Ended (a : Handled) : Type 0 where
+  pub not-50 : a .number ≡ 50 → ⊥
+  pub no-reply : writesReply (a .number) ≡ false
+  pub none-made : repliesMade a ≡ []
+
+pub record Replied (S : Settings) (f : List ℕ) (a : Handled) : Type 0 where
+  pub not-50 : a .number ≡ 50 → ⊥
+  pub replies : writesReply (a .number) ≡ true
+  pub answered : Answered S f (a .octets) (a .via)
+  pub egress : S .rfc7179 ≡ false → ours (egressReceived f) S ≡ true
 
 pub data Does (S : Settings) (f : List ℕ) (a : Handled) : Type 0 where
   ends : Ended a → Does S f a
-  forwards : Forwarded S f a → Does S f a
+  forwards : Forwarded S f a → Made S f (repliesMade a) → (S .rfc7179 ≡ false → repliesMade a ≡ []) → Does S f a
   replies : Replied S f a → Does S f a
 
-pub does : (S : Settings) (clock f : List ℕ) → S .nickname < 65536 → length clock ≡ 6 → Does S f (handling (waysOf S) clock f)
-does S clock f own six = go (handling (waysOf S) clock f) (how (waysOf S) clock f)
-  where
-    go : (a : Handled) → How (waysOf S) clock f a → Does S f a
-    go a (How.ends n) = ends (final-ended a n)
-    go a (How.forwards h r t found fits e) = rw e (forwards (forwarded-on S f h r t found))
-    go a (How.faults h r code t found c e) = rw e (replies (error-replied S own f h r t found code c))
-    go a (How.echoes h r t found c e) = rw e (replies (echo-replied S own f h r t found clock six c))
+final-ended : (a : Handled) → Final a → Ended a
+unfolding repliesMade
+final-ended a n =
+    let n53 = ne-eqb (a .number) 53 (n .not-53) in
+    let n54 = ne-eqb (a .number) 54 (n .not-54) in
+    record { not-50 = n .not-50; no-reply = rw (n53, n54); none-made = rw (n53, n54, eq-eqb (length (a .beside)) 0 (n .nothing-beside)) }
 
--- where the written frame goes next, for 50, 53 and 54: the run goes by `via`, document 01 by the ruling record
-pub next-switch : (S : Settings) (clock f : List ℕ) → S .nickname < 65536 → length clock ≡ 6 → (kind kind′ : Kind)
-    → kindAfter kind (handling (waysOf S) clock f .number) ≡ some kind′ → NextSwitch S (handling (waysOf S) clock f)
-next-switch S clock f own six kind kind′ e = go (does S clock f own six)
+module _ (S : Settings) (clock f : List ℕ) (own : S .nickname < 65536) (six : length clock ≡ 6) where
+  beside-made : (h : Header) (out beside : List ℕ) (near via : ℕ) → Cleared (waysOf S) f h false → Beside (waysOf S) clock f h beside via
+      → Made S f (repliesMade (wroteBoth 50 out near beside via))
+  unfolding repliesMade
+  beside-made h out beside near via t alone = nothing
+  beside-made h out beside near via t (Beside.replied r two e c) =
+      rw (ne-eqb (length (echoReply (waysOf S) r h clock (bodyOf (innerOf f h)))) 0 some-octets) (one _ (echo-answered S own f h r false t e clock six c))
+    where
+      some-octets : length (echoReply (waysOf S) r h clock (bodyOf (innerOf f h))) ≡ 0 → ⊥
+      some-octets z =
+          let ranged = echo-ranged (bodyOf (innerOf f h)) (channel-echo (innerOf f h) c) in
+          omega (arith, z, length-echo (waysOf S) r f h clock (bodyOf (innerOf f h)) six (ranged .0), ranged .0)
+
+  beside-none : (h : Header) (out beside : List ℕ) (near via : ℕ) → Beside (waysOf S) clock f h beside via → S .rfc7179 ≡ false
+      → repliesMade (wroteBoth 50 out near beside via) ≡ []
+  unfolding repliesMade
+  beside-none h out beside near via alone old = refl
+  beside-none h out beside near via (Beside.replied r two e c) old = absurd (true≢false (sym two ∙ old))
+
+  at-egress : (egress : Bool) (h : Header) → Cleared (waysOf S) f h egress → (egress ≡ false → S .rfc7179 ≡ true) → S .rfc7179 ≡ false
+      → ours (egressReceived f) S ≡ true
+  at-egress true h t two old = ours-role S f h (t .read) ∙ t .role
+  at-egress false h t two old = absurd (true≢false (sym (two refl) ∙ old))
+
+  pub does : Does S f (handling (waysOf S) clock f)
+  does = go (handling (waysOf S) clock f) (how (waysOf S) clock f)
+    where
+      go : (a : Handled) → How (waysOf S) clock f a → Does S f a
+      go a (How.ends n) = ends (final-ended a n)
+      go a (How.forwards h r beside via t found fits b e) =
+          rw e
+          (forwards (forwarded-on S f h r t found beside via) (beside-made h (forwarded (waysOf S) r f h) beside (r .neighbour) via t b)
+          (beside-none h (forwarded (waysOf S) r f h) beside (r .neighbour) via b))
+      go a (How.faults egress h r code t two found c e) =
+          rw e
+          (replies (record {
+            not-50 = λ z. omega (arith, z);
+            replies = refl;
+            answered = error-answered S own f h r egress t found code c;
+            egress = at-egress egress h t two;
+          }))
+      go a (How.echoes h r t found c e) =
+          rw e
+          (replies (record {
+            not-50 = λ z. omega (arith, z);
+            replies = refl;
+            answered = echo-answered S own f h r true t found clock six c;
+            egress = at-egress true h t (λ z. absurd (true≢false z));
+          }))
+
+-- what of it a run needs, whatever the edition: a frame that goes on was forwarded; each reply made answers the frame
+module _ (S : Settings) (f : List ℕ) (a : Handled) where
+  pub does-forward : Does S f a → a .number ≡ 50 → Forwarded S f a
+  does-forward (ends o) e = absurd (o .not-50 e)
+  does-forward (forwards o m old) e = o
+  does-forward (replies o) e = absurd (o .not-50 e)
+
+  pub does-make : Does S f a → Made S f (repliesMade a)
+  does-make (ends o) = rw (o .none-made) nothing
+  does-make (forwards o m old) = m
+  does-make (replies o) = rw (made-reply a (o .replies)) (one _ (o .answered))
+
+-- a reply, 53 or 54, is as short as one beside
+pub reply-short : (S : Settings) (clock f : List ℕ) → S .nickname < 65536 → length clock ≡ 6 → writesReply (handling (waysOf S) clock f .number) ≡ true
+    → length (handling (waysOf S) clock f .octets) ≤ besideLeast
+reply-short S clock f own six e = go (does S clock f own six)
   where
-    go : Does S f (handling (waysOf S) clock f) → NextSwitch S (handling (waysOf S) clock f)
-    go (ends o) = let n : none ≡ some kind′ = sym (o .over kind) ∙ e in let z : _≡_ {A = ℕ} 0 1 = cc n in absurd (omega arith)
-    go (forwards o) = o .next
-    go (replies o) = o .next
+    go : Does S f (handling (waysOf S) clock f) → length (handling (waysOf S) clock f .octets) ≤ besideLeast
+    go (ends o) = absurd (true≢false (sym e ∙ o .no-reply))
+    go (forwards o m old) = absurd (true≢false (sym e ∙ ap writesReply (o .is-50)))
+    go (replies o) = o .answered .short
+
+-- where a frame that is written goes next, forwarded or a reply: the run goes by the neighbour named, document 01 by the ruling record
+module _ (S : Settings) (clock f : List ℕ) (own : S .nickname < 65536) (six : length clock ≡ 6) where
+  pub forwarded-next : handling (waysOf S) clock f .number ≡ 50 → NextSwitch S (handling (waysOf S) clock f .octets) (handling (waysOf S) clock f .via)
+  forwarded-next e = does-forward S f (handling (waysOf S) clock f) (does S clock f own six) e .next
+
+  pub reply-next : (w : Waiting) → List·Memᴰ w (repliesMade (handling (waysOf S) clock f)) → NextSwitch S (w .frame) (w .towards)
+  reply-next w i = go (repliesMade (handling (waysOf S) clock f)) (does-make S f (handling (waysOf S) clock f) (does S clock f own six)) i
+    where
+      go : (l : List Waiting) → Made S f l → List·Memᴰ w l → NextSwitch S (w .frame) (w .towards)
+      go l nothing j = absurd (List·Memᴰ·not-nil j)
+      go l (one v o) j = rw (List·Memᴰ·eq-of-singleton j) (o .next)

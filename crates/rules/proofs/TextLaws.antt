@@ -1,4 +1,4 @@
--- Laws of the text printed: its numbers, what is printed of each description, and that it has 1,451 octets at most. By the tests, and
+-- Laws of the text printed: its numbers, what is printed of each description, and that it has 73,741 octets at most. By the tests, and
 -- by induction on the fields and on the run. Assumes nothing.
 use mathlib.Core.Path.{_≡_, refl, sym, ap, _∙_}
 use mathlib.Core.List.{List, [], _∷_, _++_, List·Memᴰ, List·Memᴰ·head, List·Memᴰ·tail}
@@ -44,6 +44,29 @@ module _ (n : ℕ) where
       let q : decimalFrom n (n / 10) ≡ (48 + n / 10 / 10) ∷ (48 + n / 10 % 10) ∷ [] =
       ap (λ (m : ℕ). decimalFrom m (n / 10)) (sym e) ∙ two-digits (n - 2) (n / 10) (omega arith) (omega arith) in
       sym (more-digits n n (omega arith) ∙ ap (λ (t : List ℕ). t ++ ((48 + n % 10) ∷ [])) q)
+
+  pub decimal-four : 1000 ≤ n → n < 10000 → (48 + n / 10 / 10 / 10) ∷ (48 + n / 10 / 10 % 10) ∷ (48 + n / 10 % 10) ∷ (48 + n % 10) ∷ [] ≡ decimal n
+  decimal-four h k =
+      let e : suc (suc (n - 2)) ≡ n = omega arith in
+      let d : suc (suc (n - 3)) ≡ n - 1 = omega arith in
+      let e1 : suc (n - 1) ≡ n = omega arith in
+      let r : decimalFrom (n - 1) (n / 10 / 10) ≡ (48 + n / 10 / 10 / 10) ∷ (48 + n / 10 / 10 % 10) ∷ [] =
+      ap (λ (m : ℕ). decimalFrom m (n / 10 / 10)) (sym d) ∙ two-digits (n - 3) (n / 10 / 10) (omega arith) (omega arith) in
+      let q : decimalFrom n (n / 10) ≡ (48 + n / 10 / 10 / 10) ∷ (48 + n / 10 / 10 % 10) ∷ (48 + n / 10 % 10) ∷ [] =
+      ap (λ (m : ℕ). decimalFrom m (n / 10)) (sym e1) ∙ more-digits (n - 1) (n / 10) (omega arith) ∙ ap (λ (t : List ℕ). t ++ ((48 + n / 10 % 10) ∷ [])) r in
+      sym (more-digits n n (omega arith) ∙ ap (λ (t : List ℕ). t ++ ((48 + n % 10) ∷ [])) q)
+
+  decimal-most : n < 10000 → length (decimal n) ≤ 4
+  decimal-most h =
+      by-test (ltb n 10)
+      (λ b. rw (← decimal-one (ltb-true n 10 b)) (omega arith))
+      (λ b.
+      by-test (ltb n 100)
+      (λ c. rw (← decimal-two (ltb-false n 10 b) (ltb-true n 100 c)) (omega arith))
+      (λ c.
+      by-test (ltb n 1000)
+      (λ d. rw (← decimal-three (ltb-false n 100 c) (ltb-true n 1000 d)) (omega arith))
+      (λ d. rw (← decimal-four (ltb-false n 1000 d) h) (omega arith))))
 
   decimal-short : n < 100 → length (decimal n) ≤ 2
   decimal-short h =
@@ -123,14 +146,14 @@ module _ (file : List ℕ) where
   unfolding printed
   printed-accepted d e = rw (printed, e)
 
-  -- 80 lines of 18 octets, and `handled 80`
-  pub printed-most : length (printed file) ≤ 1451
+  -- 4,096 lines of 18 octets, and `handled 4096`
+  pub printed-most : length (printed file) ≤ 73741
   printed-most = go (described file) refl
     where
-      go : (w : Description) → described file ≡ w → length (printed file) ≤ 1451
+      go : (w : Description) → described file ≡ w → length (printed file) ≤ 73741
       go (refused code) e =
           rw (printed-refused code e, refused-length code) (omega (arith, decimal-short code (refused-ranged file code e .1)))
       go (accepted d) e =
           let a = accepted-good file d e in
           rw (printed-accepted d e, handled-length (entriesText (plainRun d)) (decimal (length (plainRun d))))
-          (omega (arith, plain-most d a, lines-most (plainRun d) (plain-numbers d a), decimal-short (length (plainRun d)) (omega (arith, plain-most d a))))
+          (omega (arith, plain-most d a, lines-most (plainRun d) (plain-numbers d a), decimal-most (length (plainRun d)) (omega (arith, plain-most d a))))

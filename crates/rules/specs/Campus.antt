@@ -7,7 +7,7 @@ use lib.ListN.{length, drop}
 use lib.Dec.{ltb, eqb}
 use Rattle.rules.specs.Octets.{if_then_else_, be16, octets16, put}
 use Rattle.rules.specs.Fields.{Field, field, cut, fields, lengthGood}
-use Rattle.rules.specs.Settings.{Settings, hopGood, switchGood, serialMet, switchOf, hopOf, stripGood, hopsMost, withField, waysOf}
+use Rattle.rules.specs.Settings.{Settings, hopGood, switchGood, serialMet, switchOf, hopOf, stripGood, editionGood, hopsMost, withField, waysOf}
 use Rattle.rules.specs.Header.{hopCount, readFrame}
 use Rattle.rules.specs.Answer.{Handled}
 use Rattle.rules.specs.Handling.{handling}
@@ -31,19 +31,20 @@ abbrev pub known : {A : Type 0} → Option A → Bool
 known none = false
 known (some a) = true
 
--- 43: "tag out of place (2 or 3 before any tag 1, a second tag 4, anything after tag 5)"
+-- 43: "tag out of place (2 or 3 before any tag 1, a second tag 4, anything after tag 5)"; T-09: tag 6 is "placed and counted as tag 3"
 unfoldable pub placeGood : Described → ℕ → Bool
 placeGood d tag =
     not (known (d .entry))
-    && not ((eqb tag 2 || eqb tag 3) && eqb (length (d .switches)) 0)
+    && not ((eqb tag 2 || eqb tag 3 || eqb tag 6) && eqb (length (d .switches)) 0)
     && not (eqb tag 4 && known (d .clock))
 
--- 44: "value outside the settings rules, or strip flag above 1"
+-- 44: "value outside the settings rules, or strip flag above 1"; T-09: "value 1 or 2"
 unfoldable pub valueGood : ℕ → List ℕ → Bool
 valueGood tag v =
     if eqb tag 1 then switchGood (switchOf v) else
     if eqb tag 2 then hopGood (hopOf v) else
-    if eqb tag 3 then stripGood v
+    if eqb tag 3 then stripGood v else
+    if eqb tag 6 then editionGood v
     else true
 
 -- 45: "nickname of an earlier switch"
@@ -126,42 +127,83 @@ pub data Kind : Type 0 where
   original : Kind
   reply : Kind
 
+-- `handlingNo` counts the handlings from 1
 pub record State : Type 0 where
+  pub handlingNo : ℕ
   pub switch : Settings
   pub kind : Kind
   pub frame : List ℕ
   pub answer : Handled
 
--- "What 50 writes stays original or reply; what 53 or 54 writes is a reply. .. Any other answer ends it."
-unfoldable pub kindAfter : Kind → ℕ → Option Kind
-kindAfter kind number =
-    if eqb number 50 then some kind else
-    if eqb number 53 || eqb number 54 then some reply
-    else none
+-- T-09: "in the plain run replies run in the order made after the original stops": a reply that waits, and the nickname of the switch that it
+-- goes to
+pub record Waiting : Type 0 where
+  pub towards : ℕ
+  pub frame : List ℕ
 
--- "The written frame goes next to the switch whose nickname is the neighbour in the writing switch's ruling record for that
--- frame's egress; if the campus has no such switch, the frame has left and the run ends."
-unfoldable pub runFrom : ℕ → List Settings → List ℕ → Settings → Kind → List ℕ → List State
-runFrom zero switches clock S kind f = []
-runFrom (suc fuel) switches clock S kind f =
-    let a = handling (waysOf S) clock f in
-    record { switch = S; kind = kind; frame = f; answer = a }
-    ∷ elim (kindAfter kind (a .number)) [
+-- "what 53 or 54 writes is a reply"; T-09: "a reply made beside 50"
+abbrev pub writesReply : ℕ → Bool
+writesReply number = eqb number 53 || eqb number 54
+
+unfoldable pub repliesMade : Handled → List Waiting
+repliesMade a =
+    if writesReply (a .number) then record { towards = a .via; frame = a .octets } ∷ [] else
+    if eqb (length (a .beside)) 0 then []
+    else record { towards = a .besideVia; frame = a .beside } ∷ []
+
+-- "The written frame goes next to the switch whose nickname is the neighbour in the writing switch's ruling record for that frame's egress; if
+-- the campus has no such switch, the frame has left"; T-09: "a frame that leaves the campus .. ends only its own way"
+abbrev pub inCampus : List Settings → ℕ → Bool
+inCampus switches nickname = known (switchNamed switches nickname)
+
+unfoldable pub staying : List Settings → List Waiting → List Waiting
+staying switches [] = []
+staying switches (w ∷ replies) = if inCampus switches (w .towards) then w ∷ staying switches replies else staying switches replies
+
+-- the replies that wait after a handling, those made last at the end
+abbrev pub waitingAfter : List Settings → List Waiting → Handled → List Waiting
+waitingAfter switches waiting a = waiting ++ staying switches (repliesMade a)
+
+-- what is handled next: at which switch, by its nickname, and the replies that then wait; or nothing
+pub data Next : Type 0 where
+  over : Next
+  next : ℕ → Kind → List ℕ → List Waiting → Next
+
+-- "What 50 writes stays original or reply"; T-09: "or whose answer would end the run, ends only its own way, and the run ends when no reply waits"
+unfoldable pub sentOn : List Settings → Handled → Bool
+sentOn switches a = eqb (a .number) 50 && inCampus switches (a .via)
+
+unfoldable pub firstWaiting : List Waiting → Next
+firstWaiting [] = over
+firstWaiting (w ∷ waiting) = next (w .towards) reply (w .frame) waiting
+
+unfoldable pub nextAfter : List Settings → Kind → List Waiting → Handled → Next
+nextAfter switches kind waiting a =
+    if sentOn switches a then next (a .via) kind (a .octets) (waitingAfter switches waiting a)
+    else firstWaiting (waitingAfter switches waiting a)
+
+-- handling number `i`, of the frame at the switch with that nickname, and all later ones, `fuel` of them at most
+unfoldable pub runFrom : ℕ → ℕ → List Settings → List ℕ → ℕ → Kind → List ℕ → List Waiting → List State
+runFrom zero i switches clock nickname kind f waiting = []
+runFrom (suc fuel) i switches clock nickname kind f waiting =
+    elim (switchNamed switches nickname) [
       | none ↦ []
-      | some kind′ ↦
-          elim (switchNamed switches (a .via)) [
-            | none ↦ []
-            | some T ↦ runFrom fuel switches clock T kind′ (a .octets)
+      | some S ↦
+          let a = handling (waysOf S) clock f in
+          record { handlingNo = i; switch = S; kind = kind; frame = f; answer = a }
+          ∷ elim (nextAfter switches kind waiting a) [
+            | over ↦ []
+            | next nickname′ kind′ g waiting′ ↦ runFrom fuel (suc i) switches clock nickname′ kind′ g waiting′
           ]
     ]
 
 -- no run has as many handlings as this: any larger number gives the same states
 abbrev pub handlingsMost : ℕ
-handlingsMost = 128
+handlingsMost = 4097
 
 -- the plain run of an accepted description
 unfoldable pub plainRun : Described → List State
-plainRun d = elim (d .entry) [ none ↦ [] | some S ↦ runFrom handlingsMost (d .switches) (clockOf d) S original (d .frame) ]
+plainRun d = elim (d .entry) [ none ↦ [] | some S ↦ runFrom handlingsMost 1 (d .switches) (clockOf d) (S .nickname) original (d .frame) [] ]
 
 -- "hop count and egress are zero for a frame unreadable as TRILL"
 unfoldable pub hopReceived : List ℕ → ℕ
@@ -194,13 +236,27 @@ pub record Outcome : Type 0 where
 abbrev pub refusal : ℕ → Outcome
 refusal code = record { code = code; count = 0; trace = [] }
 
--- "Code 49, tested before all: trace buffer under 640 octets." `room` is the length of the trace buffer.
+-- "a campus with an edition 2 switch"
+unfoldable pub someEdition2 : List Settings → Bool
+someEdition2 [] = false
+someEdition2 (S ∷ switches) = S .rfc7179 || someEdition2 switches
+
+-- "the trace buffer must then hold 32,768 octets"
+unfoldable pub traceNeeded : Described → ℕ
+traceNeeded d = if someEdition2 (d .switches) then 32768 else traceLeast
+
+-- "Code 49, tested before all: trace buffer under 640 octets." T-09: "49 with the new size is tested after all other codes of the file."
+-- `room` is the length of the trace buffer.
 unfoldable pub campus : List ℕ → ℕ → Outcome
 campus file room =
     if ltb room traceLeast then refusal 49 else
     elim (described file) [
       | refused code ↦ refusal code
-      | accepted d ↦ record { code = 0; count = length (plainRun d); trace = traceOctets (plainRun d) }
+      | accepted d ↦
+          elim (ltb room (traceNeeded d)) [
+            | true ↦ refusal 49
+            | false ↦ record { code = 0; count = length (plainRun d); trace = traceOctets (plainRun d) }
+          ]
     ]
 
 -- "octets after its entries stay"

@@ -1,4 +1,4 @@
--- "Boundary frames": C1 to C12 as one table of cases, each with what the definitions compute and what the paper says.
+-- "Boundary frames": C1 to C12 as one table of cases, each with what the definitions compute and what the paper says; then cases of the requests.
 -- Cases that the paper gives in part are completed to whole frames, on both sides of each boundary.
 use Prim.Native.Nat.{ℕ, _+_, _-_, _*_}
 use Prim.Native.String.{String}
@@ -11,15 +11,16 @@ use Rattle.rules.specs.Settings.{hopGood, newer, ruling, nextHop, serial
 use Rattle.rules.specs.Settings.{opens, continues, opened, settingsFrom, settingsOf}
 use Rattle.rules.specs.Link.{linkLength, outerTag, link}
 use Rattle.rules.specs.Header.{readFrame, headerRefusal, weAreEgress}
-use Rattle.rules.specs.Options.{optionSize, optionAt, optionsFrom, optionsOf, some-key, summarized, areaRead, areaStops}
-use Rattle.rules.specs.Options.{implemented, strippable, keptOptions, octetsOf, stripped, areaSent}
+use Rattle.rules.specs.Options.{optionSize, optionAt, optionsFrom, optionsOf, some-key, summarized, draftRead, draftStops}
+use Rattle.rules.specs.Options.{implemented, strippable, keptOptions, octetsOf, stripped}
+use Rattle.rules.specs.Extension.{flagUnsummarized, summaryBare, extensionRead, extensionStops, areaRead, areaStops, areaSent}
 use Rattle.rules.specs.Channel.{echoRead, channelRead, silenced, returnPath, replyInner, replyRest, echoBody, errorReply, echoReply}
 use Rattle.rules.specs.Answer.{Handled}
-use Rattle.rules.specs.Handling.{forwardedRest, forwarded, onward, transit, faulted, echoed, channelled, decapsulated}
+use Rattle.rules.specs.Handling.{forwardedRest, forwarded, onward, channelMessage, alertTo, alertOf, alerted, transit, faulted, echoed, channelled, decapsulated}
 use Rattle.rules.specs.Handling.{routed, handling, handledWith, handled, partOf}
 use Rattle.rules.specs.Campus.{switchNamed, placeGood, valueGood, nicknameNew, roomGood, serialNew, entryKnown, fieldRefusal}
-use Rattle.rules.specs.Campus.{withNext, describedFrom, described, clockOf, kindAfter, runFrom, plainRun}
-use Rattle.rules.specs.Campus.{Outcome, hopReceived, egressReceived, entryOctets, traceOctets, campus}
+use Rattle.rules.specs.Campus.{withNext, describedFrom, described, clockOf, repliesMade, staying, sentOn, firstWaiting, nextAfter, runFrom, plainRun}
+use Rattle.rules.specs.Campus.{Outcome, hopReceived, egressReceived, entryOctets, traceOctets, someEdition2, traceNeeded, campus}
 use Rattle.rules.specs.Text.{ascii, hexDigit, decimalFrom, entryText, entriesText, printed}
 
 pub record Case : Type 0 where
@@ -40,9 +41,10 @@ pairs (a ∷ b ∷ s) = (a * 16 + b) ∷ pairs s
 unfoldable pub hex : String → List ℕ
 hex text = pairs (digits (ascii text))
 
--- an answer as numbers: number, start and length of the delivered part, neighbour, and the octets written
+-- an answer as numbers: number, start and length of the delivered part, neighbour; the length and the neighbour of a reply beside it; and
+-- the octets written
 unfoldable pub numbers : Handled → List ℕ
-numbers a = a .number ∷ a .start ∷ a .size ∷ a .via ∷ a .octets
+numbers a = a .number ∷ a .start ∷ a .size ∷ a .via ∷ length (a .beside) ∷ a .besideVia ∷ a .octets ++ a .beside
 
 abbrev pub clock : List ℕ
 clock = hex "000001000009"
@@ -50,15 +52,15 @@ clock = hex "000001000009"
 -- one handling with room enough: dropped or heard; delivered; written
 abbrev pub drops : String → List ℕ → List ℕ → ℕ → Case
 drops name settings frame number =
-    record { name = name; computed = numbers (handled settings clock 2048 frame); expected = number ∷ 0 ∷ 0 ∷ 0 ∷ [] }
+    record { name = name; computed = numbers (handled settings clock 2048 576 frame); expected = number ∷ 0 ∷ 0 ∷ 0 ∷ 0 ∷ 0 ∷ [] }
 
 abbrev pub delivers : String → List ℕ → List ℕ → ℕ → ℕ → ℕ → Case
 delivers name settings frame number start size =
-    record { name = name; computed = numbers (handled settings clock 2048 frame); expected = number ∷ start ∷ size ∷ 0 ∷ [] }
+    record { name = name; computed = numbers (handled settings clock 2048 576 frame); expected = number ∷ start ∷ size ∷ 0 ∷ 0 ∷ 0 ∷ [] }
 
 abbrev pub writes : String → List ℕ → List ℕ → ℕ → ℕ → List ℕ → Case
 writes name settings frame number via octets =
-    record { name = name; computed = numbers (handled settings clock 2048 frame); expected = number ∷ 0 ∷ 0 ∷ via ∷ octets }
+    record { name = name; computed = numbers (handled settings clock 2048 576 frame); expected = number ∷ 0 ∷ 0 ∷ via ∷ 0 ∷ 0 ∷ octets }
 
 abbrev pub prints : String → List ℕ → List ℕ → Case
 prints name file text = record { name = name; computed = printed file; expected = text }
@@ -67,8 +69,11 @@ prints name file text = record { name = name; computed = printed file; expected 
 unfoldable pub ending : Outcome → List ℕ
 ending o = o .code ∷ o .count ∷ drop (length (o .trace) - 8) (o .trace)
 
+abbrev pub endsIn : ℕ → String → List ℕ → ℕ → List ℕ → Case
+endsIn room name file count entry = record { name = name; computed = ending (campus file room); expected = 0 ∷ count ∷ entry }
+
 abbrev pub ends : String → List ℕ → ℕ → List ℕ → Case
-ends name file count entry = record { name = name; computed = ending (campus file 640); expected = 0 ∷ count ∷ entry }
+ends = endsIn 640
 
 -- switch 0x0001, which reaches 0x0009 over 0x0005, without and with the strip flag
 abbrev pub settings1 : List ℕ
@@ -99,7 +104,7 @@ areaTaken name word area = delivers name settings1 (frameTo word (hex "0001") ar
 -- the same, dropped with a number and the place in the area
 abbrev pub areaRefused : String → List ℕ → List ℕ → ℕ → ℕ → Case
 areaRefused name word area number place =
-    record { name = name; computed = numbers (handled settings1 clock 2048 (frameTo word (hex "0001") area inner)); expected = number ∷ place ∷ 0 ∷ 0 ∷ [] }
+    record { name = name; computed = numbers (handled settings1 clock 2048 576 (frameTo word (hex "0001") area inner)); expected = number ∷ place ∷ 0 ∷ 0 ∷ 0 ∷ 0 ∷ [] }
 
 -- forwarded to 0x0005 with the strip flag set: first word and area before and after
 abbrev pub strips : String → List ℕ → List ℕ → List ℕ → List ℕ → Case
@@ -206,7 +211,7 @@ hopVlan size serial vlan = hex "02" ++ size ++ hex "0009 0005 020000000005 00000
 
 -- number and octets written
 unfoldable pub sizes : List ℕ → List ℕ → List ℕ
-sizes settings frame = let a = handled settings clock 2048 frame in a .number ∷ length (a .octets) ∷ []
+sizes settings frame = let a = handled settings clock 2048 576 frame in a .number ∷ length (a .octets) ∷ []
 
 -- of a frame for 0x0009: outer tag, first word, area, and how many octets follow its inner frame
 abbrev pub sizesTo : String → List ℕ → List ℕ → List ℕ → List ℕ → ℕ → ℕ → ℕ → Case
@@ -229,6 +234,83 @@ files name hop expected =
       computed = ending (campus (hex "01 0008 0001 020000000001" ++ hop ++ hex "05 0002 0001") 640);
       expected = expected;
     }
+
+-- T-09: switch 0x0001 of edition 2, which reaches 0x0009 and 0x0004 over 0x0005
+abbrev pub settings2 : List ℕ
+settings2 =
+    hex "01 0008 0001 020000000001  02 000E 0009 0005 020000000005 00000001"
+    ++ hex "02 000E 0004 0005 020000000005 00000001  06 0001 02"
+
+-- number, octets written, and octets of the reply beside, with room in both buffers
+unfoldable pub sizesIn : ℕ → ℕ → List ℕ → List ℕ
+sizesIn room besideRoom frame = let a = handled settings2 clock room besideRoom frame in a .number ∷ length (a .octets) ∷ length (a .beside) ∷ []
+
+-- of a frame in transit to 0x0009, and of one for 0x0001: first word, area, inner frame
+abbrev pub transits : String → String → String → List ℕ → ℕ → ℕ → ℕ → Case
+transits name word area inner number written beside =
+    record { name = name; computed = sizesIn 2048 576 (frameTo (hex word) (hex "0009") (hex area) inner); expected = number ∷ written ∷ beside ∷ [] }
+
+abbrev pub arrives : String → String → String → List ℕ → ℕ → ℕ → Case
+arrives name word area inner number written =
+    record { name = name; computed = sizesIn 2048 576 (frameTo (hex word) (hex "0001") (hex area) inner); expected = number ∷ written ∷ 0 ∷ [] }
+
+-- a channel message: protocol, flags and ERR, body; an echo request that asks for a reply; a message of an unknown protocol
+abbrev pub message : String → String → List ℕ
+message header body = hex "0180C2000042 020000000009 8100 0001 8946" ++ hex header ++ hex body
+
+abbrev pub asks : List ℕ
+asks = message "0FF8 4000" "30000001 02 00 000001000002 000000000000"
+
+abbrev pub strange : List ℕ
+strange = message "0002 4000" ""
+
+-- C1 with three switches of edition 2, its request with the critical channel alert: 0x0002 answers it in transit too
+abbrev pub fileAlert : List ℕ
+fileAlert =
+    hex "01 0008 0001 020000000001  06 0001 02"
+    ++ hex "02 000E 0003 0002 020000000002 00000001"
+    ++ hex "01 0008 0002 020000000002  06 0001 02"
+    ++ hex "02 000E 0003 0003 020000000003 00000001"
+    ++ hex "02 000E 0001 0001 020000000001 00000001"
+    ++ hex "01 0008 0003 020000000003  06 0001 02"
+    ++ hex "02 000E 0001 0002 020000000002 00000001"
+    ++ hex "04 0006 000001000009"
+    ++ hex "05 0042 0002 020000000002 020000000001 22F3"
+    ++ hex "0045 0003 0001 81000000"
+    ++ asks
+
+abbrev pub textAlert : List ℕ
+textAlert =
+    ascii "0002 O 50 05 0003\n"
+    ++ ascii "0003 O 54 04 0003\n"
+    ++ ascii "0001 R 56 3F 0001\n"
+    ++ ascii "0002 R 50 3F 0001\n"
+    ++ ascii "0001 R 56 3E 0001\n"
+    ++ ascii "handled 5\n"
+
+-- one switch of edition 2 whose records name itself, and an alerted echo with the given first TRILL word
+abbrev pub fileSelf : List ℕ → List ℕ
+fileSelf word =
+    hex "01 0008 0001 020000000001  02 000E 0009 0001 020000000001 00000001"
+    ++ hex "02 000E 0003 0001 020000000001 00000001  06 0001 02"
+    ++ hex "05 0042 0001 020000000001 020000000009 22F3"
+    ++ word
+    ++ hex "0003 0009 81000000"
+    ++ asks
+
+-- editions 2 and 1, the second with the strip flag, each naming the other for 0x0003
+abbrev pub fileMixed : List ℕ
+fileMixed =
+    hex "01 0008 0001 020000000001  06 0001 02  02 000E 0003 0002 020000000002 00000001"
+    ++ hex "01 0008 0002 020000000002  03 0001 01  02 000E 0003 0001 020000000001 00000001"
+    ++ hex "05 0022 0001 020000000001 020000000009 22F3 00C5 0003 0009 40000000 4583AABBCC000000"
+
+abbrev pub textMixed : List ℕ
+textMixed =
+    ascii "0001 O 50 05 0003\n"
+    ++ ascii "0002 O 50 04 0003\n"
+    ++ ascii "0001 O 38 03 0003\n"
+    ++ ascii "handled 3\n"
 
 unfoldable pub cases : List Case
 cases =
@@ -344,17 +426,62 @@ cases =
     ∷ files "T-01 VLAN 4,095 in a file" (hopVlan (hex "0010") (hex "01") (hex "0FFF")) (44 ∷ 0 ∷ [])
     ∷ files "T-01 priority bits in a file" (hopVlan (hex "0010") (hex "01") (hex "2005")) (44 ∷ 0 ∷ [])
     ∷ files "T-01 15 octets in a file" (hopVlan (hex "000F") (hex "01") (hex "00")) (42 ∷ 0 ∷ [])
+    ∷ transits "T-09 critical alert, echo" "0045" "81000000" asks 50 64 60
+    ∷ arrives "T-09 critical alert, echo, at the egress" "0045" "81000000" asks 54 60
+    ∷ transits "T-09 non-critical alert, echo" "0045" "00800000" asks 50 64 60
+    ∷ transits "T-09 critical flag, no summary bit" "0045" "01000000" asks 38 0 0
+    ∷ transits "T-09 summary bit, no flag, one word" "0045" "80000000" asks 38 0 0
+    ∷ transits "T-09 CRHbH, no flag, two words" "0085" "80000000 00000000" asks 20 0 0
+    ∷ arrives "T-09 CRHbH, no flag, two words, at the egress" "0085" "80000000 00000000" asks 20 0
+    ∷ transits "T-09 CRItE, no flag, two words" "0085" "40000000 00000000" asks 50 68 0
+    ∷ arrives "T-09 CRItE, no flag, two words, at the egress" "0085" "40000000 00000000" asks 20 0
+    ∷ transits "T-09 critical alert, unknown protocol" "0045" "81000000" strange 53 76 0
+    ∷ transits "T-09 critical alert, unknown protocol, silent" "0045" "81000000" (message "0002 C000" "") 25 0 0
+    ∷ transits "T-09 non-critical alert, unknown protocol" "0045" "00800000" strange 50 46 0
+    ∷ transits "T-09 both alerts, unknown protocol" "0045" "81800000" strange 53 76 0
+    ∷ transits "T-09 critical alert, ERR 1" "0045" "81000000" (message "0FF8 4001" "") 26 0 0
+    ∷ transits "T-09 non-critical alert, ERR 1" "0045" "00800000" (message "0FF8 4001" "") 50 46 0
+    ∷ transits "T-09 critical alert, ordinary frame" "0045" "81000000" inner 50 44 0
+    ∷ arrives "T-09 critical alert, ordinary frame, at the egress" "0045" "81000000" inner 51 0
+    ∷ transits "T-09 unknown critical flag" "0045" "90000000" asks 20 0 0
+    ∷ transits "T-09 unknown critical flag beside the alert" "0045" "83000000" asks 20 0 0
+    ∷ transits "T-09 critical reserved flag" "0045" "20020000" inner 50 44 0
+    ∷ arrives "T-09 critical reserved flag, at the egress" "0045" "20020000" inner 51 0
+    ∷ transits "T-09 CRItE and its flag" "0045" "40000020" asks 50 64 0
+    ∷ transits "T-09 CRItE and a non-critical alert" "0045" "40800020" asks 50 64 0
+    ∷ arrives "T-09 CRItE and its flag, at the egress" "0045" "40000020" asks 20 0
+    ∷ transits "T-09 critical alert, echo reply" "0045" "81000000" (message "0FF8 4000" "40000001 02 00 000001000002 000000000000") 50 64 0
+    ∷ transits "T-09 critical alert, reply mode 1" "0045" "81000000" (message "0FF8 4000" "30000001 01 00 000001000002 000000000000") 50 64 0
+    ∷ transits "T-09 critical alert in three words" "00C5" "81000000 FFFFFFFF 12345678" asks 50 72 60
+    ∷ transits "T-09 no area" "0005" "" inner 50 40 0
+    ∷ arrives "T-09 no area, at the egress" "0005" "" inner 51 0
+    ∷ record { name = "T-09 second buffer of 575"; computed = sizesIn 2048 575 (frameTo (hex "0005") (hex "0009") [] inner); expected = 37 ∷ 0 ∷ 0 ∷ [] }
+    ∷ record { name = "T-09 both buffers short"; computed = sizesIn 2047 575 (frameTo (hex "0005") (hex "0009") [] inner); expected = 2 ∷ 0 ∷ 0 ∷ [] }
+    ∷ prints "T-09 replies wait for the original" fileAlert textAlert
+    ∷ endsIn 32768 "T-09 hop 2: two replies, 131 handlings" (fileSelf (hex "0042")) 131 (hex "0001 01 11 00 00 0009")
+    ∷ endsIn 32768 "T-09 hop 0: one" (fileSelf (hex "0040")) 1 (hex "0001 00 11 00 00 0003")
+    ∷ prints "T-09 editions 2 and 1" fileMixed textMixed
+    ∷ files "T-09 edition 2, 640 octets" (hex "06 0001 02") (49 ∷ 0 ∷ [])
+    ∷ files "T-09 edition 2, then 1" (hex "06 0001 02  06 0001 01") (0 ∷ 1 ∷ hex "0001 00 0A 00 00 0000")
+    ∷ files "T-09 value 3" (hex "06 0001 03") (44 ∷ 0 ∷ [])
+    ∷ files "T-09 edition 2, then value 0" (hex "06 0001 02  06 0001 00") (44 ∷ 0 ∷ [])
+    ∷ files "T-09 two octets" (hex "06 0002 0202") (42 ∷ 0 ∷ [])
+    ∷ record { name = "T-09 before any switch"; computed = ending (campus (hex "06 0001 02") 640); expected = 43 ∷ 0 ∷ [] }
+    ∷ record { name = "T-09 639 octets, before any switch"; computed = ending (campus (hex "06 0001 02") 639); expected = 49 ∷ 0 ∷ [] }
+    ∷ record { name = "T-09 32,767 octets"; computed = ending (campus (fileSelf (hex "0042")) 32767); expected = 49 ∷ 0 ∷ [] }
+    ∷ drops "T-09 settings with value 3" (settings1 ++ hex "06 0001 03") (frameTo (hex "0005") (hex "0009") [] inner) 1
     ∷ []
 
 -- The two sides of the claim, case by case: the values computed (to open this is to open all that a case computes with),
 unfoldable pub computedIn : List Case → List (List ℕ)
-unfolding digits pairs hex numbers ending sizes ascii hexDigit decimalFrom entryText entriesText printed fieldAt fieldsFrom fields lengthGood
+unfolding digits pairs hex numbers ending sizes sizesIn ascii hexDigit decimalFrom entryText entriesText printed fieldAt fieldsFrom fields lengthGood
     hopGood newer ruling nextHop serialMet switchGood withField opens continues opened settingsFrom settingsOf linkLength outerTag link readFrame
-    headerRefusal weAreEgress optionAt optionsFrom optionsOf some-key summarized areaRead areaStops implemented strippable
-    keptOptions octetsOf stripped areaSent echoRead channelRead silenced returnPath replyInner replyRest echoBody errorReply echoReply
-    forwardedRest forwarded onward transit faulted echoed channelled decapsulated routed handling handledWith handled partOf switchNamed placeGood
-    valueGood nicknameNew roomGood serialNew entryKnown fieldRefusal withNext describedFrom described clockOf kindAfter runFrom plainRun
-    hopReceived egressReceived entryOctets traceOctets campus
+    headerRefusal weAreEgress optionAt optionsFrom optionsOf some-key summarized draftRead draftStops implemented strippable
+    keptOptions octetsOf stripped flagUnsummarized summaryBare extensionRead extensionStops areaRead areaStops areaSent echoRead channelRead silenced returnPath replyInner replyRest echoBody errorReply echoReply
+    forwardedRest forwarded onward channelMessage alertTo alertOf alerted transit faulted echoed channelled decapsulated routed handling handledWith handled partOf switchNamed placeGood
+    valueGood nicknameNew roomGood serialNew entryKnown fieldRefusal withNext describedFrom described clockOf
+    repliesMade staying sentOn firstWaiting nextAfter runFrom plainRun
+    hopReceived egressReceived entryOctets traceOctets someEdition2 traceNeeded campus
 computedIn = map (λ (c : Case). c .computed)
 
 -- and the values expected.

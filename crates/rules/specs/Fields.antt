@@ -41,7 +41,7 @@ unfoldable pub fields : List ℕ → List Field
 fields s = fieldsAt s 0
 
 -- "Tag 1, length 8 .. Tag 2, length 14 .. Tag 3, length 1 .. Tag 4, length 6 .. Tag 5, length 2 to 2,050"
--- T-01: "Tag 2 may have length 14 (VLAN 0) or 16 (VLAN last)."
+-- T-01: "Tag 2 may have length 14 (VLAN 0) or 16 (VLAN last)." T-09: "tag 6, length 1"
 abbrev pub hopSize : ℕ → Bool
 hopSize size = eqb size 14 || eqb size 16
 
@@ -51,5 +51,6 @@ lengthGood tag size =
     if eqb tag 2 then hopSize size else
     if eqb tag 3 then eqb size 1 else
     if eqb tag 4 then eqb size 6 else
-    if eqb tag 5 then leb 2 size && leb size 2050
+    if eqb tag 5 then leb 2 size && leb size 2050 else
+    if eqb tag 6 then eqb size 1
     else false

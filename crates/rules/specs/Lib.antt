@@ -5,6 +5,7 @@ pub mod Settings
 pub mod Link
 pub mod Header
 pub mod Options
+pub mod Extension
 pub mod Answer
 pub mod Channel
 pub mod Handling

@@ -1,4 +1,4 @@
--- "Options area (source document 001)": one option, all of them, well formed, and what is left of an area once stripped.
+-- "Options area (source document 001)", edition 1: one option, all of them, well formed, and what is left of an area once stripped.
 use Prim.Native.Nat.{ℕ, zero, suc, _+_, _-_, _*_, _/_, _%_, _<_, _≤_}
 use mathlib.Core.Path.{_≡_}
 use mathlib.Core.List.{List, [], _∷_, _++_}
@@ -6,7 +6,6 @@ use mathlib.Core.Bool.{Bool, true, false, not, _&&_, _||_}
 use lib.ListN.{length, take, drop}
 use lib.Dec.{ltb, leb, eqb}
 use Rattle.rules.specs.Octets.{if_then_else_, octet, be16, part}
-use Rattle.rules.specs.Settings.{Ways}
 
 -- "First word: bit 0 CHbH, bit 1 CItE, 30 bit options." An empty area has both summary bits 0.
 abbrev pub chbh : List ℕ → Bool
@@ -115,8 +114,8 @@ summarized area (options os) =
     if some-key ingressToEgressCritical os && not (cite area) then Faulty 35 0
     else WellFormed
 
-unfoldable pub areaRead : List ℕ → AreaRead
-areaRead area = summarized area (optionsOf area)
+unfoldable pub draftRead : List ℕ → AreaRead
+draftRead area = summarized area (optionsOf area)
 
 -- Document 01's own sentence, with no order of tests: "The area is well formed when the options fill it exactly; no Length is
 -- reserved; the nine high bits of each option are greater than those of the one before; CHbH is 1 if some option has IE 0, NC 0;
@@ -154,9 +153,5 @@ unfoldable pub stripped : List ℕ → List ℕ
 stripped area = elim (optionsOf area) [ options os ↦ take 4 area ++ octetsOf (keptOptions os) | fault number place ↦ area ]
 
 -- 20: "CHbH is 1, or CItE is 1 and we are the egress"
-unfoldable pub areaStops : Bool → List ℕ → Bool
-areaStops egress area = chbh area || (cite area && egress)
-
--- "With the strip flag .. Without the flag the area is copied."
-unfoldable pub areaSent : Ways → List ℕ → List ℕ
-areaSent S area = if S .strip then stripped area else area
+unfoldable pub draftStops : Bool → List ℕ → Bool
+draftStops egress area = chbh area || (cite area && egress)

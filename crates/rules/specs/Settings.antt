@@ -15,6 +15,8 @@ pub record Settings : Type 0 where
   pub nickname : ℕ
   pub mac : ℕ
   pub strip : Bool
+  -- T-09: edition 2, RFC 7179 in place of the 2010 draft
+  pub rfc7179 : Bool
   pub hops : List NextHop
 
 -- "valid, that is 0x0001 to 0xFFBF"
@@ -62,7 +64,7 @@ serialMet r (q ∷ hops) = (eqb (q .destination) (r .destination) && eqb (q .ser
 
 -- "switch (nickname, MAC)"
 abbrev pub switchOf : List ℕ → Settings
-switchOf v = record { nickname = be16 v 0; mac = be48 v 2; strip = false; hops = [] }
+switchOf v = record { nickname = be16 v 0; mac = be48 v 2; strip = false; rfc7179 = false; hops = [] }
 
 -- "next hop .. (destination, neighbour, MAC, serial)"; T-01: "length 14 (VLAN 0) or 16 (VLAN last)", and a place past the end reads 0
 abbrev pub hopOf : List ℕ → NextHop
@@ -79,21 +81,29 @@ stripGood v = leb (octet v 0) 1
 abbrev pub hopsMost : ℕ
 hopsMost = 64
 
+-- T-09: "Settings choose the edition by tag 6, length 1, value 1 or 2"
+abbrev pub editionGood : List ℕ → Bool
+editionGood v = eqb (octet v 0) 1 || eqb (octet v 0) 2
+
 abbrev pub withHop : Settings → NextHop → Settings
-withHop S r = record { nickname = S .nickname; mac = S .mac; strip = S .strip; hops = S .hops ++ (r ∷ []) }
+withHop S r = record { nickname = S .nickname; mac = S .mac; strip = S .strip; rfc7179 = S .rfc7179; hops = S .hops ++ (r ∷ []) }
 
 abbrev pub withStrip : Settings → Bool → Settings
-withStrip S b = record { nickname = S .nickname; mac = S .mac; strip = b; hops = S .hops }
+withStrip S b = record { nickname = S .nickname; mac = S .mac; strip = b; rfc7179 = S .rfc7179; hops = S .hops }
 
--- the settings once one more field is read; "last one counts" for the strip flag
+abbrev pub withEdition : Settings → Bool → Settings
+withEdition S b = record { nickname = S .nickname; mac = S .mac; strip = S .strip; rfc7179 = b; hops = S .hops }
+
+-- the settings once one more field is read; "last one counts" for the strip flag; T-09: "default 1, placed and counted as tag 3"
 unfoldable pub withField : Settings → Field → Settings
 withField S cut = S
 withField S (field tag v) =
     if eqb tag 2 then withHop S (hopOf v) else
-    if eqb tag 3 then withStrip S (not (eqb (octet v 0) 0))
+    if eqb tag 3 then withStrip S (not (eqb (octet v 0) 0)) else
+    if eqb tag 6 then withEdition S (eqb (octet v 0) 2)
     else S
 
--- "one tag 1 field, then tag 2 and 3 fields of the layout below; anything else is bad settings"
+-- "one tag 1 field, then tag 2 and 3 fields of the layout below; anything else is bad settings"; T-09: tag 6 too
 unfoldable pub opens : Field → Bool
 opens cut = false
 opens (field tag v) = eqb tag 1 && lengthGood tag (length v) && switchGood (switchOf v)
@@ -103,7 +113,8 @@ continues S cut = false
 continues S (field tag v) =
     lengthGood tag (length v) &&
     (if eqb tag 2 then hopGood (hopOf v) && ltb (length (S .hops)) hopsMost && not (serialMet (hopOf v) (S .hops)) else
-    if eqb tag 3 then stripGood v
+    if eqb tag 3 then stripGood v else
+    if eqb tag 6 then editionGood v
     else false)
 
 -- the switch that a field opens, its nickname and MAC 0 where the field is cut
@@ -127,12 +138,13 @@ settingsOf octets =
 unfoldable pub settingsRead : List ℕ → Settings
 settingsRead octets = elim (fields octets) [ [] ↦ switchOf [] | f ∷ fs ↦ foldl withField (opened f) fs ]
 
--- what a handling asks of settings: our nickname and MAC, the strip flag, and the next hop for a destination
+-- what a handling asks of settings: our nickname and MAC, the strip flag, the edition, and the next hop for a destination
 pub record Ways : Type 0 where
   pub nickname : ℕ
   pub mac : ℕ
   pub strip : Bool
+  pub rfc7179 : Bool
   pub hop : ℕ → Ruling
 
 abbrev pub waysOf : Settings → Ways
-waysOf S = record { nickname = S .nickname; mac = S .mac; strip = S .strip; hop = nextHop S }
+waysOf S = record { nickname = S .nickname; mac = S .mac; strip = S .strip; rfc7179 = S .rfc7179; hop = nextHop S }

@@ -44,3 +44,12 @@ pub enum ChannelRead {
     EchoHeard,
     EchoRequest,
 }
+
+// What a transit switch of edition 2 does with a channel message that an alert flag shows it (document 02, T-09): nothing but forward it;
+// an error reply, or 26, in its place; or an echo reply beside it.
+pub enum Alert {
+    NoAlert,
+    AlertFault { code: u8 },
+    AlertErr,
+    AlertRequest,
+}

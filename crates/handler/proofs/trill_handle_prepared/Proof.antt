@@ -1,5 +1,5 @@
--- `trill_handle_prepared` meets its contract, by that of `handle_prepared`. Assumes nothing.
-use Rattle.handler.proofs.StoreLaws.{answer-only-laws as laws}
+-- `trill_handle_prepared` meets its contract, by one law for each way out. Assumes nothing.
+use Rattle.handler.proofs.StoreLaws.{trill-handle-prepared-laws as laws}
 use Rattle.handler.proofs.trill_handle_prepared.Statement.{statement}
 use Rattle.handler.proofs.trill_handle_prepared.Tie as tie
 
@@ -7,6 +7,15 @@ pub trill-handle-prepared-spec : {M : Type 1} → statement M
 trill-handle-prepared-spec =
     tie.close
     (tie.spec
+    (λ c. search laws)
+    (λ c. search laws)
+    (λ c. search laws)
     (λ c κs. search laws)
+    (λ c. search laws)
+    (λ c. search laws)
+    (λ c. search laws)
+    (λ c κs. search laws)
+    (λ c. search laws)
+    (λ c. search laws)
     (λ c. search laws)
     (λ c. search laws))

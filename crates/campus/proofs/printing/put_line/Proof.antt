@@ -7,11 +7,12 @@ pub put-line-spec : {M : Type 1} → statement M
 put-line-spec =
     tie.close
     (tie.spec
-    (λ c κs. search laws)
-    (λ c κs. search laws)
     (λ c. search laws)
     (λ c. search laws)
     (λ c. search laws)
-    (λ c κs. search laws)
+    (λ c. search laws)
+    (λ c. search laws)
+    (λ c. search laws)
+    (λ c. search laws)
     (λ c. search laws)
     (λ c. search laws))

@@ -1,4 +1,4 @@
--- `printing::put_number` meets its contract: three pieces, one after the other. Assumes nothing.
+-- `printing::put_number` meets its contract, by one law for each need. Assumes nothing.
 use Rattle.campus.proofs.PrintLaws.{put-number-laws as laws}
 use Rattle.campus.proofs.printing.put_number.Statement.{statement}
 use Rattle.campus.proofs.printing.put_number.Tie as tie
@@ -7,10 +7,10 @@ pub put-number-spec : {M : Type 1} → statement M
 put-number-spec =
     tie.close
     (tie.spec
-    (λ c κs. search laws)
     (λ c. search laws)
-    (λ c κs. search laws)
-    (λ c κs. search laws)
+    (λ c. search laws)
+    (λ c. search laws)
+    (λ c. search laws)
     (λ c. search laws)
     (λ c. search laws)
     (λ c. search laws))

@@ -1,4 +1,4 @@
--- `printing::put_text` meets its contract, by the code. Assumes nothing.
+-- `printing::put_text` meets its contract, by one law for each need. Assumes nothing.
 use Rattle.campus.proofs.PrintLaws.{put-text-laws as laws}
 use Rattle.campus.proofs.printing.put_text.Statement.{statement}
 use Rattle.campus.proofs.printing.put_text.Tie as tie

@@ -14,4 +14,5 @@ length-good-spec =
     (λ c. search laws)
     (λ c. search laws)
     (λ c. search laws)
+    (λ c. search laws)
     (λ c. search laws))

@@ -12,4 +12,8 @@ run-at-spec =
     (λ c. search laws)
     (λ c κs. search laws)
     (λ c. search laws)
+    (λ c. search laws)
+    (λ c. search laws)
+    (λ c κs. search laws)
+    (λ c. search laws)
     (λ c. search laws))

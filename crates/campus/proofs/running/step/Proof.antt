@@ -10,8 +10,6 @@ step-spec =
     (λ c κs. search laws)
     (λ c κs. search laws)
     (λ c. search laws)
-    (λ c κs. search laws)
-    (λ c κs. search laws)
     (λ c. search laws)
     (λ c. search laws)
     (λ c. search laws))

@@ -1,5 +1,5 @@
--- `handling::channelled` meets its contract, by what the message is found to be. Assumes nothing.
-use Rattle.handler.proofs.StageLaws.{channelled-laws as laws}
+-- `handling::channelled` meets its contract, by the cases of the message. Assumes nothing.
+use Rattle.handler.proofs.RouteLaws.{channelled-laws as laws}
 use Rattle.handler.proofs.handling.channelled.Statement.{statement}
 use Rattle.handler.proofs.handling.channelled.Tie as tie
 
@@ -11,16 +11,16 @@ channelled-spec =
     (λ c. search laws)
     (λ c. search laws)
     (λ c. search laws)
-    (λ c κs. search laws)
     (λ c. search laws)
     (λ c. search laws)
-    (λ c κs. search laws)
     (λ c. search laws)
-    (λ c κs. search laws)
     (λ c. search laws)
-    (λ c κs. search laws)
     (λ c. search laws)
-    (λ c κs. search laws)
+    (λ c. search laws)
+    (λ c. search laws)
+    (λ c. search laws)
+    (λ c. search laws)
+    (λ c. search laws)
     (λ c. search laws)
     (λ c. search laws)
     (λ c. search laws)

@@ -1,5 +1,5 @@
--- `handling::decapsulated` meets its contract, by one law of `decapsulated` for each way out. Assumes nothing.
-use Rattle.handler.proofs.StageLaws.{decapsulated-laws as laws}
+-- `handling::decapsulated` meets its contract, by its tests in their order. Assumes nothing.
+use Rattle.handler.proofs.RouteLaws.{decapsulated-laws as laws}
 use Rattle.handler.proofs.handling.decapsulated.Statement.{statement}
 use Rattle.handler.proofs.handling.decapsulated.Tie as tie
 
@@ -11,18 +11,18 @@ decapsulated-spec =
     (λ c. search laws)
     (λ c. search laws)
     (λ c. search laws)
-    (λ c κs. search laws)
     (λ c. search laws)
-    (λ c κs. search laws)
-    (λ c κs. search laws)
     (λ c. search laws)
-    (λ c κs. search laws)
-    (λ c κs. search laws)
     (λ c. search laws)
-    (λ c κs. search laws)
     (λ c. search laws)
-    (λ c κs. search laws)
-    (λ c κs. search laws)
     (λ c. search laws)
-    (λ c κs. search laws)
+    (λ c. search laws)
+    (λ c. search laws)
+    (λ c. search laws)
+    (λ c. search laws)
+    (λ c. search laws)
+    (λ c. search laws)
+    (λ c. search laws)
+    (λ c. search laws)
+    (λ c. search laws)
     (λ c. search laws))

@@ -7,6 +7,7 @@ pub strips-spec : {M : Type 1} → statement M
 strips-spec =
     tie.close
     (tie.spec
-    (λ c κs. search laws)
+    (λ c. search laws)
+    (λ c. search laws)
     (λ c. search laws)
     (λ c. search laws))

@@ -1,5 +1,5 @@
--- `handling::transit` meets its contract, by the next hop that was found and the area that is sent. Assumes nothing.
-use Rattle.handler.proofs.StageLaws.{transit-laws as laws}
+-- `handling::transit` meets its contract, by the next hop and the alert. Assumes nothing.
+use Rattle.handler.proofs.RouteLaws.{transit-laws as laws}
 use Rattle.handler.proofs.handling.transit.Statement.{statement}
 use Rattle.handler.proofs.handling.transit.Tie as tie
 
@@ -12,9 +12,18 @@ transit-spec =
     (λ c. search laws)
     (λ c. search laws)
     (λ c. search laws)
-    (λ c κs. search laws)
+    (λ c. search laws)
+    (λ c. search laws)
+    (λ c. search laws)
+    (λ c. search laws)
     (λ c. search laws)
     (λ c. search laws)
     (λ c κs. search laws)
+    (λ c. search laws)
+    (λ c. search laws)
+    (λ c. search laws)
+    (λ c. search laws)
+    (λ c. search laws)
+    (λ c. search laws)
     (λ c. search laws)
     (λ c. search laws))

@@ -1,15 +1,15 @@
--- `judged::scan_from` meets its contract. The invariant: what was read is judged, and folded to the record that rules and the flag. Assumes nothing.
+-- `judged::scan_from` meets its contract. The invariant: what was read is judged, and folded to the record that rules and the flags. Assumes nothing.
 use Prim.Native.Nat.{_-_}
 use lib.ListN.{length}
-use Rattle.handler.proofs.ScanLaws.{Scanning, scan-hop, scan-past, scan-flag, scan-laws as laws}
+use Rattle.handler.proofs.ScanLaws.{Scanning, scan-laws as laws}
 use Rattle.handler.proofs.judged.scan_from.Statement.{statement}
 use Rattle.handler.proofs.judged.scan_from.Tie as tie
 
 abbrev Inv-loop : tie.InvT-loop
-Inv-loop s from d keys₀ seen₀ n₀ best₀ strip₀ at₀ keys seen n best strip at = Scanning s from d keys seen n best strip at
+Inv-loop s from d keys₀ seen₀ n₀ best₀ flags₀ at₀ keys seen n best flags at = Scanning s from d keys seen n best flags at
 
 abbrev μ-loop : tie.MeasureT-loop
-μ-loop s from d keys₀ seen₀ n₀ best₀ strip₀ at₀ keys seen n best strip at = length s - at
+μ-loop s from d keys₀ seen₀ n₀ best₀ flags₀ at₀ keys seen n best flags at = length s - at
 
 pub scan-from-spec : {M : Type 1} → statement M
 scan-from-spec =

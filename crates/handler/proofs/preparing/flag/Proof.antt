@@ -8,10 +8,12 @@ flag-spec =
     tie.close
     (tie.spec
     (λ c. search laws)
-    (λ c κs. search laws)
     (λ c. search laws)
     (λ c. search laws)
-    (λ c κs. search laws)
+    (λ c. search laws)
+    (λ c. search laws)
+    (λ c. search laws)
+    (λ c. search laws)
     (λ c. search laws)
     (λ c. search laws)
     (λ c. search laws)

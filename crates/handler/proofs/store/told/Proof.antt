@@ -1,4 +1,4 @@
--- `store::told` meets its contract, by what the flag and the record asked for are. Assumes nothing.
+-- `store::told` meets its contract, field by field. Assumes nothing.
 use Rattle.handler.proofs.StoreLaws.{store-told-laws as laws}
 use Rattle.handler.proofs.store.told.Statement.{statement}
 use Rattle.handler.proofs.store.told.Tie as tie
@@ -8,5 +8,6 @@ told-spec =
     tie.close
     (tie.spec
     (λ c. search laws)
-    (λ c κs. search laws)
+    (λ c. search laws)
+    (λ c. search laws)
     (λ c. search laws))

@@ -1,0 +1,121 @@
+-- The extended flags word: a mask is a remainder, and the tests of a switch are those of the rules in their order. Assumes nothing.
+use mathlib.Core.Path.{_≡_, refl, sym, ap, _∙_}
+use mathlib.Core.Bool.{Bool, true, false, not, _&&_, _||_}
+use Prim.Native.Nat.{ℕ, _/_, _%_}
+use borrow.Author.Needs.{needs}
+use lib.Bits.{bitAnd, and-mask}
+use lib.Dec.{eqb}
+use Rattle.rules.specs.Extension as E
+use Rattle.rules.proofs.TestLaws.{and-yes, and-no}
+
+-- some bit of the k lowest
+module _ (x : ℕ) where
+  some-of : (k : ℕ) (m n : ℕ) → bitAnd x m ≡ x % n → not (eqb (bitAnd x m) 0) ≡ not (eqb (x % n) 0)
+  some-of k m n e = rw e
+
+  pub some-1 : not (eqb (bitAnd x 1) 0) ≡ not (eqb (x % 2) 0)
+  some-1 = some-of 1 1 2 (and-mask x 1)
+
+  pub some-3 : not (eqb (bitAnd x 7) 0) ≡ not (eqb (x % 8) 0)
+  some-3 = some-of 3 7 8 (and-mask x 3)
+
+  pub some-4 : not (eqb (bitAnd x 15) 0) ≡ not (eqb (x % 16) 0)
+  some-4 = some-of 4 15 16 (and-mask x 4)
+
+  pub some-5 : not (eqb (bitAnd x 31) 0) ≡ not (eqb (x % 32) 0)
+  some-5 = some-of 5 31 32 (and-mask x 5)
+
+  pub some-6 : not (eqb (bitAnd x 63) 0) ≡ not (eqb (x % 64) 0)
+  some-6 = some-of 6 63 64 (and-mask x 6)
+
+pub ruleset bit-laws = (needs, some-1, some-3, some-4, some-5, some-6)
+
+module _ (a b : Bool) where
+  pub either-first : (x : Bool) → x ≡ a → x ≡ true → true ≡ (a || b)
+  either-first x e t = rw (← e, t)
+
+  pub either-second : (x : Bool) → x ≡ a → x ≡ false → (y : Bool) → y ≡ b → y ≡ (a || b)
+  either-second x e t y f = rw (← e, t) f
+
+pub ruleset some-alert-laws = (needs, either-first, either-second)
+
+-- three tests in their order
+module _ (A A′ B B′ C C′ : Bool) (a a′ : Bool) (is-a : a ≡ A) (is-a′ : a′ ≡ A′) (x : Bool) (tx : x ≡ (a && not a′)) where
+  abbrev Three : Bool
+  Three = (A && not A′) || (B && not B′) || (C && not C′)
+
+  three-1 : x ≡ true → true ≡ Three
+  three-1 t = rw (← is-a, ← is-a′, ← tx, t)
+
+  module _ (f : x ≡ false) (b b′ : Bool) (is-b : b ≡ B) (is-b′ : b′ ≡ B′) (y : Bool) (ty : y ≡ (b && not b′)) where
+    three-2 : y ≡ true → true ≡ Three
+    three-2 t = rw (← is-a, ← is-a′, ← tx, f, ← is-b, ← is-b′, ← ty, t)
+
+    three-3 : y ≡ false → (c c′ : Bool) → c ≡ C → c′ ≡ C′ → (z : Bool) → z ≡ (c && not c′) → z ≡ Three
+    three-3 g c c′ is-c is-c′ z tz = rw (← is-a, ← is-a′, ← tx, f, ← is-b, ← is-b′, ← ty, g, ← is-c, ← is-c′) tz
+
+module _ (w : ℕ) where
+  module _ (a a′ : Bool) (is-a : a ≡ E.hopByHopFlag w) (is-a′ : a′ ≡ E.crHbH w) (x : Bool) (tx : x ≡ (a && not a′)) where
+    pub unsummarized-1 : x ≡ true → true ≡ E.flagUnsummarized w
+    unfolding E.flagUnsummarized
+    unsummarized-1 = three-1 (E.hopByHopFlag w) (E.crHbH w) (E.ingressToEgressFlag w) (E.crItE w) (E.reservedFlag w) (E.crRsv w) a a′ is-a is-a′ x tx
+
+    module _ (f : x ≡ false) (b b′ : Bool) (is-b : b ≡ E.ingressToEgressFlag w) (is-b′ : b′ ≡ E.crItE w) (y : Bool) (ty : y ≡ (b && not b′)) where
+      pub unsummarized-2 : y ≡ true → true ≡ E.flagUnsummarized w
+      unfolding E.flagUnsummarized
+      unsummarized-2 = three-2 (E.hopByHopFlag w) (E.crHbH w) (E.ingressToEgressFlag w) (E.crItE w) (E.reservedFlag w) (E.crRsv w) a a′ is-a is-a′ x tx f b b′ is-b is-b′ y ty
+
+      pub unsummarized-3 : y ≡ false → (c c′ : Bool) → c ≡ E.reservedFlag w → c′ ≡ E.crRsv w → (z : Bool) → z ≡ (c && not c′) → z ≡ E.flagUnsummarized w
+      unfolding E.flagUnsummarized
+      unsummarized-3 = three-3 (E.hopByHopFlag w) (E.crHbH w) (E.ingressToEgressFlag w) (E.crItE w) (E.reservedFlag w) (E.crRsv w) a a′ is-a is-a′ x tx f b b′ is-b is-b′ y ty
+
+  module _ (a a′ : Bool) (is-a : a ≡ E.crHbH w) (is-a′ : a′ ≡ E.hopByHopFlag w) (x : Bool) (tx : x ≡ (a && not a′)) where
+    pub bare-1 : x ≡ true → true ≡ E.summaryBare w
+    unfolding E.summaryBare
+    bare-1 = three-1 (E.crHbH w) (E.hopByHopFlag w) (E.crItE w) (E.ingressToEgressFlag w) (E.crRsv w) (E.reservedFlag w) a a′ is-a is-a′ x tx
+
+    module _ (f : x ≡ false) (b b′ : Bool) (is-b : b ≡ E.crItE w) (is-b′ : b′ ≡ E.ingressToEgressFlag w) (y : Bool) (ty : y ≡ (b && not b′)) where
+      pub bare-2 : y ≡ true → true ≡ E.summaryBare w
+      unfolding E.summaryBare
+      bare-2 = three-2 (E.crHbH w) (E.hopByHopFlag w) (E.crItE w) (E.ingressToEgressFlag w) (E.crRsv w) (E.reservedFlag w) a a′ is-a is-a′ x tx f b b′ is-b is-b′ y ty
+
+      pub bare-3 : y ≡ false → (c c′ : Bool) → c ≡ E.crRsv w → c′ ≡ E.reservedFlag w → (z : Bool) → z ≡ (c && not c′) → z ≡ E.summaryBare w
+      unfolding E.summaryBare
+      bare-3 = three-3 (E.crHbH w) (E.hopByHopFlag w) (E.crItE w) (E.ingressToEgressFlag w) (E.crRsv w) (E.reservedFlag w) a a′ is-a is-a′ x tx f b b′ is-b is-b′ y ty
+
+  pub refused-flag : (one : Bool) (u : Bool) → u ≡ E.flagUnsummarized w → u ≡ true → true ≡ (E.flagUnsummarized w || (one && E.summaryBare w))
+  refused-flag one u e t = rw (← e, t)
+
+  module _ (one : Bool) (u : Bool) (e : u ≡ E.flagUnsummarized w) (f : u ≡ false) where
+    pub refused-bare : one ≡ true → (b : Bool) → b ≡ E.summaryBare w → b ≡ (E.flagUnsummarized w || (one && E.summaryBare w))
+    refused-bare t b is = rw (← e, f, t) is
+
+    pub refused-long : one ≡ false → false ≡ (E.flagUnsummarized w || (one && E.summaryBare w))
+    refused-long t = rw (← e, f, t)
+
+  module _ (egress : Bool) (u : Bool) (e : u ≡ E.unknownHopByHopFlag w) where
+    pub stops-unknown : u ≡ true → true ≡ E.extensionStops egress w
+    unfolding E.extensionStops
+    stops-unknown t = rw (← e, t)
+
+    module _ (f : u ≡ false) (a a′ : Bool) (is-a : a ≡ E.crHbH w) (is-a′ : a′ ≡ E.hopByHopFlag w) (x : Bool) (tx : x ≡ (a && not a′)) where
+      pub stops-bare : x ≡ true → true ≡ E.extensionStops egress w
+      unfolding E.extensionStops
+      stops-bare t = rw (← e, f, ← is-a, ← is-a′, ← tx, t)
+
+      module _ (g : x ≡ false) where
+        pub stops-egress : egress ≡ true → (i : Bool) → i ≡ E.crItE w → i ≡ E.extensionStops egress w
+        unfolding E.extensionStops
+        stops-egress t i is = rw (← e, f, ← is-a, ← is-a′, ← tx, g, t, ← is) (sym (and-yes i))
+
+        pub stops-not : egress ≡ false → false ≡ E.extensionStops egress w
+        unfolding E.extensionStops
+        stops-not t = rw (← e, f, ← is-a, ← is-a′, ← tx, g, t, and-no)
+
+pub ruleset flag-unsummarized-laws = (needs, unsummarized-1, unsummarized-2, unsummarized-3)
+
+pub ruleset summary-bare-laws = (needs, bare-1, bare-2, bare-3)
+
+pub ruleset refused-laws = (needs, refused-flag, refused-bare, refused-long)
+
+pub ruleset stops-laws = (needs, stops-unknown, stops-bare, stops-egress, stops-not)

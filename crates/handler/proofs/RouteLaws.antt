@@ -1,0 +1,621 @@
+-- What a frame comes to as the code finds it: received, its area read by the edition, its task, and the task carried out. One law for each need,
+-- over what the calls before it ensure, for `search` to cite. Assumes nothing.
+use mathlib.Core.Path.{_≡_, refl, sym, ap, _∙_}
+use mathlib.Core.List.{List, []}
+use mathlib.Core.Bool.{Bool, true, false, not, _&&_, _||_, cond, true≢false, false≢true}
+use Prim.Native.Nat.{ℕ, _+_, _-_, _*_, _≤_, _<_}
+use native.Mathlib.Omega.{arith}
+use borrow.Author.Needs.{needs}
+use borrow.Author.Tests.{lt-leb, le-leb, not-true, not-false}
+use lib.Dec.{ltb, leb, eqb}
+use lib.ListN.{length, take, drop, length-drop, length-take}
+use Rattle.rules.specs.Octets.{put, be16, be32}
+use Rattle.rules.specs.Settings.{Ways}
+use Rattle.rules.specs.Header.{opLength, innerStart, areaOf, innerOf, readFrame, headerRefusal, weAreEgress}
+use Rattle.rules.specs.Options as O
+use Rattle.rules.specs.Options.{WellFormed, draftRead, draftStops}
+use Rattle.rules.specs.Extension as E
+use Rattle.rules.specs.Extension.{flagsWord, criticalAlert, nonCriticalAlert, flagUnsummarized, summaryBare, extensionRead, extensionStops, areaRead, areaStops}
+use Rattle.rules.specs.Channel.{bodyOf, channelRead, returnPath}
+use Rattle.rules.specs.Handling as Rules
+use Rattle.rules.specs.Handling.{onward, untagged, toAllEgressRBridges, channelMessage, alertTo, alertOf, faulted, echoed, channelled, decapsulated, routed, handling, handledWith}
+use Rattle.rules.specs.Answer as A
+use Rattle.rules.specs.declared.NextHop.{NextHop}
+use Rattle.rules.specs.declared.Header.{Header}
+use Rattle.rules.specs.declared.FrameRead.{FrameRead}
+use Rattle.rules.specs.declared.FrameRead.the-variants.{Trill, Unreadable}
+use Rattle.rules.specs.declared.Ruling.{Ruling}
+use Rattle.rules.specs.declared.Ruling.the-variants.{Found, Absent}
+use Rattle.rules.specs.declared.ChannelRead.{ChannelRead}
+use Rattle.rules.specs.declared.ChannelRead.the-variants.{Fault, BadErr, ErrorHeard, BadEcho, EchoHeard, EchoRequest}
+use Rattle.rules.specs.declared.Alert.{Alert}
+use Rattle.rules.specs.declared.Alert.the-variants.{NoAlert, AlertFault, AlertErr, AlertRequest}
+use Rattle.rules.proofs.TestLaws.{by-test, and-no}
+use Rattle.rules.proofs.OctetLaws.{put-none}
+use Rattle.rules.proofs.OptionLaws.{area-number}
+use Rattle.rules.proofs.FrameLaws.{frame-read, header-passed, link-length}
+use Rattle.rules.proofs.HandlingLaws.{onward-long, onward-sent, echo-ranged, channel-echo}
+use Rattle.rules.proofs.HandlingLaws.{inner-short, inner-untagged, inner-any, inner-delivered, inner-up, inner-channel, routed-faulty, routed-stopped, routed-egress, routed-transit}
+use Rattle.rules.proofs.HandlingLaws.{handling-unread, handling-refused, handling-routed, clock-bad, room-short, beside-short, frame-long, frame-handled}
+use Rattle.handler.specs.declared.answers.Answer.{Answer}
+use Rattle.handler.specs.declared.way.Own.{Own}
+use Rattle.handler.specs.declared.way.Told.{Told}
+use Rattle.handler.specs.declared.options.Cursor.{Cursor}
+use Rattle.handler.specs.declared.options.AreaRead.{AreaRead}
+use Rattle.handler.specs.declared.options.AreaRead.the-variants.{Read, Faulty}
+use Rattle.handler.specs.declared.handling.Task.{Task}
+use Rattle.handler.specs.declared.handling.Task.the-variants.{Answered, Forward, Error, Echo}
+use Rattle.handler.specs.declared.handling.Received.{Received}
+use Rattle.handler.specs.declared.handling.Received.the-variants as R
+use Rattle.handler.specs.Tasks as Tasks
+use Rattle.handler.specs.Tasks.{areaReadBy, ReadBy, stopsBy, alertBy, answerBy, besideOf, alertedBy, transitBy, doneBy, wantedBy, alertsBy, EchoIn, Answerable, Forwardable, Left, Ends, Comes, Role, Routes, receivedBy, Receives, Lent, Receiving, Both}
+use Rattle.handler.specs.Shapes.{answerOf, droppedBy, besideBy, ownOf, onlyFor, waysBy, judgedBy, Ready, Done}
+use Rattle.handler.proofs.StageLaws.{ready, inner-held, area-held}
+
+-- the area by the edition
+module _ (rfc7179 : Bool) (area : List ℕ) where
+  module _ (r : AreaRead) where
+    pub read-draft : not rfc7179 ≡ true → judgedBy r ≡ draftRead area → ReadBy rfc7179 area r
+    read-draft e is = rw (not-true rfc7179 e) is
+
+  module _ (two : not rfc7179 ≡ false) (w : ℕ) (word : w ≡ be32 area 0) (b : Bool) (is : b ≡ (flagUnsummarized w || (eqb (length area) 4 && summaryBare w))) where
+    pub read-refused : b ≡ true → ReadBy rfc7179 area (Faulty 38 0)
+    unfolding extensionRead
+    read-refused t = rw (not-false rfc7179 two, ← word, ← is, t)
+
+    pub read-extension : b ≡ false → (c : Cursor) → ReadBy rfc7179 area (Read c)
+    unfolding extensionRead
+    read-extension t c = rw (not-false rfc7179 two, ← word, ← is, t)
+
+  pub stops-two : (egress : Bool) → rfc7179 ≡ true → (w : ℕ) → w ≡ be32 area 0 → (b : Bool) → b ≡ extensionStops egress w → b ≡ stopsBy rfc7179 egress area
+  stops-two egress t w word b is = rw (t, ← word) is
+
+  pub stops-one : (egress : Bool) → rfc7179 ≡ false → (b : Bool) → b ≡ draftStops egress area → b ≡ stopsBy rfc7179 egress area
+  stops-one egress t b is = rw t is
+
+pub ruleset read-area-laws = (needs, read-draft, read-refused, read-extension)
+
+pub ruleset area-stops-laws = (needs, stops-two, stops-one)
+
+-- an alert
+module _ (inner : List ℕ) where
+  pub message-short : length inner < 18 → false ≡ channelMessage inner
+  unfolding channelMessage
+  message-short a = rw (lt-leb 18 (length inner) a)
+
+  module _ (a : 18 ≤ length inner) (tag : Bool) (t : tag ≡ untagged inner) where
+    pub message-untagged : tag ≡ true → false ≡ channelMessage inner
+    unfolding channelMessage
+    message-untagged e = rw (le-leb 18 (length inner) a, ← t, e)
+
+    module _ (e : tag ≡ false) (all : Bool) (m : all ≡ toAllEgressRBridges inner) where
+      pub message-other : not all ≡ true → false ≡ channelMessage inner
+      unfolding channelMessage
+      message-other n = rw (le-leb 18 (length inner) a, ← t, e, ← m, not-true all n)
+
+      pub message-so : not all ≡ false → (w : ℕ) → w ≡ be16 inner 16 → eqb w 0x8946 ≡ channelMessage inner
+      unfolding channelMessage
+      message-so n w x = rw (le-leb 18 (length inner) a, ← t, e, ← m, not-false all n, ← x)
+
+pub ruleset channel-message-laws = (needs, message-short, message-untagged, message-other, message-so)
+
+module _ (critical answered : Bool) (read : ChannelRead) where
+  pub to-fault : (code : ℕ) → read ≡ Fault code → critical ≡ true → AlertFault code ≡ alertTo critical answered read
+  unfolding alertTo
+  to-fault code e t = rw (e, t)
+
+  pub to-no-fault : (code : ℕ) → read ≡ Fault code → critical ≡ false → NoAlert ≡ alertTo critical answered read
+  unfolding alertTo
+  to-no-fault code e t = rw (e, t)
+
+  pub to-err : read ≡ BadErr → critical ≡ true → AlertErr ≡ alertTo critical answered read
+  unfolding alertTo
+  to-err e t = rw (e, t)
+
+  pub to-no-err : read ≡ BadErr → critical ≡ false → NoAlert ≡ alertTo critical answered read
+  unfolding alertTo
+  to-no-err e t = rw (e, t)
+
+  pub to-request : read ≡ EchoRequest → answered ≡ true → AlertRequest ≡ alertTo critical answered read
+  unfolding alertTo
+  to-request e t = rw (e, t)
+
+  pub to-no-request : read ≡ EchoRequest → answered ≡ false → NoAlert ≡ alertTo critical answered read
+  unfolding alertTo
+  to-no-request e t = rw (e, t)
+
+  pub to-heard : read ≡ ErrorHeard → NoAlert ≡ alertTo critical answered read
+  unfolding alertTo
+  to-heard e = rw e
+
+  pub to-bad-echo : read ≡ BadEcho → NoAlert ≡ alertTo critical answered read
+  unfolding alertTo
+  to-bad-echo e = rw e
+
+  pub to-echo : read ≡ EchoHeard → NoAlert ≡ alertTo critical answered read
+  unfolding alertTo
+  to-echo e = rw e
+
+pub ruleset alert-to-laws = (needs, to-fault, to-no-fault, to-err, to-no-err, to-request, to-no-request, to-heard, to-bad-echo, to-echo)
+
+module _ (rfc7179 : Bool) (area inner : List ℕ) where
+  pub alert-draft : not rfc7179 ≡ true → NoAlert ≡ alertBy rfc7179 area inner
+  unfolding Tasks.alertBy
+  alert-draft e = rw (not-true rfc7179 e)
+
+  module _ (two : not rfc7179 ≡ false) (w : ℕ) (word : w ≡ be32 area 0) (some : Bool) (s : some ≡ (criticalAlert w || nonCriticalAlert w)) where
+    pub alert-none : not some ≡ true → NoAlert ≡ alertBy rfc7179 area inner
+    unfolding Tasks.alertBy
+    alert-none e = rw (not-false rfc7179 two, ← word, ← s, not-true some e)
+
+    module _ (e : not some ≡ false) (message : Bool) (m : message ≡ channelMessage inner) where
+      pub alert-other : not message ≡ true → NoAlert ≡ alertBy rfc7179 area inner
+      unfolding Tasks.alertBy
+      alert-other n = rw (not-false rfc7179 two, ← word, ← s, not-false some e, ← m, not-true message n)
+
+      pub alert-so : not message ≡ false → (read : ChannelRead) → read ≡ channelRead inner → (critical : Bool) → critical ≡ criticalAlert w → (stops : Bool) → stops ≡ extensionStops true w
+          → (r : Alert) → r ≡ alertTo critical (not stops) read → r ≡ alertBy rfc7179 area inner
+      unfolding Tasks.alertBy
+      alert-so n read c critical k stops h r is = rw (not-false rfc7179 two, ← word, ← s, not-false some e, ← m, not-false message n, ← c, ← k, ← h) is
+
+pub ruleset alert-of-laws = (needs, alert-draft, alert-none, alert-other, alert-so)
+
+-- a task of the egress that is an answer
+module _ {f : List ℕ} {h : Header} {stage : Ways → List ℕ → A.Handled} {r : Answer} where
+  comes-answered : (a : A.Handled) → a .octets ≡ [] → a .beside ≡ [] → ((S : Ways) (clock : List ℕ) → stage S clock ≡ a) → r ≡ answerOf a → Comes f h stage (Answered r)
+  comes-answered a nothing alone e is = record { same = λ S B clock. e S clock ∙ rw is (answers a nothing alone); ends = rw (is, nothing, alone) (refl, refl) }
+    where
+      answers : (a : A.Handled) → a .octets ≡ [] → a .beside ≡ [] → a ≡ answerBy (answerOf a)
+      answers a q b =
+          ap (λ (l : List ℕ). record { number = a .number; octets = l; start = a .start; size = a .size; via = a .via; beside = a .beside; besideVia = a .besideVia }) q
+          ∙ ap (λ (l : List ℕ). record { number = a .number; octets = []; start = a .start; size = a .size; via = a .via; beside = l; besideVia = a .besideVia }) b
+
+  comes-dropped : (n : ℕ) → ((S : Ways) (clock : List ℕ) → stage S clock ≡ A.dropped n) → r ≡ answerOf (A.dropped n) → Comes f h stage (Answered r)
+  comes-dropped n = comes-answered (A.dropped n) refl refl
+
+-- what a channel message comes to, by what it is found to be
+module _ (f : List ℕ) (h : Header) (inner : List ℕ) (held : inner ≡ innerOf f h) (read : ChannelRead) (is : read ≡ channelRead inner) where
+  found : {c : ChannelRead} → read ≡ c → channelRead (innerOf f h) ≡ c
+  found e = sym (rw held at is) ∙ e
+
+  abbrev Channel : Task → Type 0
+  Channel t = Comes f h (λ S clock. channelled S clock f h (channelRead (innerOf f h))) t
+
+  pub found-fault : (code : ℕ) → read ≡ Fault code → Ready f h → Channel (Error code)
+  unfolding channelled
+  found-fault code e ready = record { same = λ S B clock. rw (found e); ends = ready }
+
+  pub found-request : read ≡ EchoRequest → Ready f h → Channel Echo
+  unfolding channelled
+  found-request e ready =
+      let ranged = echo-ranged (bodyOf (innerOf f h)) (channel-echo (innerOf f h) (found e)) in
+      record { same = λ S B clock. rw (found e); ends = ((ranged .0, ranged .1), ready) }
+
+  module _ (r : Answer) where
+    pub found-bad-err : read ≡ BadErr → r ≡ answerOf (A.dropped 26) → Channel (Answered r)
+    unfolding channelled
+    found-bad-err e = comes-dropped 26 (λ S clock. rw (found e))
+
+    pub found-error : read ≡ ErrorHeard → r ≡ answerOf (A.dropped 55) → Channel (Answered r)
+    unfolding channelled
+    found-error e = comes-dropped 55 (λ S clock. rw (found e))
+
+    pub found-bad-echo : read ≡ BadEcho → r ≡ answerOf (A.dropped 27) → Channel (Answered r)
+    unfolding channelled
+    found-bad-echo e = comes-dropped 27 (λ S clock. rw (found e))
+
+    pub found-echo : read ≡ EchoHeard → r ≡ answerOf (A.dropped 56) → Channel (Answered r)
+    unfolding channelled
+    found-echo e = comes-dropped 56 (λ S clock. rw (found e))
+
+pub ruleset channelled-laws = (needs, ready, inner-held, found-fault, found-request, found-bad-err, found-error, found-bad-echo, found-echo)
+
+-- 22 to 24, 51 and 52
+module _ (f : List ℕ) (h : Header) (inner : List ℕ) (held : inner ≡ innerOf f h) where
+  abbrev Egress : Task → Type 0
+  Egress t = Comes f h (λ S clock. decapsulated S clock f h) t
+
+  pub egress-short : (r : Answer) → r ≡ answerOf (A.dropped 22) → length inner < 18 → Egress (Answered r)
+  egress-short r is a = comes-dropped 22 (λ S clock. inner-short S clock f h (rw held at a)) is
+
+  module _ (a : 18 ≤ length inner) (tag : Bool) (t : tag ≡ untagged inner) where
+    tagged : {b : Bool} → tag ≡ b → untagged (innerOf f h) ≡ b
+    tagged b = sym (rw held at t) ∙ b
+
+    pub egress-untagged : (r : Answer) → r ≡ answerOf (A.dropped 23) → tag ≡ true → Egress (Answered r)
+    egress-untagged r is b = comes-dropped 23 (λ S clock. inner-untagged S clock f h (rw held at a) (tagged b)) is
+
+    module _ (b : tag ≡ false) (all : Bool) (m : all ≡ toAllEgressRBridges inner) where
+      to-all : {c : Bool} → all ≡ c → toAllEgressRBridges (innerOf f h) ≡ c
+      to-all c = sym (rw held at m) ∙ c
+
+      pub egress-any : (r : Answer) → r ≡ answerOf (A.dropped 24) → not all ≡ true → h .egress ≡ 0xFFC0 → Egress (Answered r)
+      egress-any r is n e = comes-dropped 24 (λ S clock. inner-any S clock f h (rw held at a) (tagged b) e (to-all (not-true all n))) is
+
+      pub egress-delivered : (r : Answer) (start : ℕ) → start ≡ innerStart h → r ≡ answerOf (A.delivered 51 start (length inner)) → not all ≡ true → (h .egress ≡ 0xFFC0 → ⊥) → Egress (Answered r)
+      egress-delivered r start i is n e =
+          comes-answered (A.delivered 51 (innerStart h) (length (innerOf f h))) refl refl (λ S clock. inner-delivered S clock f h (rw held at a) (tagged b) e (to-all (not-true all n))) (rw (held, i) at is)
+
+      module _ (n : not all ≡ false) (word : ℕ) (w : word ≡ be16 inner 16) where
+        pub egress-up : (r : Answer) (start : ℕ) → start ≡ innerStart h → r ≡ answerOf (A.delivered 52 start (length inner)) → word ≡ 0x22F4 → Egress (Answered r)
+        egress-up r start i is e =
+            comes-answered (A.delivered 52 (innerStart h) (length (innerOf f h))) refl refl (λ S clock. inner-up S clock f h (rw held at a) (tagged b) (to-all (not-false all n)) (sym (rw held at w) ∙ e))
+            (rw (held, i) at is)
+
+        pub egress-channel : (t : Task) → (word ≡ 0x22F4 → ⊥) → Comes f h (λ S clock. channelled S clock f h (channelRead (innerOf f h))) t → Egress t
+        egress-channel t e d =
+            record {
+              same = λ S B clock. inner-channel S clock f h (rw held at a) (tagged b) (to-all (not-false all n)) (λ x. e (rw held at w ∙ x)) ∙ d .same S B clock;
+              ends = d .ends;
+            }
+
+pub ruleset decapsulated-laws = (needs, ready, inner-held, egress-short, egress-untagged, egress-any, egress-delivered, egress-up, egress-channel)
+
+-- 30 to 35 or 38, and 20
+area-near : (rfc7179 : Bool) (area : List ℕ) (n p : ℕ) → areaReadBy rfc7179 area ≡ O.Faulty n p → p ≤ length area
+unfolding extensionRead
+area-near false area n p e = area-number area n p e .near
+area-near true area n p e = extended (flagUnsummarized (flagsWord area) || (eqb (length area) 4 && summaryBare (flagsWord area))) e
+  where
+    extended : (b : Bool) → cond b (O.Faulty 38 0) WellFormed ≡ O.Faulty n p → p ≤ length area
+    extended true x = let z : 0 ≡ p = cc x in omega (arith, z)
+    extended false x = let z : _≡_ {A = ℕ} 0 1 = cc x in absurd (omega arith)
+
+pub route-place : (p n : ℕ) (read : AreaRead) → read ≡ Faulty n p → (rfc7179 : Bool) (area : List ℕ) → ReadBy rfc7179 area read → length area ≤ 2048 → p ≤ 2048
+route-place p n read e rfc7179 area a short = omega (arith, area-near rfc7179 area n p (sym a ∙ ap judgedBy e))
+
+pub part-short : (f : List ℕ) (n k : ℕ) → length f ≤ 2048 → length (take n (drop k f)) ≤ 2048
+part-short f n k short = omega (arith, length-take n (drop k f), length-drop k f)
+
+module _ (nickname : ℕ) (rfc7179 : Bool) (f : List ℕ) (h : Header) (area : List ℕ) (held : area ≡ areaOf f h) (read : AreaRead) (a : ReadBy rfc7179 area read) where
+  judged : {j : O.AreaRead} → judgedBy read ≡ j → (S : Ways) → rfc7179 ≡ S .rfc7179 → areaRead S (areaOf f h) ≡ j
+  unfolding areaRead
+  judged e S o = rw (← o, ← held) (sym a ∙ e)
+
+  pub route-faulty : (r : Answer) (n p : ℕ) → read ≡ Faulty n p → r ≡ answerOf (A.droppedAt n p) → Routes nickname rfc7179 f h (Answered r)
+  route-faulty r n p e is =
+      record { same = λ S clock named two. routed-faulty S clock f h n p (judged (ap judgedBy e) S two) ∙ rw is; left = rw is (refl, refl); role = Prim.tt }
+
+  module _ (c : Cursor) (w : read ≡ Read c) (egress : Bool) (e : egress ≡ weAreEgress nickname h) (stops : Bool) (b : stops ≡ stopsBy rfc7179 egress area) where
+    well : (S : Ways) → rfc7179 ≡ S .rfc7179 → areaRead S (areaOf f h) ≡ WellFormed
+    well = judged (ap judgedBy w)
+
+    role : (S : Ways) → nickname ≡ S .nickname → egress ≡ weAreEgress (S .nickname) h
+    role S o = e ∙ (rw o)
+
+    halted : (S : Ways) → nickname ≡ S .nickname → rfc7179 ≡ S .rfc7179 → {x : Bool} → stops ≡ x → areaStops S (weAreEgress (S .nickname) h) (areaOf f h) ≡ x
+    unfolding areaStops
+    halted S o two x = rw (← role S o, ← held, ← two) (sym b ∙ x)
+
+    pub route-stopped : (r : Answer) → r ≡ answerOf (A.dropped 20) → stops ≡ true → Routes nickname rfc7179 f h (Answered r)
+    route-stopped r is x =
+        record { same = λ S clock named two. routed-stopped S clock f h (well S two) (halted S named two x) ∙ rw is; left = rw is (refl, refl); role = Prim.tt }
+
+    module _ (x : stops ≡ false) where
+      pub route-egress : (t : Task) → egress ≡ true → Comes f h (λ S clock. decapsulated S clock f h) t → Routes nickname rfc7179 f h t
+      route-egress t y d =
+          record {
+            same = λ S clock named two. routed-egress S clock f h (well S two) (halted S named two x) (sym (role S named) ∙ y) ∙ d .same S S clock;
+            left = left-of t (d .ends);
+            role = role-of t (d .ends);
+          }
+        where
+          left-of : (t : Task) → Ends f h t → Left rfc7179 f h t
+          left-of (Answered r) k = k
+          left-of (Forward alert) k = absurd k
+          left-of (Error code) k = k
+          left-of Echo k = k
+
+          role-of : (t : Task) → Ends f h t → Role nickname h t
+          role-of (Answered r) k = Prim.tt
+          role-of (Forward alert) k = absurd k
+          role-of (Error code) k = sym e ∙ y
+          role-of Echo k = sym e ∙ y
+
+      -- the alert as the rules find it
+      alert-same : (S : Ways) → rfc7179 ≡ S .rfc7179 → (inner : List ℕ) → inner ≡ innerOf f h → alertOf S f h ≡ alertBy rfc7179 area inner
+      unfolding alertOf areaStops Tasks.alertBy
+      alert-same S two inner within = rw (held, within, two)
+
+      answers-request : (inner : List ℕ) → inner ≡ innerOf f h → (alert : Alert) → alert ≡ alertBy rfc7179 area inner → Answerable f h alert
+      unfolding Tasks.alertBy alertTo
+      answers-request inner within alert is = rw is (go (rfc7179 && (criticalAlert (flagsWord area) || nonCriticalAlert (flagsWord area)) && channelMessage inner) (channelRead inner) refl)
+        where
+          to : (critical answered : Bool) (c : ChannelRead) → channelRead inner ≡ c → Answerable f h (alertTo critical answered c)
+          to true answered (Fault code) q = Prim.tt
+          to false answered (Fault code) q = Prim.tt
+          to true answered BadErr q = Prim.tt
+          to false answered BadErr q = Prim.tt
+          to critical answered ErrorHeard q = Prim.tt
+          to critical answered BadEcho q = Prim.tt
+          to critical answered EchoHeard q = Prim.tt
+          to critical true EchoRequest q = echo-ranged (bodyOf (innerOf f h)) (channel-echo (innerOf f h) (rw within at q))
+          to critical false EchoRequest q = Prim.tt
+
+          go : (b : Bool) (c : ChannelRead) → channelRead inner ≡ c
+              → Answerable f h (cond b (alertTo (criticalAlert (flagsWord area)) (not (stopsBy rfc7179 true area)) c) NoAlert)
+          go true c q = to (criticalAlert (flagsWord area)) (not (stopsBy rfc7179 true area)) c q
+          go false c q = Prim.tt
+
+      pub route-transit : Ready f h → egress ≡ false → (inner : List ℕ) → inner ≡ innerOf f h → (alert : Alert) → alert ≡ alertBy rfc7179 area inner → Routes nickname rfc7179 f h (Forward alert)
+      unfolding Tasks.transitBy Rules.transit Rules.alerted
+      route-transit ready y inner within alert is =
+          record {
+            same = λ S clock named two. routed-transit S clock f h (well S two) (halted S named two x) (sym (role S named) ∙ y) ∙ same S clock two;
+            left = record { well = draft; is-ready = ready; answerable = answers-request inner within alert is };
+            role = sym e ∙ y;
+          }
+        where
+          draft : rfc7179 ≡ false → draftRead (areaOf f h) ≡ WellFormed
+          draft old = rw (← held) (sym (rw old at a) ∙ ap judgedBy w)
+
+          alike : (S : Ways) (clock : List ℕ) (r : NextHop) (x : Alert) → Rules.alerted S r clock f h x ≡ alertedBy S S r clock f h x
+          alike S clock r NoAlert = refl
+          alike S clock r (AlertFault code) = refl
+          alike S clock r AlertErr = refl
+          alike S clock r AlertRequest = refl
+
+          go : (S : Ways) (clock : List ℕ) (R : Ruling) → S .hop (h .egress) ≡ R → Rules.transit S clock f h ≡ transitBy S S clock f h (alertOf S f h)
+          go S clock Absent q = rw (Rules.transit, Tasks.transitBy, q)
+          go S clock (Found r) q = rw (Rules.transit, Tasks.transitBy, q) (alike S clock r (alertOf S f h))
+
+          same : (S : Ways) (clock : List ℕ) → rfc7179 ≡ S .rfc7179 → Rules.transit S clock f h ≡ transitBy S S clock f h alert
+          same S clock two = go S clock (S .hop (h .egress)) refl ∙ ap (transitBy S S clock f h) (alert-same S two inner within ∙ sym is)
+
+pub ruleset route-laws = (needs, ready, area-held, inner-held, route-place, part-short, route-faulty, route-stopped, route-egress, route-transit)
+
+-- 12 to 18
+module _ (f : List ℕ) (h : Header) (is : readFrame f ≡ Trill h) (own : Own) where
+  pub frame-near : h .place ≤ 18
+  frame-near = omega (arith, frame-read f h is .its-place, link-length f)
+
+  module _ (refusal : ℕ) (n : refusal ≡ headerRefusal (own .mac) f h) where
+    refuses : (S : Ways) → own ≡ ownOf S → refusal ≡ headerRefusal (S .mac) f h
+    refuses S o = n ∙ (rw o)
+
+    pub frame-refused : (r : Answer) → r ≡ answerOf (A.dropped refusal) → (refusal ≡ 0 → ⊥) → Receives own f (R.Answered r)
+    frame-refused r d z =
+        record { same = λ S clock o. handling-refused S clock f h is (λ y. z (refuses S o ∙ y)) ∙ rw (d, ← refuses S o); got = rw d (refl, refl) }
+
+    pub frame-passed : refusal ≡ 0 → length f ≤ 2048 → Receives own f (R.Trill h)
+    frame-passed z short =
+        let S : Ways = record { nickname = own .nickname; mac = own .mac; strip = false; rfc7179 = false; hop = λ d. Absent } in
+        let p = header-passed S f h (sym n ∙ z) in
+        record {
+          same = λ S clock o. handling-routed S clock f h is (sym (refuses S o) ∙ z);
+          got = record { read = is; hops-left = p .hops-left; area-whole = p .area-whole; short = short };
+        }
+
+pub ruleset passed-laws = (needs, frame-near, frame-refused, frame-passed)
+
+-- 10 and 11
+module _ (f : List ℕ) (read : FrameRead) (is : read ≡ readFrame f) (own : Own) where
+  pub frame-unread : (n : ℕ) (r : Answer) → read ≡ Unreadable n → r ≡ answerOf (A.dropped n) → Receives own f (R.Answered r)
+  frame-unread n r e u = record { same = λ S clock o. handling-unread S clock f n (sym is ∙ e) ∙ rw u; got = rw u (refl, refl) }
+
+  pub frame-trill : (h : Header) → read ≡ Trill h → readFrame f ≡ Trill h
+  frame-trill h e = sym is ∙ e
+
+pub ruleset read-laws = (needs, frame-unread, frame-trill)
+
+-- 1, 2, 37 and 3
+module _ (own : Own) (clock f : List ℕ) (room besideRoom : ℕ) where
+  answered-so : (n : ℕ) (r : Answer) → r ≡ answerOf (A.dropped n) → ((S : Ways) → handledWith S clock room besideRoom f ≡ A.dropped n) → Receiving own clock f room besideRoom (R.Answered r)
+  answered-so n r is w = record { same = λ S o. w S ∙ rw is; got = rw is (refl, refl); lent = Prim.tt }
+
+  module _ (r : Answer) where
+    pub received-clock : r ≡ answerOf (A.dropped 1) → (length clock ≡ 6 → ⊥) → Receiving own clock f room besideRoom (R.Answered r)
+    received-clock is a = answered-so 1 r is (λ S. clock-bad S clock room besideRoom f a)
+
+    module _ (a : length clock ≡ 6) where
+      pub received-room : r ≡ answerOf (A.dropped 2) → room < 2048 → Receiving own clock f room besideRoom (R.Answered r)
+      received-room is b = answered-so 2 r is (λ S. room-short S clock room besideRoom f a b)
+
+      module _ (b : 2048 ≤ room) where
+        pub received-beside : r ≡ answerOf (A.dropped 37) → besideRoom < 576 → Receiving own clock f room besideRoom (R.Answered r)
+        received-beside is c = answered-so 37 r is (λ S. beside-short S clock room besideRoom f a b c)
+
+        pub received-long : r ≡ answerOf (A.dropped 3) → 576 ≤ besideRoom → 2048 < length f → Receiving own clock f room besideRoom (R.Answered r)
+        received-long is c d = answered-so 3 r is (λ S. frame-long S clock room besideRoom f a b c d)
+
+  pub received-read : (r : Received) → Receives own f r → length clock ≡ 6 → 2048 ≤ room → 576 ≤ besideRoom → length f ≤ 2048 → Receiving own clock f room besideRoom r
+  received-read r d a b c short = record { same = λ S o. frame-handled S clock room besideRoom f a b c short ∙ d .same S clock o; got = d .got; lent = lends r }
+    where
+      lends : (r : Received) → Lent clock room besideRoom r
+      lends (R.Answered x) = Prim.tt
+      lends (R.Trill h) = (a, b, c)
+
+pub ruleset receive-laws = (needs, received-clock, received-room, received-beside, received-long, received-read)
+
+-- the destination, and whether the ingress is asked for too
+module _ (nickname : ℕ) (h : Header) (egress : Bool) (e : egress ≡ weAreEgress nickname h) where
+  pub wanted-back : egress ≡ true → h .ingress ≡ wantedBy nickname h
+  wanted-back t = rw (← e, t)
+
+  pub wanted-on : egress ≡ false → h .egress ≡ wantedBy nickname h
+  wanted-on t = rw (← e, t)
+
+module _ (task : Task) where
+  module _ (alert : Alert) (e : task ≡ Forward alert) where
+    pub alerts-no : alert ≡ NoAlert → false ≡ alertsBy task
+    alerts-no q = rw (e, q)
+
+    pub alerts-fault : (code : ℕ) → alert ≡ AlertFault code → true ≡ alertsBy task
+    alerts-fault code q = rw (e, q)
+
+    pub alerts-err : alert ≡ AlertErr → false ≡ alertsBy task
+    alerts-err q = rw (e, q)
+
+    pub alerts-request : alert ≡ AlertRequest → true ≡ alertsBy task
+    alerts-request q = rw (e, q)
+
+  pub alerts-answered : (a : Answer) → task ≡ Answered a → false ≡ alertsBy task
+  alerts-answered a e = rw e
+
+  pub alerts-error : (code : ℕ) → task ≡ Error code → false ≡ alertsBy task
+  alerts-error code e = rw e
+
+  pub alerts-echo : task ≡ Echo → false ≡ alertsBy task
+  alerts-echo e = rw e
+
+pub ruleset alerts-laws = (needs, alerts-no, alerts-fault, alerts-err, alerts-request, alerts-answered, alerts-error, alerts-echo)
+
+pub ruleset wanted-laws = (needs, wanted-back, wanted-on)
+
+-- an answer that writes nothing, from its numbers and back
+pub kept : (a : Answer) → a .written ≡ 0 → a .beside ≡ 0 → a ≡ answerOf (answerBy a)
+kept a z y =
+    ap (λ (w : ℕ). record { number = a .number; written = w; start = a .start; length = a .length; neighbour = a .neighbour; beside = a .beside; «beside_neighbour» = a .«beside_neighbour» }) z
+    ∙ ap (λ (w : ℕ). record { number = a .number; written = 0; start = a .start; length = a .length; neighbour = a .neighbour; beside = w; «beside_neighbour» = a .«beside_neighbour» }) y
+
+-- 21, and the alert
+both-of : {a : A.Handled} {r : Answer} {out out1 : List ℕ} (beside : List ℕ) → Done a r out out1 → Both a r out out1 beside beside
+both-of beside d = record { answer = d .answer; after = d .after; after-beside = rw (d .alone) (sym (put-none beside 0)) }
+
+both-dropped : {a : A.Handled} {r : Answer} (out beside : List ℕ) (n : ℕ) → a ≡ A.dropped n → r ≡ answerOf (A.dropped n) → Both a r out out beside beside
+both-dropped out beside n e is = rw e (record { answer = is; after = sym (put-none out 0); after-beside = sym (put-none beside 0) })
+
+module _ (T B : Ways) (clock f : List ℕ) (h : Header) (alert : Alert) (out beside : List ℕ) (R : Ruling) (asks : R ≡ T .hop (h .egress)) where
+  pub transit-lost : (a : Answer) → a ≡ answerOf (A.dropped 21) → R ≡ Absent → Both (transitBy T B clock f h alert) a out out beside beside
+  unfolding Tasks.transitBy
+  transit-lost a is e = both-dropped out beside 21 (rw (Tasks.transitBy, sym asks ∙ e)) is
+
+  module _ (r : NextHop) (found : R ≡ Found r) where
+    over : (x : Alert) → alert ≡ x → transitBy T B clock f h alert ≡ alertedBy T B r clock f h x
+    unfolding Tasks.transitBy
+    over x e = rw (Tasks.transitBy, sym asks ∙ found, e)
+
+    module _ (a : Answer) (out1 : List ℕ) where
+      pub transit-sent : alert ≡ NoAlert → Done (onward T r f h [] 0) a out out1 → Both (transitBy T B clock f h alert) a out out1 beside beside
+      transit-sent e d = rw (over NoAlert e) (both-of beside d)
+
+      pub transit-fault : (code : ℕ) → alert ≡ AlertFault code → Done (faulted B f h code) a out out1 → Both (transitBy T B clock f h alert) a out out1 beside beside
+      transit-fault code e d = rw (over (AlertFault code) e) (both-of beside d)
+
+      pub transit-err : alert ≡ AlertErr → a ≡ answerOf (A.dropped 26) → Both (transitBy T B clock f h alert) a out out beside beside
+      transit-err e is = both-dropped out beside 26 (over AlertErr e) is
+
+      pub transit-request : (beside1 : List ℕ) → alert ≡ AlertRequest → Both (besideOf T B r clock f h) a out out1 beside beside1 → Both (transitBy T B clock f h alert) a out out1 beside beside1
+      transit-request beside1 e d = rw (over AlertRequest e) d
+
+module _ {rfc7179 : Bool} {f : List ℕ} {h : Header} {alert : Alert} (x : Forwardable rfc7179 f h alert) where
+  pub forward-ready : Ready f h
+  forward-ready = x .is-ready
+
+  pub forward-well : rfc7179 ≡ false → draftRead (areaOf f h) ≡ WellFormed
+  forward-well = x .well
+
+  pub forward-request : alert ≡ AlertRequest → Forwardable rfc7179 f h AlertRequest
+  forward-request e = rw e at x
+
+pub reply-room : (out : List ℕ) → 2048 ≤ length out → 576 ≤ length out
+reply-room out h = omega arith
+
+pub ruleset transit-laws = (needs, transit-lost, transit-sent, transit-fault, transit-err, transit-request, forward-ready, forward-well, forward-request, reply-room)
+
+-- an echo reply beside a frame that is forwarded
+module _ (T B : Ways) (r : NextHop) (clock f : List ℕ) (h : Header) (out out1 beside : List ℕ) (a : Answer) (d : Done (onward T r f h [] 0) a out out1) where
+  sends : (n : ℕ) → a .number ≡ n → (x : List ℕ) (v : ℕ) → (n ≡ 50 → onward T r f h x v ≡ record { number = 50; octets = onward T r f h [] 0 .octets; start = 0; size = 0; via = onward T r f h [] 0 .via; beside = x; besideVia = v })
+      × ((n ≡ 50 → ⊥) → onward T r f h x v ≡ onward T r f h [] 0)
+  unfolding Rules.onward
+  sends n e x v =
+      by-test (ltb 2048 (length (Rules.forwarded T r f h)))
+      (λ t. rw t ((λ z. absurd (apart (rw t at (sym e ∙ ap (λ (y : Answer). y .number) (d .answer))) z)), λ _. refl))
+      (λ t. rw t ((λ _. refl), λ z. absurd (z (rw t at (sym e ∙ ap (λ (y : Answer). y .number) (d .answer))))))
+    where
+      apart : n ≡ 29 → n ≡ 50 → ⊥
+      apart p q = omega arith
+
+  pub beside-not : (a .number ≡ 50 → ⊥) → Both (besideOf T B r clock f h) a out out1 beside beside
+  beside-not z = rw (sends (a .number) refl (echoed B clock f h .octets) (echoed B clock f h .via) .1 z) (both-of beside d)
+
+  pub beside-so : a .number ≡ 50 → (reply : Answer) (beside1 : List ℕ) → Done (echoed B clock f h) reply beside beside1 → (r2 : Answer) → r2 ≡ besideBy a reply
+      → Both (besideOf T B r clock f h) r2 out out1 beside beside1
+  beside-so e reply beside1 k r2 is =
+      let w = sends (a .number) refl (echoed B clock f h .octets) (echoed B clock f h .via) .0 e in
+      rw w
+      (record {
+        answer = is ∙ both;
+        after = d .after;
+        after-beside = k .after;
+      })
+    where
+      both : besideBy a reply ≡ answerOf (record { number = 50; octets = onward T r f h [] 0 .octets; start = 0; size = 0; via = onward T r f h [] 0 .via; beside = echoed B clock f h .octets; besideVia = echoed B clock f h .via })
+      both =
+          let w = sends (a .number) refl [] 0 .0 e in
+          rw (d .answer, k .answer) (ap (λ (y : A.Handled). besideBy (answerOf y) (answerOf (echoed B clock f h))) w)
+
+module _ {rfc7179 : Bool} {f : List ℕ} {h : Header} (x : Forwardable rfc7179 f h AlertRequest) where
+  pub request-18 : 18 ≤ length (bodyOf (innerOf f h))
+  request-18 = x .answerable .0
+
+  pub request-530 : length (bodyOf (innerOf f h)) ≤ 530
+  request-530 = x .answerable .1
+
+pub ruleset send-and-answer-laws = (needs, beside-not, beside-so, forward-ready, forward-well, request-18, request-530)
+
+-- a task, once the next hops are told
+module _ (t b : Told) (clock f : List ℕ) (h : Header) (task : Task) (out beside : List ℕ) where
+  pub carry-answer : (a : Answer) → task ≡ Answered a → Left (t .rfc7179) f h task → Both (doneBy (waysBy t) (waysBy b) clock f h task) a out out beside beside
+  carry-answer a e left = rw e (record { answer = kept a (rw e at left .0) (rw e at left .1); after = sym (put-none out 0); after-beside = sym (put-none beside 0) })
+
+  module _ (r : Answer) (out2 : List ℕ) where
+    pub carry-forward : (alert : Alert) (beside2 : List ℕ) → task ≡ Forward alert → Both (transitBy (waysBy t) (waysBy b) clock f h alert) r out out2 beside beside2
+        → Both (doneBy (waysBy t) (waysBy b) clock f h task) r out out2 beside beside2
+    carry-forward alert beside2 e d = rw e d
+
+    pub carry-error : (code : ℕ) → task ≡ Error code → Done (faulted (waysBy t) f h code) r out out2 → Both (doneBy (waysBy t) (waysBy b) clock f h task) r out out2 beside beside
+    carry-error code e d = rw e (both-of beside d)
+
+    pub carry-echo : task ≡ Echo → Done (echoed (waysBy t) clock f h) r out out2 → Both (doneBy (waysBy t) (waysBy b) clock f h task) r out out2 beside beside
+    carry-echo e d = rw e (both-of beside d)
+
+module _ (rfc7179 : Bool) (f : List ℕ) (h : Header) (task : Task) (left : Left rfc7179 f h task) where
+  pub left-forward : (alert : Alert) → task ≡ Forward alert → Forwardable rfc7179 f h alert
+  left-forward alert e = rw e at left
+
+  pub left-error : (code : ℕ) → task ≡ Error code → Ready f h
+  left-error code e = rw e at left
+
+  pub left-echo : task ≡ Echo → Ready f h
+  left-echo e = rw e at left .1
+
+  pub left-18 : task ≡ Echo → 18 ≤ length (bodyOf (innerOf f h))
+  left-18 e = rw e at left .0 .0
+
+  pub left-530 : task ≡ Echo → length (bodyOf (innerOf f h)) ≤ 530
+  left-530 e = rw e at left .0 .1
+
+pub ruleset carry-laws = (needs, carry-answer, carry-forward, carry-error, carry-echo, left-forward, left-error, left-echo, left-18, left-530, reply-room)
+
+-- the destinations that a task asks for are all that it asks
+asks-two : (S : Ways) (clock f : List ℕ) (h : Header) (d : ℕ) (task : Task) (B : Ways) → Role (S .nickname) h task → d ≡ wantedBy (S .nickname) h → (alertsBy task ≡ true → B ≡ onlyFor (h .ingress) S)
+    → doneBy S S clock f h task ≡ doneBy (onlyFor d S) B clock f h task
+unfolding Tasks.transitBy Rules.onward Rules.faulted Rules.echoed Rattle.rules.specs.Channel.returnPath Rules.forwarded Rules.forwardedRest E.areaSent Rattle.rules.specs.Link.link Rattle.rules.specs.Channel.errorReply Rattle.rules.specs.Channel.echoReply Rattle.rules.specs.Channel.replyRest Rattle.rules.specs.Channel.replyInner
+asks-two S clock f h d (Answered a) B role e back = refl
+asks-two S clock f h d (Forward NoAlert) B role e back = rw (e, role)
+asks-two S clock f h d (Forward (AlertFault code)) B role e back = rw (back refl, e, role)
+asks-two S clock f h d (Forward AlertErr) B role e back = rw (e, role)
+asks-two S clock f h d (Forward AlertRequest) B role e back = rw (back refl, e, role)
+asks-two S clock f h d (Error code) B role e back = rw (e, role)
+asks-two S clock f h d Echo B role e back = rw (e, role)
+
+pub tells : (S : Ways) (d : ℕ) (own : Own) (strip rfc7179 : Bool) (hop : Ruling) → own ≡ ownOf S → strip ≡ S .strip → rfc7179 ≡ S .rfc7179 → hop ≡ S .hop d
+    → waysBy (record { own = own; strip = strip; rfc7179 = rfc7179; hop = hop }) ≡ onlyFor d S
+tells S d own strip rfc7179 hop o s t p =
+    ap (λ (x : Own). record { nickname = x .nickname; mac = x .mac; strip = strip; rfc7179 = rfc7179; hop = λ e. hop }) o
+    ∙ ap (λ (x : Bool). record { nickname = S .nickname; mac = S .mac; strip = x; rfc7179 = rfc7179; hop = λ e. hop }) s
+    ∙ ap (λ (x : Bool). record { nickname = S .nickname; mac = S .mac; strip = S .strip; rfc7179 = x; hop = λ e. hop }) t
+    ∙ ap (λ (x : Ruling). record { nickname = S .nickname; mac = S .mac; strip = S .strip; rfc7179 = S .rfc7179; hop = λ e. x }) p
+
+pub ruleset told-laws = (needs, tells)
+
+-- a frame that was received, its task carried out
+module _ (S : Ways) (clock f : List ℕ) (h : Header) (nickname : ℕ) (rfc7179 : Bool) (task : Task) (x : Routes nickname rfc7179 f h task) (t b : Told) (d : ℕ) (r : Answer)
+    (out out2 beside beside2 : List ℕ) (done : Both (doneBy (waysBy t) (waysBy b) clock f h task) r out out2 beside beside2) where
+  pub routed-done : waysBy t ≡ onlyFor d S → d ≡ wantedBy nickname h → nickname ≡ S .nickname → rfc7179 ≡ S .rfc7179 → (alertsBy task ≡ true → waysBy b ≡ onlyFor (h .ingress) S)
+      → Both (routed S clock f h) r out out2 beside beside2
+  routed-done is wants named two back =
+      let same : routed S clock f h ≡ doneBy (waysBy t) (waysBy b) clock f h task =
+      x .same S clock named two ∙ asks-two S clock f h d task (waysBy b) (rw named at (x .role)) (rw named at wants) back ∙ rw (← is) in
+      rw same done

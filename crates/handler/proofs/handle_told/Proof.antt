@@ -1,0 +1,15 @@
+-- `handle_told` meets its contract, by one law for each way out. Assumes nothing.
+use Rattle.handler.proofs.ScanLaws.{handle-told-laws as laws}
+use Rattle.handler.proofs.handle_told.Statement.{statement}
+use Rattle.handler.proofs.handle_told.Tie as tie
+
+pub handle-told-spec : {M : Type 1} → statement M
+handle-told-spec =
+    tie.close
+    (tie.spec
+    (λ c. search laws)
+    (λ c. search laws)
+    (λ c. search laws)
+    (λ c. search laws)
+    (λ c. search laws)
+    (λ c. search laws))

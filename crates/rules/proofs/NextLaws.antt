@@ -1,0 +1,88 @@
+-- What is handled next, by the answer and by the replies that wait: one law for each outcome, by the tests. Assumes nothing.
+use mathlib.Core.Path.{_≡_, refl, ap, _∙_}
+use mathlib.Core.List.{List, [], _∷_}
+use mathlib.Core.Bool.{true, false}
+use Prim.Native.Nat.{ℕ}
+use borrow.Author.Tests.{eq-eqb, ne-eqb}
+use lib.Dec.{eqb}
+use lib.ListN.{length}
+use Rattle.rules.specs.Settings.{Settings}
+use Rattle.rules.specs.Answer.{Handled}
+use Rattle.rules.specs.Campus.{Kind, reply, Waiting, writesReply, repliesMade, inCampus, staying, waitingAfter, over, next, sentOn}
+use Rattle.rules.specs.Campus.{firstWaiting, nextAfter}
+use Rattle.rules.proofs.TestLaws.{and-no}
+
+-- the replies that a handling makes
+module _ (a : Handled) where
+  pub made-reply : writesReply (a .number) ≡ true → repliesMade a ≡ record { towards = a .via; frame = a .octets } ∷ []
+  unfolding repliesMade
+  made-reply e = rw e
+
+  module _ (e : writesReply (a .number) ≡ false) where
+    pub made-beside : (length (a .beside) ≡ 0 → ⊥) → repliesMade a ≡ record { towards = a .besideVia; frame = a .beside } ∷ []
+    unfolding repliesMade
+    made-beside n = rw (e, ne-eqb (length (a .beside)) 0 n)
+
+    pub made-nothing : length (a .beside) ≡ 0 → repliesMade a ≡ []
+    unfolding repliesMade
+    made-nothing n = rw (e, eq-eqb (length (a .beside)) 0 n)
+
+module _ (switches : List Settings) where
+  -- those of them that stay in the campus
+  pub stays-none : staying switches [] ≡ []
+  unfolding staying
+  stays-none = refl
+
+  module _ (w : Waiting) where
+    pub stays-in : inCampus switches (w .towards) ≡ true → staying switches (w ∷ []) ≡ w ∷ []
+    unfolding staying
+    stays-in e = rw e
+
+    pub stays-left : inCampus switches (w .towards) ≡ false → staying switches (w ∷ []) ≡ []
+    unfolding staying
+    stays-left e = rw e
+
+  module _ (a : Handled) where
+    -- whether what is forwarded goes on
+    pub sent-on : a .number ≡ 50 → inCampus switches (a .via) ≡ true → sentOn switches a ≡ true
+    unfolding sentOn
+    sent-on e t = rw (eq-eqb (a .number) 50 e, t)
+
+    pub sent-left : inCampus switches (a .via) ≡ false → sentOn switches a ≡ false
+    unfolding sentOn
+    sent-left t = rw t (and-no (eqb (a .number) 50))
+
+    pub sent-none : (a .number ≡ 50 → ⊥) → sentOn switches a ≡ false
+    unfolding sentOn
+    sent-none n = rw (ne-eqb (a .number) 50 n)
+
+    -- the frame that was forwarded, else the reply that has waited longest, else nothing
+    module _ (kind : Kind) (q : List Waiting) where
+      pub next-on : sentOn switches a ≡ true → nextAfter switches kind q a ≡ next (a .via) kind (a .octets) (waitingAfter switches q a)
+      unfolding nextAfter
+      next-on e = rw e
+
+      pub next-waiting : sentOn switches a ≡ false → nextAfter switches kind q a ≡ firstWaiting (waitingAfter switches q a)
+      unfolding nextAfter
+      next-waiting e = rw e
+
+      module _ (e : sentOn switches a ≡ false) where
+        pub next-first : (w : Waiting) (r : List Waiting) → waitingAfter switches q a ≡ w ∷ r
+            → nextAfter switches kind q a ≡ next (w .towards) reply (w .frame) r
+        unfolding firstWaiting
+        next-first w r z = next-waiting e ∙ ap firstWaiting z
+
+        pub next-over : waitingAfter switches q a ≡ [] → nextAfter switches kind q a ≡ over
+        unfolding firstWaiting
+        next-over z = next-waiting e ∙ ap firstWaiting z
+
+-- it depends on the campus only by which switches there are
+module _ (l m : List Settings) (same : (n : ℕ) → inCampus l n ≡ inCampus m n) where
+  stays-alike : (q : List Waiting) → staying l q ≡ staying m q
+  unfolding staying
+  stays-alike [] = refl
+  stays-alike (w ∷ q) = rw (same (w .towards), stays-alike q)
+
+  pub next-alike : (kind : Kind) (q : List Waiting) (a : Handled) → nextAfter l kind q a ≡ nextAfter m kind q a
+  unfolding nextAfter sentOn
+  next-alike kind q a = rw (same (a .via), stays-alike (repliesMade a))
