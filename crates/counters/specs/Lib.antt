@@ -1,0 +1,3 @@
+-- T-07 as executable definitions.
+pub mod Counting
+pub mod History
