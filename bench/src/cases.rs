@@ -2,16 +2,20 @@
 
 use std::hint::black_box;
 
-use product::TRILL_PREPARED_WORDS;
-use reference::{Answer, Prepared};
+use product::{LentCounters, TRILL_FRAME_MOST, TRILL_PREPARED_WORDS, TRILL_READER_WORDS};
+use reference::{Answer, Counters, Prepared, Reader};
 
-use crate::octets::{self, Campus, Layout, CLOCK, STRIPPED};
+use crate::octets::{self, Campus, Layout, Own, CLOCK, STRIPPED};
 
 /// Least output buffer of a handling.
 const ROOM: usize = 2048;
-/// Least trace buffer of a run.
-const TRACE: usize = 640;
+/// Least second output buffer.
+const BESIDE: usize = 576;
+/// Trace buffer that suffices for every run.
+const TRACE: usize = 32_768;
 const RECORDS: [usize; 3] = [1, 8, 64];
+/// In how many bursts a frame of 1,500 octets is read.
+const BURSTS: [usize; 3] = [1, 4, 24];
 
 /// Who does it.
 #[derive(Clone, Copy)]
@@ -43,6 +47,17 @@ enum Call {
         prepared: Box<Prepared>,
         expected: Expected,
     },
+    /// The same, counted.
+    Counted {
+        settings: Vec<u8>,
+        expected: Expected,
+    },
+    /// The same by a reader: its start, so many bursts, and the mark.
+    Bursts {
+        settings: Vec<u8>,
+        expected: Expected,
+        bursts: usize,
+    },
     Run {
         description: Vec<u8>,
         count: u32,
@@ -50,9 +65,9 @@ enum Call {
 }
 
 /// So that no case times another answer than its name says.
-#[derive(Clone, Copy)]
+#[derive(Clone, Copy, Debug, PartialEq)]
 struct Expected {
-    number: u32,
+    number: u16,
     written: usize,
 }
 
@@ -66,7 +81,7 @@ struct Kind {
 
 const ALL_SIZES: &[usize] = &[64, 200, 600, 1500, 2048];
 
-const KINDS: [Kind; 6] = [
+const KINDS: [Kind; 7] = [
     Kind {
         name: "forward",
         sizes: ALL_SIZES,
@@ -99,6 +114,13 @@ const KINDS: [Kind; 6] = [
         frame: octets::faulty,
         expected: |size| Expected::new(53, 42 + (size - 12).min(128)),
     },
+    // An echo request in transit with an alert: forwarded and answered.
+    Kind {
+        name: "beside",
+        sizes: &[64, 200, 576],
+        frame: octets::alerted,
+        expected: |size| Expected::new(50, size),
+    },
     Kind {
         name: "drop",
         sizes: ALL_SIZES,
@@ -108,12 +130,20 @@ const KINDS: [Kind; 6] = [
 ];
 
 impl Expected {
-    fn new(number: u32, written: usize) -> Self {
+    fn new(number: u16, written: usize) -> Self {
         Expected { number, written }
     }
 }
 
 impl Kind {
+    fn own(&self) -> Own {
+        match self.name {
+            "strip" => Own::Stripping,
+            "beside" => Own::Edition2,
+            _ => Own::Plain,
+        }
+    }
+
     fn case(&self, size: usize, records: usize, layout: Layout) -> Case {
         // A tag makes what is written longer.
         let (suffix, tag) = match layout {
@@ -128,14 +158,14 @@ impl Kind {
             records,
             frame: (self.frame)(size),
             call: Call::Handling {
-                settings: octets::settings(records, layout, self.name == "strip"),
+                settings: octets::settings(records, layout, self.own()),
                 expected: Expected::new(number, written + tag),
             },
         }
     }
 
     fn prepared(&self, size: usize, records: usize) -> Case {
-        let settings = octets::settings(records, Layout::Scattered, self.name == "strip");
+        let settings = octets::settings(records, Layout::Scattered, self.own());
         let mut store = Box::new([0; TRILL_PREPARED_WORDS]);
         assert_eq!(product::prepare(&settings, &mut store[..]), 0);
         let Ok(prepared) = Prepared::new(&settings) else {
@@ -155,7 +185,7 @@ impl Kind {
 }
 
 /// Each kind, size and number of records; some of them prepared; three other
-/// layouts of 64 records; the runs.
+/// layouts of 64 records; a frame counted, and in bursts; the runs.
 pub fn all() -> Vec<Case> {
     let mut cases = Vec::new();
     for kind in &KINDS {
@@ -169,13 +199,41 @@ pub fn all() -> Vec<Case> {
     for layout in [Layout::Rising, Layout::Crowded, Layout::Tagged] {
         cases.push(KINDS[0].case(1500, 64, layout));
     }
+    cases.push(counted(&KINDS[0], 1500, 8));
+    cases.extend(BURSTS.map(|bursts| in_bursts(&KINDS[0], 1500, 8, bursts)));
     cases.extend([
         run("c1", Campus::c1(), 4),
         run("c11", Campus::c11(), 65),
         run("run80-60", Campus::longest(60), 80),
         run("run80-572", Campus::longest(572), 80),
+        run("run4096", Campus::waiting(), 4096),
     ]);
     cases
+}
+
+fn counted(kind: &Kind, size: usize, records: usize) -> Case {
+    Case {
+        name: format!("counted-{size}-{records}"),
+        records,
+        frame: (kind.frame)(size),
+        call: Call::Counted {
+            settings: octets::settings(records, Layout::Scattered, Own::Plain),
+            expected: (kind.expected)(size),
+        },
+    }
+}
+
+fn in_bursts(kind: &Kind, size: usize, records: usize, bursts: usize) -> Case {
+    Case {
+        name: format!("bursts-{size}-{records}-{bursts}"),
+        records,
+        frame: (kind.frame)(size),
+        call: Call::Bursts {
+            settings: octets::settings(records, Layout::Scattered, Own::Plain),
+            expected: (kind.expected)(size),
+            bursts,
+        },
+    }
 }
 
 fn run(name: &str, campus: Campus, count: u32) -> Case {
@@ -193,37 +251,60 @@ fn run(name: &str, campus: Campus, count: u32) -> Case {
 impl Case {
     /// Both programs must answer and write the same, and what is expected.
     pub fn check(&self) {
-        let (mut proved, mut second) = ([0x5A; ROOM], [0x5A; ROOM]);
         match &self.call {
             Call::Handling { settings, expected } => {
-                let answer = product::handle(&self.frame, settings, &CLOCK, &mut proved);
-                let other = reference::handle(&self.frame, settings, &CLOCK, &mut second);
-                self.check_answers(answer, other, *expected);
+                let (mut proved, mut second) = (Lent::new(), Lent::new());
+                let answer = proved.by(product::handle, &self.frame, settings);
+                let other = second.by(reference::handle, &self.frame, settings);
+                self.agree((answer, &proved), (other, &second), expected);
+            }
+            Call::Counted { settings, expected } => {
+                let mut proved = Counting::<LentCounters>::new();
+                let mut second = Counting::<Counters>::new();
+                let answer = proved.by(product::handle_counted_lent, &self.frame, settings);
+                let other = second.by(reference::handle_counted, &self.frame, settings);
+                self.agree((answer, &proved.lent), (other, &second.lent), expected);
+                let counted = (proved.counters.total, second.counters.total);
+                assert_eq!(counted, (1, 1), "{}", self.name);
+            }
+            Call::Bursts {
+                settings,
+                expected,
+                bursts,
+            } => {
+                let (mut proved, mut second) = (Reading::new(), Lent::new());
+                let answer = proved.read(&self.frame, settings, *bursts);
+                let other = second.read(&self.frame, settings, *bursts);
+                self.agree((answer, &proved.lent), (other, &second), expected);
             }
             Call::Prepared {
                 store,
                 prepared,
                 expected,
             } => {
-                let answer = product::handle_prepared(&self.frame, &store[..], &CLOCK, &mut proved);
-                let other = reference::handle_prepared(&self.frame, prepared, &CLOCK, &mut second);
-                self.check_answers(answer, other, *expected);
+                let (mut proved, mut second) = (Lent::new(), Lent::new());
+                let answer = proved.by_store(&self.frame, &store[..]);
+                let other = second.by_prepared(&self.frame, prepared);
+                self.agree((answer, &proved), (other, &second), expected);
             }
             Call::Run { description, count } => {
-                let outcome = product::run(description, &mut proved[..TRACE]);
-                let other = reference::run(description, &mut second[..TRACE]);
+                let (mut proved, mut second) = ([0x5A; TRACE], [0x5A; TRACE]);
+                let outcome = product::run(description, &mut proved);
+                let other = reference::run(description, &mut second);
                 assert_eq!(outcome, other, "{}", self.name);
                 assert_eq!((outcome.code, outcome.count), (0, *count), "{}", self.name);
+                assert!(proved == second, "{}: octets differ", self.name);
             }
         }
-        assert!(proved == second, "{}: octets differ", self.name);
     }
 
-    fn check_answers(&self, answer: Answer, other: Answer, expected: Expected) {
-        assert_eq!(answer, other, "{}", self.name);
-        let given = (answer.number, answer.written as usize);
-        let expected = (expected.number, expected.written);
-        assert_eq!(given, expected, "{}", self.name);
+    /// Both answers and what was written are the same, and what is expected.
+    fn agree(&self, proved: (Answer, &Lent), second: (Answer, &Lent), expected: &Expected) {
+        let answer = proved.0;
+        assert_eq!(answer, second.0, "{}", self.name);
+        let given = Expected::new(answer.number, answer.written.into());
+        assert_eq!(given, *expected, "{}", self.name);
+        assert!(proved.1 == second.1, "{}: octets differ", self.name);
     }
 
     /// Makes the call so many times. Neither inputs nor outputs are known to
@@ -232,45 +313,75 @@ impl Case {
         match (&self.call, program) {
             (Call::Handling { settings, .. }, Program::Proved) => {
                 let input = (&self.frame[..], &settings[..]);
-                repeat(times, &input, |(frame, settings), room: &mut [u8; ROOM]| {
-                    product::handle(frame, settings, &CLOCK, room)
+                repeat(times, &input, Lent::new(), |(frame, settings), lent| {
+                    lent.by(product::handle, frame, settings)
                 });
             }
             (Call::Handling { settings, .. }, Program::Second) => {
                 let input = (&self.frame[..], &settings[..]);
-                repeat(times, &input, |(frame, settings), room: &mut [u8; ROOM]| {
-                    reference::handle(frame, settings, &CLOCK, room)
+                repeat(times, &input, Lent::new(), |(frame, settings), lent| {
+                    lent.by(reference::handle, frame, settings)
+                });
+            }
+            (Call::Counted { settings, .. }, Program::Proved) => {
+                let input = (&self.frame[..], &settings[..]);
+                repeat(times, &input, Counting::new(), |(frame, settings), lent| {
+                    lent.by(product::handle_counted_lent, frame, settings)
+                });
+            }
+            (Call::Counted { settings, .. }, Program::Second) => {
+                let input = (&self.frame[..], &settings[..]);
+                repeat(times, &input, Counting::new(), |(frame, settings), lent| {
+                    lent.by(reference::handle_counted, frame, settings)
+                });
+            }
+            (
+                Call::Bursts {
+                    settings, bursts, ..
+                },
+                Program::Proved,
+            ) => {
+                let input = (&self.frame[..], &settings[..]);
+                repeat(times, &input, Reading::new(), |(frame, settings), lent| {
+                    lent.read(frame, settings, *bursts)
+                });
+            }
+            (
+                Call::Bursts {
+                    settings, bursts, ..
+                },
+                Program::Second,
+            ) => {
+                let input = (&self.frame[..], &settings[..]);
+                repeat(times, &input, Lent::new(), |(frame, settings), lent| {
+                    lent.read(frame, settings, *bursts)
                 });
             }
             (Call::Prepared { store, .. }, Program::Proved) => {
                 let input = (&self.frame[..], &store[..]);
-                repeat(times, &input, |(frame, store), room: &mut [u8; ROOM]| {
-                    product::handle_prepared(frame, store, &CLOCK, room)
+                repeat(times, &input, Lent::new(), |(frame, store), lent| {
+                    lent.by_store(frame, store)
                 });
             }
             (Call::Prepared { prepared, .. }, Program::Second) => {
                 let input = (&self.frame[..], &**prepared);
-                repeat(times, &input, |(frame, prepared), room: &mut [u8; ROOM]| {
-                    reference::handle_prepared(frame, prepared, &CLOCK, room)
+                repeat(times, &input, Lent::new(), |(frame, prepared), lent| {
+                    lent.by_prepared(frame, prepared)
                 });
             }
             (Call::Run { description, .. }, Program::Proved) => {
-                repeat(
-                    times,
-                    description,
-                    |description, trace: &mut [u8; TRACE]| product::run(description, trace),
-                );
+                repeat(times, description, [0; TRACE], |description, trace| {
+                    product::run(description, trace)
+                });
             }
             (Call::Run { description, .. }, Program::Second) => {
-                repeat(
-                    times,
-                    description,
-                    |description, trace: &mut [u8; TRACE]| reference::run(description, trace),
-                );
+                repeat(times, description, [0; TRACE], |description, trace| {
+                    reference::run(description, trace)
+                });
             }
             (call, Program::Copy) => {
                 let times = times * call.handlings();
-                repeat(times, &self.frame, |frame, room: &mut [u8; ROOM]| {
+                repeat(times, &self.frame, [0; ROOM], |frame, room| {
                     room[..frame.len()].copy_from_slice(frame);
                 });
             }
@@ -278,10 +389,117 @@ impl Case {
     }
 }
 
+/// Both outputs of a handling.
+#[derive(PartialEq)]
+struct Lent {
+    out: [u8; ROOM],
+    beside: [u8; BESIDE],
+}
+
+impl Lent {
+    fn new() -> Self {
+        Lent {
+            out: [0x5A; ROOM],
+            beside: [0x5A; BESIDE],
+        }
+    }
+
+    /// One handling by a program.
+    #[inline(always)]
+    fn by(
+        &mut self,
+        handle: impl Fn(&[u8], &[u8], &[u8], &mut [u8], &mut [u8]) -> Answer,
+        frame: &[u8],
+        settings: &[u8],
+    ) -> Answer {
+        handle(frame, settings, &CLOCK, &mut self.out, &mut self.beside)
+    }
+
+    /// One handling by the product with a store.
+    #[inline(always)]
+    fn by_store(&mut self, frame: &[u8], store: &[u64]) -> Answer {
+        product::handle_prepared(frame, store, &CLOCK, &mut self.out, &mut self.beside)
+    }
+
+    /// One handling by the second program with settings read before.
+    #[inline(always)]
+    fn by_prepared(&mut self, frame: &[u8], prepared: &Prepared) -> Answer {
+        reference::handle_prepared(frame, prepared, &CLOCK, &mut self.out, &mut self.beside)
+    }
+
+    /// One frame in bursts by the second program.
+    #[inline(always)]
+    fn read(&mut self, frame: &[u8], settings: &[u8], bursts: usize) -> Answer {
+        let (mut reader, _) = Reader::start(settings, &CLOCK, ROOM, BESIDE);
+        for burst in frame.chunks(frame.len().div_ceil(bursts)) {
+            reader.burst(burst);
+        }
+        reader.mark(&mut self.out, &mut self.beside)
+    }
+}
+
+/// Counters of a program and both outputs.
+struct Counting<C> {
+    counters: C,
+    lent: Lent,
+}
+
+impl<C: Default> Counting<C> {
+    fn new() -> Self {
+        Counting {
+            counters: C::default(),
+            lent: Lent::new(),
+        }
+    }
+
+    /// One counted handling by a program.
+    #[inline(always)]
+    fn by(
+        &mut self,
+        handle: impl Fn(&mut C, &[u8], &[u8], &[u8], &mut [u8], &mut [u8]) -> Answer,
+        frame: &[u8],
+        settings: &[u8],
+    ) -> Answer {
+        let Lent { out, beside } = &mut self.lent;
+        handle(&mut self.counters, frame, settings, &CLOCK, out, beside)
+    }
+}
+
+/// What a reader of the product is lent.
+struct Reading {
+    reader: [u64; TRILL_READER_WORDS],
+    gathered: [u8; TRILL_FRAME_MOST],
+    lent: Lent,
+}
+
+impl Reading {
+    fn new() -> Self {
+        Reading {
+            reader: [0; TRILL_READER_WORDS],
+            gathered: [0; TRILL_FRAME_MOST],
+            lent: Lent::new(),
+        }
+    }
+
+    /// One frame in bursts by the product.
+    #[inline(always)]
+    fn read(&mut self, frame: &[u8], settings: &[u8], bursts: usize) -> Answer {
+        let Lent { out, beside } = &mut self.lent;
+        product::reader_start(&mut self.reader, settings, &CLOCK, ROOM, BESIDE);
+        for burst in frame.chunks(frame.len().div_ceil(bursts)) {
+            product::reader_burst(&mut self.reader, &mut self.gathered, burst);
+        }
+        product::reader_mark(&mut self.reader, &self.gathered, out, beside)
+    }
+}
+
 impl Call {
     fn handlings(&self) -> u64 {
         match self {
-            Call::Handling { .. } | Call::Prepared { .. } => 1,
+            Call::Handling { .. }
+            | Call::Prepared { .. }
+            | Call::Counted { .. }
+            | Call::Bursts { .. } => 1,
             Call::Run { count, .. } => u64::from(*count),
         }
     }
@@ -289,8 +507,7 @@ impl Call {
 
 /// The references are thin, so that hiding where they lead costs next to
 /// nothing.
-fn repeat<I, const ROOM: usize, T>(times: u64, input: &I, call: impl Fn(&I, &mut [u8; ROOM]) -> T) {
-    let mut room = [0; ROOM];
+fn repeat<I, R, T>(times: u64, input: &I, mut room: R, call: impl Fn(&I, &mut R) -> T) {
     for _ in 0..times {
         black_box(call(black_box(input), black_box(&mut room)));
     }

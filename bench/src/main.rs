@@ -29,8 +29,9 @@ const COPIED: &str = "forward-1500-8";
 const NOTES: &str = "\
 Not there: strip at 64 octets, for an area of 31 words has 124; echo at 1,500 and 2,048 octets, for an echo body has at most 530. The echo
 of 600 octets has an area of 7 words. Destinations and serials of records are in no order; rising: they go up by one; crowded: one
-destination, serials that go up by 256; tagged: each record has an outer VLAN. Prepared: the
-settings are prepared once, outside what is timed. For a run the octets are those of the frame put in, and the copy is one for each handling.";
+destination, serials that go up by 256; tagged: each record has an outer VLAN. Prepared: settings prepared once, outside what is timed.
+Counted and in bursts: the frame of forward; the time of bursts has the start in it, which prepares the settings. For a run the octets are
+those of the frame put in, and the copy is one for each handling.";
 
 fn main() -> ExitCode {
     let words: Vec<String> = env::args().skip(1).collect();

@@ -18,6 +18,9 @@ const FLOW_ID: u16 = 0x083;
 /// odd ones are mutable, so that these options go when an area is stripped.
 const UNKNOWN: u16 = 0x084;
 
+/// An area of edition 2: summary bit and critical channel alert.
+const CRITICAL_ALERT: [u8; 4] = [0x81, 0, 0, 0];
+
 const ALL_EGRESS_RBRIDGES: [u8; 6] = [0x01, 0x80, 0xC2, 0x00, 0x00, 0x42];
 /// An Ethertype that no rule names.
 const OTHER: [u8; 2] = [0x08, 0x00];
@@ -127,6 +130,15 @@ pub fn echo(size: usize) -> Vec<u8> {
     filled(Way::EGRESS.echo(&flow_area(over.div_ceil(4))), size)
 }
 
+/// An echo request in transit with the critical alert.
+pub fn alerted(size: usize) -> Vec<u8> {
+    let way = Way {
+        ingress: FAR,
+        ..Way::TRANSIT
+    };
+    filled(way.echo(&CRITICAL_ALERT), size)
+}
+
 /// An area of this many words with one Flow ID option.
 fn flow_area(words: usize) -> Vec<u8> {
     let mut area = vec![0; 4 * words];
@@ -151,8 +163,18 @@ pub enum Layout {
     Tagged,
 }
 
+/// What the switch is beside its records.
+#[derive(Clone, Copy)]
+pub enum Own {
+    Plain,
+    /// With the strip flag.
+    Stripping,
+    /// Of edition 2.
+    Edition2,
+}
+
 /// Settings with this many records; the last one rules for [`FAR`].
-pub fn settings(records: usize, layout: Layout, strip: bool) -> Vec<u8> {
+pub fn settings(records: usize, layout: Layout, own: Own) -> Vec<u8> {
     let mut fields = switch(OWN);
     for place in 1..=records {
         let (destination, serial) = match layout {
@@ -166,7 +188,11 @@ pub fn settings(records: usize, layout: Layout, strip: bool) -> Vec<u8> {
         };
         fields.extend(record_with(destination, destination, serial, vlan));
     }
-    fields.extend(field(3, &[u8::from(strip)]));
+    fields.extend(match own {
+        Own::Plain => field(3, &[0]),
+        Own::Stripping => field(3, &[1]),
+        Own::Edition2 => field(6, &[2]),
+    });
     fields
 }
 
@@ -257,8 +283,21 @@ impl Campus {
         Campus::new(&fields, way.at, way.echo(&[]))
     }
 
+    /// An echo request with an alert that goes round at one switch of edition 2,
+    /// and so do the 63 replies: the longest run of that edition.
+    pub fn waiting() -> Self {
+        let way = Way {
+            at: 2,
+            hops: 63,
+            egress: 9,
+            ingress: 8,
+        };
+        let fields = [switch(2), field(6, &[2]), record(9, 2, 1), record(8, 2, 1)];
+        Campus::new(&fields, way.at, way.echo(&CRITICAL_ALERT))
+    }
+
     /// An echo request along 16 switches, the last of which names itself for
-    /// the ingress: the longest run there is.
+    /// the ingress: the longest run of edition 1.
     pub fn longest(size: usize) -> Self {
         let last = 16;
         let way = Way {

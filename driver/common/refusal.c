@@ -8,7 +8,7 @@ enum { FIELD_HEADER = 3, SWITCHES_MOST = 16, HOPS_MOST = 64 };
 
 /* ---- The tables: what a value may be, what a field is made of ---- */
 
-enum value { NICKNAME, NEIGHBOUR, MAC, VLAN, FLAG };
+enum value { NICKNAME, NEIGHBOUR, MAC, VLAN, FLAG, EDITION };
 
 static const struct {
     uint64_t least, most;
@@ -19,11 +19,12 @@ static const struct {
     [MAC] = {1, 0xFFFFFFFFFFFF, "individual, not all zero"},
     [VLAN] = {0x0000, 0x0FFE, "0000 to 0FFE"},
     [FLAG] = {0, 1, "00 or 01"},
+    [EDITION] = {1, 2, "01 or 02"},
 };
 
 #define GROUP_BIT (UINT64_C(1) << 40)
 
-enum tag { TAG_SWITCH = 1, TAG_HOP, TAG_FLAG, TAG_CLOCK, TAG_ENTRY, TAGS };
+enum tag { TAG_SWITCH = 1, TAG_HOP, TAG_FLAG, TAG_CLOCK, TAG_ENTRY, TAG_EDITION, TAGS };
 
 static const struct rule {
     const char *name;
@@ -35,6 +36,7 @@ static const struct rule {
     [TAG_FLAG] = {"strip flag", 1, 1, 1, true},
     [TAG_CLOCK] = {"clock", 6, 6, 1, false},
     [TAG_ENTRY] = {"entry", 2, 2 + TRILL_FRAME_MOST, 1, false},
+    [TAG_EDITION] = {"edition", 1, 1, 1, true},
 };
 
 /* Parts of a field's value with a rule of their own; one behind the field's end is not there. */
@@ -47,7 +49,7 @@ static const struct part {
     {TAG_SWITCH, "nickname", 0, 2, NICKNAME}, {TAG_SWITCH, "MAC", 2, 6, MAC},
     {TAG_HOP, "destination", 0, 2, NICKNAME}, {TAG_HOP, "neighbour", 2, 2, NEIGHBOUR},
     {TAG_HOP, "neighbour's MAC", 4, 6, MAC},  {TAG_HOP, "outer VLAN", 14, 2, VLAN},
-    {TAG_FLAG, "strip flag", 0, 1, FLAG},
+    {TAG_FLAG, "strip flag", 0, 1, FLAG},     {TAG_EDITION, "edition", 0, 1, EDITION},
 };
 
 /* Where a record keeps what it is told from others by. */

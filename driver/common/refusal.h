@@ -30,7 +30,10 @@ struct refusal {
     "                                              withdraws the destination\n"                    \
     "  02 0010 DESTINATION .. SERIAL VLAN          a next hop that is reached with an outer tag\n" \
     "  03 0001 FLAG                                01: unknown mutable options are taken\n"        \
-    "                                              out; the last one counts, default 00\n"
+    "                                              out; the last one counts, default 00\n"         \
+    "  06 0001 EDITION                             of the header extension: 01 the options\n"      \
+    "                                              draft, 02 RFC 7179; the last one counts,\n"     \
+    "                                              default 01\n"
 #define VALUES_HELP                                                                              \
     "A nickname has 2 octets, 0001 to FFBF; a MAC 6, individual (first octet even) and not\n"    \
     "all zero; a serial 4; a VLAN 2, 0001 to 0FFE, or 0000 for none. All this holds of a\n"      \

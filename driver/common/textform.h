@@ -10,12 +10,11 @@
 #include "octets.h"
 
 /* For a program's help: the lines of settings, and those of a campus. */
-#define TEXTFORM_SETTINGS_HELP                                                                     \
-    "  switch NICKNAME mac MAC [strip] [edition N]\n"                                              \
-    "  to DESTINATION via NEIGHBOUR mac MAC serial N [vlan N]\n"                                   \
-    "  to DESTINATION withdrawn mac MAC serial N [vlan N]\n"                                       \
-    "  strip | strip off | edition N               of the latest switch, as lines of their own;\n" \
-    "                                              edition is refused today\n"
+#define TEXTFORM_SETTINGS_HELP                                   \
+    "  switch NICKNAME mac MAC [strip] [edition N]\n"            \
+    "  to DESTINATION via NEIGHBOUR mac MAC serial N [vlan N]\n" \
+    "  to DESTINATION withdrawn mac MAC serial N [vlan N]\n"     \
+    "  strip | strip off | edition N               of the latest switch, as lines of their own\n"
 #define TEXTFORM_CAMPUS_HELP                                                                \
     "  clock SECONDS.MICROSECONDS\n"                                                        \
     "  frame at NICKNAME hex OCTETS                which may go on in the lines after it\n" \

@@ -27,6 +27,7 @@ enum {
 struct shown {
     const uint8_t *at;
     size_t length;
+    unsigned edition; /* by which the switch reads the area after the TRILL header */
 };
 
 /* ---- Lines ---- */
@@ -226,7 +227,7 @@ static void show_fate(struct sent *sent, const uint8_t *option, size_t size, siz
     if (answer && answer->number == TRILL_FORWARDED)
         printf(was_kept(sent, option, size) ? ": kept" : ": taken out");
     if (is_option_fault(answer) && answer->start == place)
-        printf(": at fault, %" PRIu32 " %s", answer->number, trill_answer_name(answer->number));
+        printf(": at fault, %u %s", answer->number, trill_answer_name(answer->number));
     putchar('\n');
 }
 
@@ -244,24 +245,76 @@ static size_t show_option(const struct shown *frame, size_t area, size_t place, 
     return option.size <= left ? size : 0;
 }
 
-static void show_area(const struct shown *frame, const struct frame_layout *layout, struct sent sent)
+/* The area of edition 1: a word of bits, and options. */
+static void show_options(const struct shown *frame, const struct frame_layout *layout, struct sent sent)
 {
-    size_t place = layout->area, announced = (size_t)WORD * layout->fields.op_length;
-    if (announced == 0)
-        return;
-    heading("  options area, %zu octets%s%s", announced, layout->inner - place < announced ? ", cut short" : "",
-            sent.answer && sent.answer->number != TRILL_FORWARDED ? ", not forwarded" : "");
-    if (layout->inner - place < WORD) {
-        cut(frame, place, "the first word");
-        return;
-    }
+    size_t place = layout->area, size = WORD;
     uint32_t word = staffripple_get32(frame->at + place);
     line(frame, place, WORD, "first word", ": CHbH %" PRIu32 ", CItE %" PRIu32 ", bit options %08" PRIX32, word >> 31,
          word >> 30 & 1, word & 0x3FFFFFFF);
     was_kept(&sent, frame->at + place, WORD);
-    size_t size = WORD;
     for (place += WORD; size > 0 && layout->inner - place >= WORD; place += size)
         size = show_option(frame, layout->area, place, layout->inner, &sent);
+}
+
+/* Bit 0 is the highest. */
+static bool bit_of(uint32_t word, unsigned bit)
+{
+    return word >> (31 - bit) & 1;
+}
+
+/* The flags of a kind that are set, by their bits. */
+static void print_kind(uint32_t word, unsigned first, unsigned last, const char *kind)
+{
+    const char *before = "; ";
+    for (unsigned bit = first; bit <= last; bit++) {
+        if (!bit_of(word, bit))
+            continue;
+        printf(before[0] == ';' ? "%s%s bit %u" : "%s%s%u", before, before[0] == ';' ? kind : "", bit);
+        before = ", ";
+    }
+}
+
+/* The area of edition 2: the extended flags word, and octets that no switch reads. */
+static void show_flags(const struct shown *frame, const struct frame_layout *layout, struct sent sent)
+{
+    static const struct {
+        unsigned first, last;
+        const char *kind;
+    } kinds[] = {
+        {3, 6, "critical hop-by-hop"},          {9, 13, "non-critical hop-by-hop"},
+        {14, 16, "critical reserved"},          {17, 20, "non-critical reserved"},
+        {21, 26, "critical ingress-to-egress"}, {27, 31, "non-critical ingress-to-egress"},
+    };
+    size_t place = layout->area, rest = layout->inner - place - WORD;
+    uint32_t word = staffripple_get32(frame->at + place);
+    field(frame, place, WORD, "extended flags");
+    printf(": CRHbH %d, CRItE %d, CRRsv %d, CRCAF %d, NCCAF %d", bit_of(word, 0), bit_of(word, 1), bit_of(word, 2),
+           bit_of(word, 7), bit_of(word, 8));
+    for (size_t i = 0; i < sizeof kinds / sizeof *kinds; i++)
+        print_kind(word, kinds[i].first, kinds[i].last, kinds[i].kind);
+    if (sent.answer && sent.answer->number == TRILL_DROP_FLAGS)
+        printf(": at fault, %u %s", sent.answer->number, trill_answer_name(sent.answer->number));
+    putchar('\n');
+    if (rest > 0)
+        line(frame, place + WORD, rest, "extensions", ", %zu octets, which are carried unread", rest);
+}
+
+static void show_area(const struct shown *frame, const struct frame_layout *layout, struct sent sent)
+{
+    size_t place = layout->area, announced = (size_t)WORD * layout->fields.op_length;
+    bool flags = frame->edition == EDITION_FLAGS;
+    if (announced == 0)
+        return;
+    heading("  %s, %zu octets%s%s", flags ? "header extension" : "options area", announced,
+            layout->inner - place < announced ? ", cut short" : "",
+            sent.answer && sent.answer->number != TRILL_FORWARDED ? ", not forwarded" : "");
+    if (layout->inner - place < WORD)
+        cut(frame, place, "the first word");
+    else if (flags)
+        show_flags(frame, layout, sent);
+    else
+        show_options(frame, layout, sent);
 }
 
 /* ---- Frames ---- */
@@ -332,23 +385,28 @@ static struct sent sent_area(const struct handling *handling)
     return (struct sent){handling->out + layout.area, layout.inner - layout.area, &handling->answer};
 }
 
+/* A frame that the switch wrote, if it did. */
+static void show_written(const char *how, const struct shown *written, uint16_t neighbour)
+{
+    if (written->length == 0)
+        return;
+    heading("%s: %zu octets, to neighbour %04X", how, written->length, neighbour);
+    show_frame(written, (struct sent){0});
+}
+
 void print_handling(const struct rbridge *rbridge, const uint8_t *frame, size_t length, const struct handling *handling)
 {
     const struct trill_answer *answer = &handling->answer;
-    struct shown received = {frame, length}, written = {handling->out, answer->written};
+    struct shown received = {frame, length, rbridge->edition};
+    struct shown written = {handling->out, answer->written, rbridge->edition};
+    struct shown beside = {handling->beside, answer->beside, rbridge->edition};
     heading("received at %04X: %zu octets", staffripple_get16(rbridge->settings + FIELD_HEADER), length);
     show_frame(&received, sent_area(handling));
-    heading("answer %" PRIu32 ": %s", answer->number, trill_answer_name(answer->number));
+    heading("answer %u: %s", answer->number, trill_answer_name(answer->number));
     if (answer->length)
-        heading("delivered: the inner frame, %" PRIu32 " octets from octet %" PRIu32 " on", answer->length,
-                answer->start);
-    if (answer->written == 0)
-        return;
-    struct frame_layout layout;
-    layout_read(&layout, written.at, written.length);
-    heading("written: %" PRIu32 " octets, to neighbour %04X", answer->written,
-            rbridge_neighbour(rbridge, layout.fields.egress));
-    show_frame(&written, (struct sent){0});
+        heading("delivered: the inner frame, %u octets from octet %u on", answer->length, answer->start);
+    show_written("written", &written, answer->neighbour);
+    show_written("written beside it", &beside, answer->beside_neighbour);
 }
 
 int explain_frame(const struct octets *settings, const uint8_t clock[TRILL_CLOCK], const uint8_t *frame, size_t length)

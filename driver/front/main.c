@@ -37,8 +37,9 @@ static const char usage[] =
     "  -h, --help  this text\n"
     "  --version   the version, and the Rattle kit that it was made with\n"
     "\n"
-    "A line has the switch's nickname, O for the original frame or R for the reply to it, the\n"
-    "answer's number, and the hop count and the egress nickname that the frame came with.\n"
+    "A line has the switch's nickname, O for the original frame or R for a reply to it, the\n"
+    "answer's number, and the hop count and the egress nickname that the frame came with. Replies\n"
+    "run in the order made, after the original has stopped.\n"
     "\n";
 
 static const char usage_of_files[] =
@@ -143,7 +144,7 @@ static int print_answers(void)
 /* Prints what the proved call writes; only where it is a refusal is there more to say. */
 static int print_run(const struct octets *octets)
 {
-    static uint8_t trace[CAMPUS_TRACE_LEAST], text[CAMPUS_TEXT_MOST];
+    static uint8_t trace[CAMPUS_TRACE_MOST], text[CAMPUS_TEXT_MOST];
     struct campus_answer run = campus_run(octets->at, octets->length, trace, sizeof trace);
     struct campus_text_answer printed = campus_text(octets->at, octets->length, text, sizeof text);
     int status = print_octets(text, printed.written);

@@ -12,8 +12,8 @@
 #include "show.h"
 
 enum {
-    OUTSIDE = CAMPUS_SWITCHES, /* the place of the neighbour to whom the frame leaves the campus */
-    PLACES,
+    OUTSIDE = CAMPUS_SWITCHES, /* behind the switches: to whom a frame leaves the campus, for each switch */
+    PLACES = 2 * CAMPUS_SWITCHES,
     KINDS = 2, /* of frames: original, reply */
     NUMBERS_SHOWN = 4,
     LABEL_MOST = 48,
@@ -47,7 +47,9 @@ struct picture {
     unsigned met;                    /* so many of them were met by the frame */
     double radius, width, height;    /* of the circle; of the area around it */
     struct point nodes[PLACES];
-    unsigned node_count; /* without the one outside */
+    unsigned node_count;               /* without those outside */
+    uint16_t outside[CAMPUS_SWITCHES]; /* the neighbour to whom a frame left from a switch, the latest, or 0 */
+    bool several[CAMPUS_SWITCHES];     /* there are others */
     struct way ways[KINDS][PLACES][PLACES];
     struct box boxes[BOXES_MOST]; /* where nothing more may be written */
     unsigned box_count;
@@ -256,12 +258,13 @@ static void draw_links(const struct walk *walk, unsigned from)
     }
 }
 
-static void draw_node(unsigned node, uint16_t nickname, const char *class, const uint8_t *mac)
+/* A switch with its MAC, or without one somebody outside: one of several where a + stands behind the nickname. */
+static void draw_node(unsigned node, uint16_t nickname, bool several, const char *class, const uint8_t *mac)
 {
     struct point at = picture.nodes[node];
     printf("<g><circle cx=\"%.1f\" cy=\"%.1f\" r=\"%.0f\" class=\"%s\"/>", at.x, at.y, node_radius, class);
-    printf("<text x=\"%.1f\" y=\"%.1f\" text-anchor=\"middle\" class=\"nickname\">%04X</text>", at.x, at.y + 5,
-           nickname);
+    printf("<text x=\"%.1f\" y=\"%.1f\" text-anchor=\"middle\" class=\"nickname\">%04X%s</text>", at.x, at.y + 5,
+           nickname, several ? "+" : "");
     if (mac)
         printf("<title>MAC %02X:%02X:%02X:%02X:%02X:%02X</title>", mac[0], mac[1], mac[2], mac[3], mac[4], mac[5]);
     puts("</g>");
@@ -296,11 +299,15 @@ static void order_switches(const struct walk *walk)
     }
 }
 
-/* Whether something may stand outside the circle besides the way in: a loop, or the neighbour to whom a frame leaves.
- */
+/* Whether something may stand outside the circle besides the way in: a loop, or the neighbour to whom a frame leaves,
+ * which with edition 2 may be at any switch. */
 static bool needs_margin(const struct walk *walk)
 {
     const uint8_t *entry = walk->trace;
+    for (unsigned at = 0; at < walk->count; at++) {
+        if (walk->rbridges[at].edition == EDITION_FLAGS)
+            return true;
+    }
     for (unsigned i = 1; i < walk->run.count; i++, entry += CAMPUS_ENTRY) {
         if (staffripple_get16(entry) == staffripple_get16(entry + CAMPUS_ENTRY))
             return true;
@@ -377,17 +384,28 @@ static double next_row(void)
     return title_height + 24 + row_height * picture.rows++;
 }
 
+/* A frame that the hop sent to a neighbour; as one that left the campus, or not. */
+static void add_sent(const struct walk *walk, const struct hop *hop, bool reply, uint16_t neighbour, bool left)
+{
+    uint16_t *outside = &picture.outside[hop->at];
+    add_to_way(&picture.ways[reply][hop->at][left ? OUTSIDE + hop->at : find(walk, neighbour)], hop->number);
+    if (!left)
+        return;
+    picture.several[hop->at] = picture.several[hop->at] || (*outside != 0 && *outside != neighbour);
+    *outside = neighbour;
+}
+
 static void hop_picture(const struct walk *walk, const struct hop *hop)
 {
     const struct trill_answer *answer = &hop->handling.answer;
-    if (answer->written) {
-        unsigned to = hop->left ? OUTSIDE : find(walk, hop->neighbour);
-        add_to_way(&picture.ways[hop->reply || answer->number != TRILL_FORWARDED][hop->at][to], hop->number);
-    }
+    if (answer->written)
+        add_sent(walk, hop, hop->reply || answer->number != TRILL_FORWARDED, answer->neighbour, hop->left);
+    if (answer->beside)
+        add_sent(walk, hop, true, answer->beside_neighbour, hop->beside_left);
     if (is_row(walk, hop->number))
-        printf("<text x=\"%.0f\" y=\"%.0f\" fill=\"%s\">%u: %04X, hop count %u: %" PRIu32 " %s</text>\n", picture.width,
+        printf("<text x=\"%.0f\" y=\"%.0f\" fill=\"%s\">%u: %04X, hop count %u: %u %s%s</text>\n", picture.width,
                next_row(), colours[hop->reply], hop->number, hop->nickname, hop->layout.fields.hop_count,
-               answer->number, trill_answer_name(answer->number));
+               answer->number, trill_answer_name(answer->number), answer->beside ? ", and a reply" : "");
     else if (hop->number == ROWS_FIRST + 1)
         printf("<text x=\"%.0f\" y=\"%.0f\">.. %u more ..</text>\n", picture.width, next_row(),
                walk->run.count - ROWS_FIRST - ROWS_LAST);
@@ -406,26 +424,35 @@ static void draw_title(const struct walk *walk, const struct hop *last)
         walk->count, walk->count == 1 ? "" : "es", walk->done, walk->done == 1 ? "" : "s", colours[0], colours[1]);
 }
 
+/* The neighbours outside of the campus, each beyond its switch. */
+static void place_outside(const struct walk *walk)
+{
+    for (unsigned at = 0; at < walk->count; at++) {
+        struct point away = turned(outward(at), picture.order[0] == at ? 0.8 : 0);
+        if (picture.outside[at] == 0)
+            continue;
+        picture.nodes[OUTSIDE + at] = along(picture.nodes[at], away, outside_distance);
+        occupy(box_around(picture.nodes[OUTSIDE + at], 2 * node_radius, 2 * node_radius));
+    }
+}
+
 static void end_picture(const struct walk *walk, const struct hop *last)
 {
     bool good = strcmp(walk_ending(last), "dropped") != 0;
-    if (last->left) {
-        unsigned entry = picture.order[0];
-        struct point away = turned(outward(last->at), entry == last->at ? 0.8 : 0);
-        picture.nodes[OUTSIDE] = along(picture.nodes[last->at], away, outside_distance);
-        occupy(box_around(picture.nodes[OUTSIDE], 2 * node_radius, 2 * node_radius));
-    }
+    place_outside(walk);
     for (unsigned pass = 0; pass < 2 * KINDS; pass++) /* labels stand on top of all arrows */
         draw_ways(pass % KINDS, pass >= KINDS);
     draw_entry(picture.order[0]);
     for (unsigned at = 0; at < walk->count; at++)
-        draw_node(at, walk->nicknames[at],
+        draw_node(at, walk->nicknames[at], false,
                   at != last->at || last->left ? "switch"
                   : good                       ? "good"
                                                : "bad",
                   walk->rbridges[at].settings + FIELD_HEADER + 2);
-    if (last->left)
-        draw_node(OUTSIDE, last->neighbour, "outside", NULL);
+    for (unsigned at = 0; at < walk->count; at++) {
+        if (picture.outside[at] != 0)
+            draw_node(OUTSIDE + at, picture.outside[at], picture.several[at], "outside", NULL);
+    }
     draw_title(walk, last);
     puts("</svg>");
 }

@@ -51,14 +51,19 @@ static void refused_words(uint32_t code, const char *meaning)
 
 static void hop_words(const struct walk *walk, const struct hop *hop)
 {
+    static const char outside[] = ", which is no switch of the campus";
     const struct trill_answer *answer = &hop->handling.answer;
     (void)walk;
-    printf("%4u  %04X  %-8s  hop count %2u  egress %04X  %2" PRIu32 " %s", hop->number, hop->nickname, frame_name(hop),
+    printf("%4u  %04X  %-8s  hop count %2u  egress %04X  %2u %s", hop->number, hop->nickname, frame_name(hop),
            hop->layout.fields.hop_count, hop->layout.fields.egress, answer->number, trill_answer_name(answer->number));
     if (answer->written)
-        printf("; %" PRIu32 " octets sent to %04X", answer->written, hop->neighbour);
+        printf("; %u octets sent to %04X%s", answer->written, answer->neighbour,
+               hop->left && !hop->last ? outside : "");
+    if (answer->beside)
+        printf("; reply of %u octets sent to %04X%s", answer->beside, answer->beside_neighbour,
+               hop->beside_left ? outside : "");
     if (answer->length)
-        printf("; %" PRIu32 " octets", answer->length);
+        printf("; %u octets", answer->length);
     putchar('\n');
 }
 
@@ -66,7 +71,10 @@ static void end_words(const struct walk *walk, const struct hop *last)
 {
     char ending[ENDING_MOST];
     walk_ending_words(ending, last);
-    printf("%s, after %u handling%s\n", ending, walk->done, walk->done == 1 ? "" : "s");
+    printf("%s, after %u handling%s", ending, walk->done, walk->done == 1 ? "" : "s");
+    if (walk->replies > 1)
+        printf(" and with %u replies", walk->replies);
+    putchar('\n');
 }
 
 int show_words(const struct octets *description)
@@ -95,6 +103,11 @@ static void print_hex(const char *name, const uint8_t *octets, size_t length)
     putchar('"');
 }
 
+static void print_neighbour(const char *name, uint16_t nickname)
+{
+    printf(nickname ? ", \"%s\": \"%04X\"" : ", \"%s\": null", name, nickname);
+}
+
 static void begin_json(const struct walk *walk)
 {
     printf("{\"code\": %" PRIu32 ", \"meaning\": \"%s\", \"handlings\": [", walk->run.code,
@@ -108,11 +121,13 @@ static void hop_json(const struct walk *walk, const struct hop *hop)
     printf("%s\n  {\"number\": %u, \"switch\": \"%04X\", \"frame\": \"%s\", \"hop_count\": %u, \"egress\": \"%04X\"",
            hop->number == 1 ? "" : ",", hop->number, hop->nickname, frame_name(hop), hop->layout.fields.hop_count,
            hop->layout.fields.egress);
-    printf(", \"answer\": %" PRIu32 ", \"meaning\": \"%s\", \"start\": %" PRIu32 ", \"length\": %" PRIu32,
-           answer->number, trill_answer_name(answer->number), answer->start, answer->length);
-    printf(answer->written ? ", \"neighbour\": \"%04X\"" : ", \"neighbour\": null", hop->neighbour);
+    printf(", \"answer\": %u, \"meaning\": \"%s\", \"start\": %u, \"length\": %u", answer->number,
+           trill_answer_name(answer->number), answer->start, answer->length);
+    print_neighbour("neighbour", answer->neighbour);
+    print_neighbour("beside_neighbour", answer->beside_neighbour);
     print_hex("received", hop->frame, hop->length);
     print_hex("written", hop->handling.out, answer->written);
+    print_hex("beside", hop->handling.beside, answer->beside);
     putchar('}');
 }
 
@@ -120,9 +135,9 @@ static void end_json(const struct walk *walk, const struct hop *last)
 {
     char ending[ENDING_MOST];
     walk_ending_words(ending, last);
-    printf("],\n \"handled\": %u, \"end\": {\"how\": \"%s\", \"switch\": \"%04X\", \"answer\": %" PRIu32, walk->done,
-           walk_ending(last), last->nickname, last->handling.answer.number);
-    printf(last->left ? ", \"towards\": \"%04X\"" : ", \"towards\": null", last->neighbour);
+    printf("],\n \"handled\": %u, \"replies\": %u, \"end\": {\"how\": \"%s\", \"switch\": \"%04X\", \"answer\": %u",
+           walk->done, walk->replies, walk_ending(last), last->nickname, last->handling.answer.number);
+    print_neighbour("towards", last->left ? last->handling.answer.neighbour : 0);
     printf(", \"words\": \"%s\"}}\n", ending);
 }
 
@@ -153,6 +168,8 @@ static void hop_capture(const struct walk *walk, const struct hop *hop)
     stamp.fraction++;
     if (hop->left)
         captured = captured && capture_write(&capture, &stamp, handling->out, handling->answer.written);
+    if (hop->beside_left)
+        captured = captured && capture_write(&capture, &stamp, handling->beside, handling->answer.beside);
 }
 
 static void end_capture(const struct walk *walk, const struct hop *last)

@@ -28,15 +28,10 @@ uint32_t trill_prepare(const uint8_t *settings, size_t settings_len, uint64_t *s
 }
 
 struct trill_answer trill_handle_prepared(const uint8_t *frame, size_t frame_len, const uint64_t *store, size_t words,
-                                          const uint8_t *clock, size_t clock_len, uint8_t *out, size_t out_len)
+                                          const uint8_t *clock, size_t clock_len, uint8_t *out, size_t out_len,
+                                          uint8_t *beside, size_t beside_len)
 {
     (void)frame, (void)frame_len, (void)store, (void)words, (void)clock, (void)clock_len, (void)out, (void)out_len;
-    exit(EXIT_UNPROVED);
-}
-
-struct trill_way trill_way_out(const uint8_t *settings, size_t settings_len, uint16_t destination, uint8_t *out,
-                               size_t out_len)
-{
-    (void)settings, (void)settings_len, (void)destination, (void)out, (void)out_len;
+    (void)beside, (void)beside_len;
     exit(EXIT_UNPROVED);
 }

@@ -1,6 +1,7 @@
 #include "walk.h"
 
 #include <inttypes.h>
+#include <stddef.h>
 #include <stdio.h>
 #include <string.h>
 
@@ -24,9 +25,9 @@ static void take_field(struct walk *walk, const struct octets *octets, const str
         return;
     }
     if (field->tag == TAG_ENTRY) {
-        walk->at = find_switch(walk, staffripple_get16(field->value));
-        walk->length = (size_t)field->length - ENTRY_NICKNAME;
-        memcpy(walk->frame, field->value + ENTRY_NICKNAME, walk->length);
+        walk->now.at = find_switch(walk, staffripple_get16(field->value));
+        walk->now.length = (size_t)field->length - ENTRY_NICKNAME;
+        memcpy(walk->now.frame, field->value + ENTRY_NICKNAME, walk->now.length);
         return;
     }
     if (field->tag == TAG_SWITCH) {
@@ -41,7 +42,8 @@ static void take_field(struct walk *walk, const struct octets *octets, const str
 
 void walk_begin(struct walk *walk, const struct octets *octets)
 {
-    *walk = (struct walk){.run = {0}};
+    memset(walk, 0, offsetof(struct walk, rbridges));
+    walk->now.at = walk->waiting = 0;
     walk->run = campus_run(octets->at, octets->length, walk->trace, sizeof walk->trace);
     if (walk->run.code != CAMPUS_RAN)
         return;
@@ -62,42 +64,66 @@ static bool met(const uint8_t *entry, const struct hop *hop)
            staffripple_get16(entry + 6) == fields->egress;
 }
 
-/* Where the frame written goes, and that it is the frame to be handled next. */
-static void send(struct walk *walk, struct hop *hop)
+/* Sends a frame to a neighbour, and answers whether that is a switch of the campus. */
+static bool send(const struct walk *walk, struct moving *moving, uint16_t neighbour, const uint8_t *frame,
+                 size_t length)
+{
+    moving->at = find_switch(walk, neighbour);
+    moving->length = length;
+    memcpy(moving->frame, frame, length);
+    return moving->at < walk->count;
+}
+
+/* Sends a reply, which waits if it stays in the campus; answers whether it does. */
+static bool send_reply(struct walk *walk, uint16_t neighbour, const uint8_t *frame, size_t length)
+{
+    bool stays = walk->waiting < CAMPUS_REPLIES && send(walk, &walk->queue[walk->waiting], neighbour, frame, length);
+    walk->replies++;
+    walk->waiting += stays;
+    return stays;
+}
+
+/* Where the frames written go, and which frame is handled next: the one forwarded, or else the reply made first. */
+static void move_on(struct walk *walk, struct hop *hop)
 {
     const struct handling *handling = &hop->handling;
-    struct frame_layout written;
-    layout_read(&written, handling->out, handling->answer.written);
-    hop->neighbour = rbridge_neighbour(&walk->rbridges[hop->at], written.fields.egress);
-    walk->at = find_switch(walk, hop->neighbour);
-    walk->reply = walk->reply || handling->answer.number != TRILL_FORWARDED;
-    walk->length = handling->answer.written;
-    memcpy(walk->frame, handling->out, walk->length);
+    const struct trill_answer *answer = &handling->answer;
+    bool forwarded = answer->number == TRILL_FORWARDED, stays = false;
+    walk->now.at = walk->count;
+    if (forwarded)
+        stays = send(walk, &walk->now, answer->neighbour, handling->out, answer->written);
+    else if (answer->written > 0)
+        stays = send_reply(walk, answer->neighbour, handling->out, answer->written);
+    hop->left = answer->written > 0 && !stays;
+    hop->beside_left =
+        answer->beside > 0 && !send_reply(walk, answer->beside_neighbour, handling->beside, answer->beside);
+    if (walk->now.at == walk->count && walk->taken < walk->waiting) {
+        walk->now = walk->queue[walk->taken++];
+        walk->reply = true;
+    }
+    hop->last = walk->now.at == walk->count;
 }
 
 bool walk_next(struct walk *walk, struct hop *hop)
 {
-    if (walk->done >= walk->run.count || walk->at == walk->count)
+    const struct moving *now = &walk->now;
+    if (walk->done >= walk->run.count || now->at == walk->count)
         return false;
-    *hop = (struct hop){.number = walk->done + 1, .at = walk->at, .reply = walk->reply, .length = walk->length};
-    hop->nickname = walk->nicknames[walk->at];
-    memcpy(hop->frame, walk->frame, walk->length);
+    *hop = (struct hop){.number = walk->done + 1, .at = now->at, .reply = walk->reply, .length = now->length};
+    hop->nickname = walk->nicknames[now->at];
+    memcpy(hop->frame, now->frame, now->length);
     layout_read(&hop->layout, hop->frame, hop->length);
     rbridge_handle(&walk->rbridges[hop->at], hop->frame, hop->length, walk->clock, &hop->handling);
     if (!met(walk->trace + CAMPUS_ENTRY * walk->done, hop))
         return false;
     walk->done++;
-    walk->at = walk->count;
-    if (hop->handling.answer.written > 0)
-        send(walk, hop);
-    hop->last = walk->at == walk->count;
-    hop->left = hop->last && hop->handling.answer.written > 0;
+    move_on(walk, hop);
     return true;
 }
 
 bool walk_agrees(const struct walk *walk)
 {
-    return walk->done == walk->run.count && walk->at == walk->count;
+    return walk->done == walk->run.count && walk->now.at == walk->count;
 }
 
 /* ---- How it ended ---- */
@@ -126,7 +152,8 @@ void walk_ending_words(char text[ENDING_MOST], const struct hop *last)
     const char *ending = walk_ending(last);
     if (last->left)
         snprintf(text, ENDING_MOST, "%s left the campus towards %04X, sent by %04X",
-                 last->reply || number != TRILL_FORWARDED ? "reply" : "original", last->neighbour, last->nickname);
+                 last->reply || number != TRILL_FORWARDED ? "reply" : "original", last->handling.answer.neighbour,
+                 last->nickname);
     else if (strcmp(ending, "dropped") == 0)
         snprintf(text, ENDING_MOST, "%s dropped with %" PRIu32 ", %s, at %04X", last->reply ? "reply" : "original",
                  number, trill_answer_name(number), last->nickname);

@@ -9,20 +9,28 @@
 #include "layout.h"
 #include "octets.h"
 
-enum { CAMPUS_SWITCHES = 16 };
+enum { CAMPUS_SWITCHES = 16, CAMPUS_REPLIES = 63 /* as many as a run can have */ };
+
+/* A frame on its way, and the switch that it comes to, by its place in the arrays. */
+struct moving {
+    unsigned at;
+    size_t length;
+    uint8_t frame[TRILL_FRAME_MOST];
+};
 
 struct walk {
     struct campus_answer run;
-    unsigned count; /* switches */
+    unsigned count;          /* switches */
+    unsigned done;           /* hops so far */
+    unsigned replies, taken; /* those made, and so many of those that wait have had their turn */
+    bool reply;              /* the frame is a reply */
+    uint8_t clock[TRILL_CLOCK];
     uint16_t nicknames[CAMPUS_SWITCHES];
     struct rbridge rbridges[CAMPUS_SWITCHES];
-    uint8_t clock[TRILL_CLOCK];
-    uint8_t trace[CAMPUS_TRACE_LEAST];
-    unsigned done; /* hops so far */
-    unsigned at;   /* the switch that the frame is at, by its place in the arrays; count where it has left the campus */
-    bool reply;    /* the frame is a reply */
-    size_t length;
-    uint8_t frame[TRILL_FRAME_MOST];
+    struct moving now; /* at count where no frame is left */
+    unsigned waiting;  /* replies that wait, or have waited: those to a switch of the campus, in the order made */
+    struct moving queue[CAMPUS_REPLIES];
+    uint8_t trace[CAMPUS_TRACE_MOST];
     uint8_t settings[OCTETS_MOST]; /* of all switches, those of each together */
 };
 
@@ -32,8 +40,9 @@ struct hop {
     uint16_t nickname;
     bool reply;
     struct frame_layout layout;
-    uint16_t neighbour; /* to whom the frame written goes, or 0 */
-    bool last, left;    /* of the run; and the frame written left the campus */
+    bool last;        /* of the run */
+    bool left;        /* the frame written left the campus, */
+    bool beside_left; /* and so the reply beside it */
     size_t length;
     uint8_t frame[TRILL_FRAME_MOST];
     struct handling handling;

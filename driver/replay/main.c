@@ -54,8 +54,8 @@ static const char usage[] =
     "usage: trill-replay [OPTION].. SETTINGS INPUT OUTPUT\n"
     "\n"
     "Hands each frame of the capture INPUT to the switch that SETTINGS describes, writes the frames\n"
-    "that the switch sends to the capture OUTPUT with the time stamps of those received, and prints\n"
-    "how many frames had which answer.\n"
+    "that the switch sends to the capture OUTPUT with the time stamps of those received, a reply\n"
+    "beside a forwarded frame after it, and prints how many frames had which answer.\n"
     "\n"
     "  -v, --verbose         a line for each frame, too\n"
     "  --json                say all this as JSON, an object on each line\n"
@@ -255,13 +255,15 @@ static int lost(struct replay *replay, const char *name)
     return complain(EXIT_FAILED, name, strerror(cause));
 }
 
-/* Writes what the handler has written, and what it delivers. */
+/* Writes what the handler has written, a reply beside a forwarded frame after it, and what it delivers. */
 static int write_frames(struct replay *replay, const struct capture_record *record, const struct handling *handling)
 {
     const struct words *words = &replay->words;
     const struct trill_answer *answer = &handling->answer;
     struct trill_part part = trill_part_of(record->frame, record->length, answer->start, answer->length);
     if (answer->written && !capture_write(&replay->output, record, handling->out, answer->written))
+        return lost(replay, words->output);
+    if (answer->beside && !capture_write(&replay->output, record, handling->beside, answer->beside))
         return lost(replay, words->output);
     if (words->delivered && part.length &&
         !capture_write(&replay->delivered, record, part.octets, (uint32_t)part.length))

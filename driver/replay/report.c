@@ -19,15 +19,16 @@ static void frame_words(FILE *file, const struct capture_record *record, const s
 {
     struct frame_layout layout;
     layout_read(&layout, record->frame, record->length);
-    fprintf(file, "%" PRIu32 " octets: %" PRIu32 " %s", record->length, answer->number,
-            trill_answer_name(answer->number));
+    fprintf(file, "%" PRIu32 " octets: %u %s", record->length, answer->number, trill_answer_name(answer->number));
     if (layout.trill)
         fprintf(file, "; hop count %u, egress %04X, ingress %04X", layout.fields.hop_count, layout.fields.egress,
                 layout.fields.ingress);
     if (answer->written)
-        fprintf(file, "; %" PRIu32 " octets written", answer->written);
+        fprintf(file, "; %u octets written", answer->written);
+    if (answer->beside)
+        fprintf(file, "; reply of %u octets beside", answer->beside);
     if (answer->length)
-        fprintf(file, "; part at octet %" PRIu32 ", %" PRIu32 " octets", answer->start, answer->length);
+        fprintf(file, "; part at octet %u, %u octets", answer->start, answer->length);
     putc('\n', file);
 }
 
@@ -35,13 +36,13 @@ static void frame_json(FILE *file, const struct capture_record *record, const st
 {
     struct frame_layout layout;
     layout_read(&layout, record->frame, record->length);
-    fprintf(file, "\"octets\": %" PRIu32 ", \"answer\": %" PRIu32 ", \"meaning\": \"%s\"", record->length,
-            answer->number, trill_answer_name(answer->number));
+    fprintf(file, "\"octets\": %" PRIu32 ", \"answer\": %u, \"meaning\": \"%s\"", record->length, answer->number,
+            trill_answer_name(answer->number));
     if (layout.trill)
         fprintf(file, ", \"hop_count\": %u, \"egress\": \"%04X\", \"ingress\": \"%04X\"", layout.fields.hop_count,
                 layout.fields.egress, layout.fields.ingress);
-    fprintf(file, ", \"written\": %" PRIu32 ", \"start\": %" PRIu32 ", \"length\": %" PRIu32 "}\n", answer->written,
-            answer->start, answer->length);
+    fprintf(file, ", \"written\": %u, \"beside\": %u, \"start\": %u, \"length\": %u}\n", answer->written,
+            answer->beside, answer->start, answer->length);
 }
 
 void report_frame(const struct report *report, const struct capture_input *input, const struct capture_record *record,
@@ -82,7 +83,7 @@ static void summary_words(FILE *file, const struct tally *tally, const struct ca
     if (tally->snapped)
         fprintf(file, "%10" PRIu64 "  snapped: captured in part only, so not handled\n", tally->snapped);
     fprintf(file, "%10" PRIu64 "  handled, by answer:\n", tally->handled);
-    for (uint32_t number = 0; number < ANSWER_NUMBERS; number++) {
+    for (uint32_t number = 0; number < TRILL_ANSWER_NUMBERS; number++) {
         if (tally->answers[number])
             fprintf(file, "%10" PRIu64 "    %2" PRIu32 " %s\n", tally->answers[number], number,
                     trill_answer_name(number));
@@ -100,7 +101,7 @@ static void summary_json(FILE *file, const struct tally *tally, const struct cap
             "{\"read\": %" PRIu64 ", \"fcs\": %" PRIu32 ", \"snapped\": %" PRIu64 ", \"handled\": %" PRIu64
             ", \"answers\": [",
             input->records, input->format.fcs, tally->snapped, tally->handled);
-    for (uint32_t number = 0; number < ANSWER_NUMBERS; number++) {
+    for (uint32_t number = 0; number < TRILL_ANSWER_NUMBERS; number++) {
         if (!tally->answers[number])
             continue;
         fprintf(file, "%s{\"answer\": %" PRIu32 ", \"meaning\": \"%s\", \"frames\": %" PRIu64 "}", comma, number,

@@ -10,10 +10,8 @@
 #include "capture.h"
 #include "staffripple.h"
 
-enum { ANSWER_NUMBERS = 64 }; /* an answer's number is under it */
-
 struct tally {
-    uint64_t answers[ANSWER_NUMBERS]; /* frames by answer number */
+    uint64_t answers[TRILL_ANSWER_NUMBERS]; /* frames by answer number */
     uint64_t handled, snapped;
 };
 

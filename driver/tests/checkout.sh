@@ -32,7 +32,10 @@ rmdir "$here/busy"
 RT
 chmod +x "$dir/rt"
 mkdir "$dir/archives"
-cp "$archives"/libhandler.a "$archives"/libcampus.a "$dir/archives/"
+names=$(sed -n 's/^ARCHIVES := //p' driver/kit.mk)
+for name in $names; do
+    cp "$archives/lib$name.a" "$dir/archives/" || exit 1
+done
 export RT="$dir/rt"
 
 # begin: a new checkout, in which nothing is proved or built
@@ -76,27 +79,26 @@ judge() {
 }
 
 c1=$(cat examples/C1.out)
-both='staticlib handler
-staticlib campus'
+all=$(for name in $names; do echo "staticlib $name"; done)
 
 # ---- What is proved when ----
 
 begin
 run ./staffripple examples/C1.hex
-judge 'first run proves' 0 out "$c1" err '' asked "$both"
+judge 'first run proves' 0 out "$c1" err '' asked "$all"
 run ./staffripple examples/C1.hex
-judge 'second run proves nothing' 0 out "$c1" err '' asked "$both"
+judge 'second run proves nothing' 0 out "$c1" err '' asked "$all"
 run make -s -C driver all
-judge 'make after it proves nothing' 0 out '' err '' asked "$both"
+judge 'make after it proves nothing' 0 out '' err '' asked "$all"
 find crates -type f -exec touch {} +
 run make -s -C driver all
-judge 'newer files that are the same prove nothing' 0 out '' err '' asked "$both"
+judge 'newer files that are the same prove nothing' 0 out '' err '' asked "$all"
 rm -rf target
 run ./staffripple examples/C1.hex
-judge 'nor does a target that is gone' 0 out "$c1" asked "$both"
+judge 'nor does a target that is gone' 0 out "$c1" asked "$all"
 echo '// more' >> crates/campus/src/lib.rt
 run ./staffripple examples/C1.hex
-judge 'what has changed is proved' 0 out "$c1" asked "$both
+judge 'what has changed is proved' 0 out "$c1" asked "$all
 staticlib campus"
 mkdir -p elsewhere
 ln -s ../staffripple elsewhere/link
@@ -117,14 +119,14 @@ echo '01 0G' > bad.hex
 run ./staffripple bad.hex
 judge 'a fault in hex text, before the proof' 2 out '' err "bad.hex:1: 'G' is not a hex digit" asked ''
 run ./staffripple -- < examples/C1.hex
-judge 'standard input, read after the proof' 0 out "$c1" asked "$both"
+judge 'standard input, read after the proof' 0 out "$c1" asked "$all"
 begin
 run ./staffripple --text examples/campus.txt
 cp "$dir/out" own.txt
 judge 'a text, before the proof' 0 err '' asked ''
 run ./staffripple --words < own.txt
 tail -n 1 "$dir/out" > "$dir/last"
-judge 'standard input behind an option, read after the proof' 0 last 'echo reply heard at 0001, after 4 handlings' asked "$both"
+judge 'standard input behind an option, read after the proof' 0 last 'echo reply heard at 0001, after 4 handlings' asked "$all"
 
 # ---- Two at once ----
 
@@ -135,7 +137,7 @@ run make -s -C driver all
 judge 'two builds at once: make' 0 out ''
 wait "$first"
 status=$?
-judge 'two builds at once: the program' 0 first "$c1" asked "$both"
+judge 'two builds at once: the program' 0 first "$c1" asked "$all"
 cat "$dir/err" "$dir/waited" > "$dir/said"
 judge 'one of them waits' 0 said "staffripple: waiting for another build in $dir/checkout"
 

@@ -17,10 +17,11 @@ if ! command -v tshark > /dev/null; then
 fi
 
 # shows NAME FILE FIELDS TEXT: the fields of each frame, blanks between them
+preferences=
 shows() {
     words=$(for field in $3; do printf ' -e %s' "$field"; done)
     # shellcheck disable=SC2086 # the fields are words of their own
-    got=$(tshark -X lua_script:"$dissector" -r "$2" -T fields -E separator=/s $words 2> said | sed 's/ *$//')
+    got=$(tshark $preferences -X lua_script:"$dissector" -r "$2" -T fields -E separator=/s $words 2> said | sed 's/ *$//')
     if [ "$got" = "$4" ]; then
         printf 'ok %s\n' "$1"
     else
@@ -47,6 +48,21 @@ shows 'its echo bodies' run.pcap \
 3 1 2 1.000002 0.000000
 4 1 2 1.000002 1.000009 7
 4 1 2 1.000002 1.000009 7'
+staffripple --pcap "$examples/alerted-ping.hex" > ping.pcap
+preferences='-o trill_options.edition:2'
+shows 'the extended flags of a run' ping.pcap \
+    'trill_options.flags trill_options.flags.crhbh trill_options.flags.crcaf trill_options.flags.nccaf trill_options.word trill_channel.echo.spid' \
+    "$(printf '0x81000000 1 1 0  3\n%.0s' 1 2 3 4; printf '     4\n%.0s' 1 2 3 4 5 6 7 8 9 10)"
+cat > flags.txt <<TEXT
+switch 0001 mac 02:00:00:00:00:01 edition 2
+frame at 0001 hex 020000000001 020000000009 22F3 00C5 0001 0009 FEDCBA9B 01020304 05060708
+TEXT
+staffripple --pcap flags.txt > flags.pcap
+shows 'each kind of flag' flags.pcap \
+    'trill_options.flags.crite trill_options.flags.crrsv trill_options.flags.chbh trill_options.flags.nchbh trill_options.flags.crsv trill_options.flags.ncrsv trill_options.flags.cite trill_options.flags.ncite trill_options.extensions' \
+    '1 1 0x0000000f 0x00000017 0x00000001 0x00000007 0x00000014 0x0000001b 0102030405060708'
+preferences=
+shows 'the same area as options' flags.pcap 'trill_options.word trill_options.option.type' '0xfedcba9b 0x0001,0x0005'
 staffripple --pcap "$examples/leased-links.hex" > leased.pcap
 shows 'a run over outer VLANs' leased.pcap 'vlan.id trill.hop_cnt trill_channel.echo.spid' '5,1 5 3
 4094,1 4 3

@@ -74,7 +74,7 @@ static void put_hop(uint64_t serial)
     put_nickname(1 + below(4));
     put_nickname(below(4));
     put_mac();
-    put(rarely() ? below(70) : serial, 4);
+    put(rarely() ? below(serial + 4) : serial, 4);
     if (tagged)
         put_vlan();
 }
@@ -83,6 +83,12 @@ static void put_flag(void)
 {
     put_header(3, 1);
     put(rarely() ? below(256) : below(2), 1);
+}
+
+static void put_edition(void)
+{
+    put_header(6, 1);
+    put(rarely() ? below(256) : 1 + below(2), 1);
 }
 
 static void put_clock(void)
@@ -109,6 +115,8 @@ static void put_fields(uint64_t nickname)
         put_hop(serial);
         if (below(8) == 0)
             put_flag();
+        if (below(8) == 0)
+            put_edition();
         if (rarely())
             put_clock();
     }
@@ -139,6 +147,8 @@ static void make_description(void)
         put_entry(switches);
     if (rarely())
         put_flag();
+    if (rarely())
+        put_edition();
     spoil();
 }
 
@@ -147,6 +157,8 @@ static void make_settings(void)
     made.length = 0;
     if (rarely())
         put_flag();
+    if (rarely())
+        put_edition();
     put_fields(1);
     if (rarely())
         put_switch(2);
@@ -175,7 +187,7 @@ static void show_made(uint32_t expected, const struct refusal *refusal)
 /* Counts the codes that come up, and answers how often call and words differ. */
 static unsigned try_descriptions(unsigned hits[CODES])
 {
-    static uint8_t trace[CAMPUS_TRACE_LEAST];
+    static uint8_t trace[CAMPUS_TRACE_MOST];
     unsigned differing = 0;
     for (unsigned trial = 0; trial < TRIALS; trial++) {
         struct refusal refusal;
@@ -192,13 +204,14 @@ static unsigned try_descriptions(unsigned hits[CODES])
 static unsigned try_settings(unsigned hits[CODES])
 {
     static const uint8_t clock[TRILL_CLOCK];
-    static uint8_t out[TRILL_OUTPUT_LEAST];
+    static uint8_t out[TRILL_OUTPUT_LEAST], beside[TRILL_BESIDE_LEAST];
     unsigned differing = 0;
     for (unsigned trial = 0; trial < TRIALS; trial++) {
         struct refusal refusal;
         make_settings();
-        uint32_t number =
-            staffripple_handle(NULL, 0, made.at, made.length, clock, sizeof clock, out, sizeof out).number;
+        uint32_t number = staffripple_handle(NULL, 0, made.at, made.length, clock, sizeof clock, out, sizeof out,
+                                             beside, sizeof beside)
+                              .number;
         bool found = refusal_find(&refusal, SETTINGS, &made);
         hits[found ? refusal.code : CAMPUS_RAN]++;
         if ((number == TRILL_REFUSED_SETTINGS) != found && differing++ < 5)

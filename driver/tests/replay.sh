@@ -229,9 +229,9 @@ octets "$(header 65535; record 1 2 "$transit" 41; record 3 4 "$c3"; record 5 6 "
 run 0 -v --json -d inner.pcap strip json.pcap out.pcap
 sed 's/"seconds": [0-9.]*, "frames_per_second": [0-9]*/TIME/' said > json
 judge 'as JSON' complained '' json '{"frame": 1, "time": "1.000002", "octets": 41, "snapped": 40}
-{"frame": 2, "time": "3.000004", "octets": 40, "answer": 51, "meaning": "delivered", "hop_count": 1, "egress": "0001", "ingress": "0004", "written": 0, "start": 20, "length": 20}
-{"frame": 3, "time": "5.000006", "octets": 40, "answer": 50, "meaning": "forwarded", "hop_count": 1, "egress": "0009", "ingress": "0004", "written": 40, "start": 0, "length": 0}
-{"frame": 4, "time": "7.000008", "octets": 1, "answer": 10, "meaning": "link header or TRILL header cut short", "written": 0, "start": 0, "length": 0}
+{"frame": 2, "time": "3.000004", "octets": 40, "answer": 51, "meaning": "delivered", "hop_count": 1, "egress": "0001", "ingress": "0004", "written": 0, "beside": 0, "start": 20, "length": 20}
+{"frame": 3, "time": "5.000006", "octets": 40, "answer": 50, "meaning": "forwarded", "hop_count": 1, "egress": "0009", "ingress": "0004", "written": 40, "beside": 0, "start": 0, "length": 0}
+{"frame": 4, "time": "7.000008", "octets": 1, "answer": 10, "meaning": "link header or TRILL header cut short", "written": 0, "beside": 0, "start": 0, "length": 0}
 {"read": 4, "fcs": 0, "snapped": 1, "handled": 3, "answers": [{"answer": 10, "meaning": "link header or TRILL header cut short", "frames": 1}, {"answer": 50, "meaning": "forwarded", "frames": 1}, {"answer": 51, "meaning": "delivered", "frames": 1}], "written": {"frames": 1, "octets": 40}, "delivered": {"frames": 1, "octets": 20}, TIME}'
 "$tool" --json strip json.pcap out.pcap | grep -cE ', "seconds": [0-9]+\.[0-9]{6}, "frames_per_second": [0-9]+}$' > said
 judge 'frames per second as JSON' said 1
@@ -265,6 +265,21 @@ judge 'unbuffered' lines 2 out-then.pcap "$(header 2048; record 5 6 "$transit_se
 patience=3
 unbuffered
 judge 'buffered' lines 0 out-then.pcap "$(header 2048)" inner-then.pcap "$(header 2048)" out.pcap "$(header 2048; record 5 6 "$transit_sent")"
+
+# A reply beside a forwarded frame goes into the capture after it, with the same time stamp.
+printf 'switch 0001 mac 02:00:00:00:00:01 edition 2\nto 0009 via 0005 mac 02:00:00:00:00:05 serial 1\nto 0004 via 0006 mac 02:00:00:00:00:06 serial 1\n' > flags
+asked='0009 0004 81000000 0180C2000042 020000000004 8100 0001 8946 0FF8 4000 30000001 02 00 000001000002 000000000000'
+octets "$(header 65535; record 1 2 "020000000001 020000000002 22F3 0045 $asked"; record 3 4 "$transit")" > alerted.pcap
+run 0 -v -c 1.000009 flags alerted.pcap out.pcap
+judge 'a reply beside a forwarded frame' out.pcap "$(header 2048; record 1 2 "020000000005 020000000001 22F3 0044 $asked"
+    record 1 2 "020000000006 020000000001 22F3 003F 0004 0001 0180C2000042 020000000001 8100 0001 8946 0FF8 C000 40000001 02 00 000001000002 000001000009"
+    record 3 4 "$transit_sent")" said '1 1.000002 64 octets: 50 forwarded; hop count 5, egress 0009, ingress 0004; 64 octets written; reply of 60 octets beside
+2 3.000004 40 octets: 50 forwarded; hop count 1, egress 0009, ingress 0004; 40 octets written
+    frames
+         2  read
+         2  handled, by answer:
+         2    50 forwarded
+         3  written, 164 octets'
 
 octets "$(header 65535; record 1 2 ''; record 3 4 "$received 0005"; record 5 6 "$(printf '%04098d' 0)")" > odd.pcap
 run 0 -v strip odd.pcap out.pcap
@@ -391,7 +406,7 @@ settings 'a header cut short' 3 "wrong:2: field 2 (tag 3): 2 octets there; wante
 settings 'a value cut short' 3 "wrong:2: field 2 (tag 2): 14 octets announced, 12 there $bad" "$switch\n02 000E 0009 0005 020000000005 0000"
 settings 'a flag of 2' 3 "wrong:2: field 2 (tag 3): strip flag 02; wanted: 00 or 01 $bad" "$switch\n03 0001 02"
 settings 'a length' 3 "wrong:2: field 2 (tag 3): strip flag of 2 octets; wanted: 1 $bad" "$switch\n03 0002 0101"
-settings 'no such tag' 3 "wrong:1: field 2 (tag 9): no such tag; wanted: 1 to 5 $bad" "$switch 09 0000"
+settings 'no such tag' 3 "wrong:1: field 2 (tag 9): no such tag; wanted: 1 to 6 $bad" "$switch 09 0000"
 settings 'a clock' 3 "wrong:2: field 2 (tag 4): clock, which is no part of settings $bad" "$switch\n04 0006 000000000000"
 settings 'a second switch' 3 "wrong:2: field 2 (tag 1): second switch; wanted: one $bad" "$switch\n$switch"
 settings 'a flag first' 3 "wrong:1: field 1 (tag 3): strip flag before any switch (tag 1) $bad" "03 0001 01 $switch"

@@ -114,7 +114,7 @@ faulty 'frame 0 of a capture' 'frame at 0001 from in.pcap 0' 1 "'0' found; wante
 printf 'switch 0001 mac 02:00:00:00:00:01\n\nto 0009 via FFC0 mac 02:00:00:00:00:05 serial 1\n' > 'a text'
 run 'a text'
 expect 'refused: with the line of the text form' 3 'refused 44' \
-    'a text:3: field 2 (tag 2): neighbour FFC0; wanted: 0000 to FFBF (44: value outside the settings rules, or strip flag above 1)'
+    'a text:3: field 2 (tag 2): neighbour FFC0; wanted: 0000 to FFBF (44: value outside the settings rules)'
 
 # ---- Frames from captures ----
 
@@ -175,6 +175,34 @@ run --words campus
 expect 'the neighbour of the record that rules' 0 '   1  0001  original  hop count  5  egress 0009  50 forwarded; 40 octets sent to 0005
 original left the campus towards 0005, sent by 0001, after 1 handling' ''
 
+# An alerted ping of edition 2: a reply beside each forwarding, in a campus that they leave and in one that they do not.
+echo='0180C2000042 020000000004 8100 0001 8946 0FF8 4000 30000001 0200 000000000000 000000000000'
+printf '%s edition 2\nto 0009 via 0005 mac 02:00:00:00:00:05 serial 1\nto 0004 via 0006 mac 02:00:00:00:00:06 serial 1\nframe at 0001 hex %s\n' \
+    "$switch" "$received 0045 0009 0004 81000000 $echo" > alerted
+run --words alerted
+expect 'an original and a reply leave at once' 0 '   1  0001  original  hop count  5  egress 0009  50 forwarded; 64 octets sent to 0005; reply of 60 octets sent to 0006, which is no switch of the campus
+original left the campus towards 0005, sent by 0001, after 1 handling' ''
+run --words "$examples/alerted-ping.hex"
+{ sed -n 1p out; sed -n '4,5p;$p' out; } > some
+[ "$(cat some)" = '   1  0002  original  hop count  5  egress 0005  50 forwarded; 64 octets sent to 0003; reply of 60 octets sent to 0001
+   4  0005  original  hop count  2  egress 0005  54 echo request: echo reply; 60 octets sent to 0004
+   5  0001  reply     hop count 63  egress 0001  56 echo reply heard
+echo reply heard at 0001, after 14 handlings and with 4 replies' ]
+verdict 'replies run after the original has stopped' $? "$(cat out err)"
+"$tool" --json alerted > out
+grep -q '"neighbour": "0005", "beside_neighbour": "0006", .*"beside": "02000000000602000000000122F3003F00040001' out && grep -q '"handled": 1, "replies": 1, ' out
+verdict 'JSON: a reply beside a forwarded frame' $? "$(cat out)"
+"$tool" --pcap alerted > alerted.pcap
+[ "$(wc -c < alerted.pcap)" -eq $((24 + 16 + 64 + 16 + 64 + 16 + 60)) ]
+verdict 'capture: both frames that left' $? "$(hex alerted.pcap)"
+"$tool" --svg alerted > out
+[ "$(grep -c 'class="reply"' out)" -eq 1 ] && [ "$(grep -c 'class="original"' out)" -eq 2 ] && grep -q '>0006+<' out &&
+    grep -q '1: 0001, hop count 5: 50 forwarded, and a reply<' out
+verdict 'picture: a reply beside a forwarded frame' $? "$(cat out)"
+"$tool" --svg "$examples/alerted-ping.hex" > out
+[ "$(grep -c 'class="reply"' out)" -eq 4 ] && [ "$(grep -c 'class="original"' out)" -eq 4 ] && ! grep -q 'class="outside' out
+verdict 'picture: an alerted ping' $? "$(cat out)"
+
 for file in "$examples"/*.hex; do
     name=$(basename "$file" .hex)
     run --words "$file"
@@ -195,9 +223,9 @@ done
 
 run --json campus
 expect 'JSON' 0 '{"code": 0, "meaning": "run", "handlings": [
-  {"number": 1, "switch": "0001", "frame": "original", "hop_count": 5, "egress": "0009", "answer": 50, "meaning": "forwarded", "start": 0, "length": 0, "neighbour": "0005", "received": "02000000000102000000000222F300050009000402000000007702000000008881000005080'\
-'04500", "written": "02000000000502000000000122F30004000900040200000000770200000000888100000508004500"}],
- "handled": 1, "end": {"how": "left", "switch": "0001", "answer": 50, "towards": "0005", "words": "original left the campus towards 0005, sent by 0001"}}' ''
+  {"number": 1, "switch": "0001", "frame": "original", "hop_count": 5, "egress": "0009", "answer": 50, "meaning": "forwarded", "start": 0, "length": 0, "neighbour": "0005", "beside_neighbour": null, "received": "02000000000102000000000222F300050009000402000000007702000000008881000005080'\
+'04500", "written": "02000000000502000000000122F30004000900040200000000770200000000888100000508004500", "beside": null}],
+ "handled": 1, "replies": 0, "end": {"how": "left", "switch": "0001", "answer": 50, "towards": "0005", "words": "original left the campus towards 0005, sent by 0001"}}' ''
 run --json "$examples/refused-48.hex"
 expect 'JSON: refused' 3 '{"code": 48, "meaning": "entry switch unknown"}' "$(sed "s|^refused-48.hex|$examples/refused-48.hex|" "$examples/refused-48.err")"
 mkdir shown
@@ -269,7 +297,7 @@ explains 'an option past the area' "$received 0085 0009 0004 00000000 41860007 $
     '    24  41860007                  option IE 0 (hop-by-hop), NC 1 (not critical), Type 01, MT 1 (mutable), Length 6: at fault, 31 option past the options area'
 explains 'a critical option' "$received 0085 0001 0004 40000000 81020007 $inner" '  options area, 8 octets, not forwarded' \
     '    24  81020007                  option IE 1 (ingress-to-egress), NC 0 (critical), Type 01, MT 0 (immutable), Length 2' \
-    'answer 20: CHbH is 1, or CItE is 1 at the egress'
+    'answer 20: critical option or flag that affects us'
 explains 'an area that runs past the frame' "$received 0105 0009 0004 00000000 41820007" \
     '  options area, 16 octets, cut short, not forwarded' "    24  41820007                  $option" 'answer 18: options area runs past the frame'
 explains 'a delivered frame' "$received 0005 0001 0004 $inner" 'answer 51: delivered' 'delivered: the inner frame, 20 octets from octet 20 on' \
@@ -285,6 +313,20 @@ explains 'a TRILL header cut short' "$received 0005" '    14  0005              
 explains 'a few octets' '0200' '     0  0200                      the outer DA and SA: cut short'
 explains 'no octets' '' '     0  the frame ends, before the outer DA and SA'
 explains 'a tag cut short' '020000000001 020000000002 8100 00' '    12  810000                    the tag: cut short'
+
+printf '%s edition 2\nto 0009 via 0005 mac 02:00:00:00:00:05 serial 1\nto 0004 via 0006 mac 02:00:00:00:00:06 serial 1\n' "$switch" > settings
+explains 'an alert, and a reply beside' "$received 0045 0009 0004 81000000 $echo" '  header extension, 4 octets' \
+    '    20  81000000                  extended flags: CRHbH 1, CRItE 0, CRRsv 0, CRCAF 1, NCCAF 0' 'answer 50: forwarded' \
+    'written: 64 octets, to neighbour 0005' 'written beside it: 60 octets, to neighbour 0006'
+explains 'flags at fault' "$received 0045 0009 0004 01000000 $inner" '  header extension, 4 octets, not forwarded' \
+    '    20  01000000                  extended flags: CRHbH 0, CRItE 0, CRRsv 0, CRCAF 1, NCCAF 0: at fault, 38 critical flag and summary bit at odds, edition 2'
+explains 'flags of each kind' "$received 00C5 0009 0004 E0FAA8D5 01020304 05060708 $inner" \
+    '    20  E0FAA8D5                  extended flags: CRHbH 1, CRItE 1, CRRsv 1, CRCAF 0, NCCAF 1; non-critical hop-by-hop bit 9, 10, 11, 12; critical reserved bit 14, 16; non-critical reserved bit 18, 20; critical ingress-to-egress bit 24, 25; non-critical ingress-to-egress bit 27, 29, 31' \
+    '    24  0102030405060708          extensions, 8 octets, which are carried unread'
+explains 'an unknown critical flag' "$received 0045 0009 0004 90000000 $inner" \
+    '    20  90000000                  extended flags: CRHbH 1, CRItE 0, CRRsv 0, CRCAF 0, NCCAF 0; critical hop-by-hop bit 3' \
+    'answer 20: critical option or flag that affects us'
+printf '%s strip\nto 0009 via 0005 mac 02:00:00:00:00:05 serial 1\n' "$switch" > settings
 
 printf '%s\n' "$received 0005 0001 0009 0180C2000042 020000000088 8100 0001 8946 0FF8 4000 30000001 0200 000000000000 000000000000" > frame
 run --explain -c 5.25 settings frame

@@ -1,7 +1,10 @@
--- Wireshark dissectors of what TRILL frames carry: the options area (draft-ietf-trill-rbridge-options-03), and the RBridge Channel
--- (RFC 7178) with its error messages and the echo messages of channel protocol 0xFF8.
+-- Wireshark dissectors of what TRILL frames carry: the options area (draft-ietf-trill-rbridge-options-03) or the header extension (RFC 7179),
+-- and the RBridge Channel (RFC 7178) with its error messages and the echo messages of channel protocol 0xFF8.
 --
 --     tshark -X lua_script:staffripple.lua -r FILE -O trill_options,trill_channel
+--
+-- A frame does not say by which of the two its area is meant. It is shown as options; with -o trill_options.edition:2, as the switches of
+-- edition 2 read it.
 --
 -- or put it into the folder that `tshark -G folders` calls Personal Lua Plugins.
 
@@ -30,7 +33,29 @@ local option_fields = {
     data = ProtoField.bytes("trill_options.option.data", "Data"),
     padding = ProtoField.bytes("trill_options.option.padding", "Padding"),
 }
+-- Bit 0 is the highest.
+local flag_fields = {
+    {"crhbh", "CRHbH, some critical hop-by-hop extension", 0x80000000, true},
+    {"crite", "CRItE, some critical ingress-to-egress extension", 0x40000000, true},
+    {"crrsv", "CRRsv, some critical reserved extension", 0x20000000, true},
+    {"chbh", "Critical hop-by-hop flags, bits 3 to 6", 0x1E000000},
+    {"crcaf", "CRCAF, critical channel alert", 0x01000000, true},
+    {"nccaf", "NCCAF, non-critical channel alert", 0x00800000, true},
+    {"nchbh", "Non-critical hop-by-hop flags, bits 9 to 13", 0x007C0000},
+    {"crsv", "Critical reserved flags, bits 14 to 16", 0x00038000},
+    {"ncrsv", "Non-critical reserved flags, bits 17 to 20", 0x00007800},
+    {"cite", "Critical ingress-to-egress flags, bits 21 to 26", 0x000007E0},
+    {"ncite", "Non-critical ingress-to-egress flags, bits 27 to 31", 0x0000001F},
+}
+option_fields.flags = ProtoField.uint32("trill_options.flags", "Extended flags", base.HEX)
+option_fields.extensions = ProtoField.bytes("trill_options.extensions", "Extensions, carried unread")
+for _, flag in ipairs(flag_fields) do
+    local name, text, mask, single = table.unpack(flag)
+    local key = "trill_options.flags." .. name
+    option_fields["flags_" .. name] = single and ProtoField.bool(key, text, 32, nil, mask) or ProtoField.uint32(key, text, base.HEX, nil, mask)
+end
 options.fields = option_fields
+options.prefs.edition = Pref.uint("Edition of the header extension", 1, "1: the options draft; 2: the extended flags of RFC 7179")
 local area_cut = ProtoExpert.new("trill_options.cut", "The options area runs past the frame", expert.group.MALFORMED, expert.severity.ERROR)
 local option_past =
     ProtoExpert.new("trill_options.option.past", "The option runs past the options area", expert.group.MALFORMED, expert.severity.ERROR)
@@ -56,18 +81,34 @@ local function add_option(area, place, tree)
     return size
 end
 
-local function add_area(area, announced, tree)
-    local subtree = tree:add(options, area)
-    subtree:append_text(string.format(", %d octets", announced))
-    if area:len() < announced then subtree:add_proto_expert_info(area_cut) end
-    if area:len() < WORD then return end
-    local word = subtree:add(option_fields.word, area(0, WORD))
+local function add_options(area, tree)
+    local word = tree:add(option_fields.word, area(0, WORD))
     word:add(option_fields.chbh, area(0, WORD))
     word:add(option_fields.cite, area(0, WORD))
     word:add(option_fields.bits, area(0, WORD))
     local place = WORD
     while place + OPTION_HEADER <= area:len() do
-        place = place + add_option(area, place, subtree)
+        place = place + add_option(area, place, tree)
+    end
+end
+
+local function add_flags(area, tree)
+    local word = tree:add(option_fields.flags, area(0, WORD))
+    for _, flag in ipairs(flag_fields) do
+        word:add(option_fields["flags_" .. flag[1]], area(0, WORD))
+    end
+    if area:len() > WORD then tree:add(option_fields.extensions, area(WORD)) end
+end
+
+local function add_area(area, announced, tree)
+    local subtree = tree:add(options, area)
+    subtree:append_text(string.format(", %d octets", announced))
+    if area:len() < announced then subtree:add_proto_expert_info(area_cut) end
+    if area:len() < WORD then return end
+    if options.prefs.edition == 2 then
+        add_flags(area, subtree)
+    else
+        add_options(area, subtree)
     end
 end
 

@@ -1,19 +1,21 @@
 //! Campus description and its plain run.
 
-use crate::cause::Fault;
+use std::collections::VecDeque;
+
+use crate::cause::{Edition, Fault};
 use crate::handle::step;
 use crate::header::Header;
-use crate::settings::{Field, Seen, Station, Switch, MAX_FRAME};
+use crate::settings::{Field, Seen, Station, Switch, MAX_FRAME, MAX_REPLY};
 
 const MAX_FILE: usize = 32_768;
 const MAX_SWITCHES: usize = 16;
-/// Octets of the longest reply, which is an echo reply with a tag.
-const LONGEST_REPLY: usize = 576;
 /// Octets of an outer tag, by which a forwarded frame may be longer.
 const TAG: usize = 4;
 const ENTRY: usize = 8;
 /// At most 64 + 16 entries.
-pub(crate) const TRACE: usize = 80 * ENTRY;
+const TRACE: usize = 80 * ENTRY;
+/// At most 65 × 63 + 1 entries with a switch of edition 2.
+pub(crate) const TRACE_OF_EDITION_2: usize = 4096 * ENTRY;
 
 /// Code and number of trace entries of a campus call.
 #[repr(C)]
@@ -41,7 +43,12 @@ pub fn explain_run(description: &[u8], trace: &mut [u8]) -> Result<u32, Fault> {
     if trace.len() < TRACE {
         return Err(Fault::TraceRoom);
     }
-    Ok(Campus::read(description)?.run(trace))
+    let campus = Campus::read(description)?;
+    // The edition is known when the whole file is read.
+    if campus.has_edition_2() && trace.len() < TRACE_OF_EDITION_2 {
+        return Err(Fault::TraceRoomOfEdition2);
+    }
+    Ok(campus.run(trace))
 }
 
 /// An accepted description.
@@ -74,18 +81,24 @@ impl<'a> Campus<'a> {
         })
     }
 
+    fn has_edition_2(&self) -> bool {
+        let mut switches = self.switches.all().iter();
+        switches.any(|switch| switch.own().edition == Edition::Second)
+    }
+
     /// Runs the campus. What is written is no longer than the frame put in with
     /// a tag or the longest reply, and small buffers are sooner zeroed.
     fn run(&self, trace: &mut [u8]) -> u32 {
-        if self.frame.len() + TAG <= LONGEST_REPLY {
-            self.run_within(&mut [0; LONGEST_REPLY], &mut [0; LONGEST_REPLY], trace)
+        if self.frame.len() + TAG <= MAX_REPLY {
+            self.run_within(&mut [0; MAX_REPLY], &mut [0; MAX_REPLY], trace)
         } else {
             self.run_within(&mut [0; MAX_FRAME], &mut [0; MAX_FRAME], trace)
         }
     }
 
-    /// Handles the frame, then what each handling writes, until one writes
-    /// nothing or the frame leaves the campus. Gives the number of entries.
+    /// Handles the frame and what is forwarded of it until it stops or leaves
+    /// the campus, then each reply likewise in the order in which they were
+    /// made. Gives the number of entries.
     fn run_within<'b>(
         &self,
         mut received: &'b mut [u8],
@@ -95,23 +108,54 @@ impl<'a> Campus<'a> {
         let mut at = self.entry;
         let mut reply = false;
         let mut written = None;
+        let mut beside = [0; MAX_REPLY];
+        // Replies, each with the place of the switch to which it goes.
+        let mut waiting: VecDeque<(usize, Vec<u8>)> = VecDeque::new();
         for (count, entry) in (1..).zip(trace.chunks_exact_mut(ENTRY)) {
             let frame = written.map_or(self.frame, |length| &received[..length]);
             let switch = &self.switches.all()[at];
-            let step = step(switch, frame, &self.clock, sent);
+            let step = step(switch, frame, &self.clock, sent, &mut beside);
             let number = step.cause.number();
             write_entry(entry, switch.own().nickname, reply, number, frame);
+            // A reply for no switch of the campus leaves it and does not wait.
+            let waits = |neighbour, made: &[u8]| {
+                let place = self.switches.place(neighbour);
+                place.map(|place| (place, made.to_vec()))
+            };
             let next = match number {
-                50 | 53 | 54 => self.switches.place(step.neighbour),
+                50 => {
+                    if step.beside > 0 {
+                        let made = &beside[..step.beside.into()];
+                        waiting.extend(waits(step.beside_neighbour, made));
+                    }
+                    self.switches.place(step.neighbour)
+                }
+                // Nothing was made before it, so that it need not wait.
+                53 | 54 if waiting.is_empty() => {
+                    reply = true;
+                    self.switches.place(step.neighbour)
+                }
+                53 | 54 => {
+                    waiting.extend(waits(step.neighbour, &sent[..step.written.into()]));
+                    None
+                }
                 _ => None,
             };
-            let Some(next) = next else { return count };
-            at = next;
-            reply |= number != 50;
-            written = Some(usize::from(step.written));
-            std::mem::swap(&mut received, &mut sent);
+            if let Some(place) = next {
+                at = place;
+                written = Some(usize::from(step.written));
+                std::mem::swap(&mut received, &mut sent);
+            } else {
+                let Some((place, made)) = waiting.pop_front() else {
+                    return count;
+                };
+                at = place;
+                reply = true;
+                written = Some(made.len());
+                received[..made.len()].copy_from_slice(&made);
+            }
         }
-        unreachable!("a run has at most 80 handlings")
+        unreachable!("no run has more entries than the trace has room for")
     }
 }
 
@@ -136,7 +180,7 @@ impl<'a> Switches<'a> {
 
 /// Switch 2, frame 1, answer 1, hop count received 1, zero 1, egress 2; the
 /// last two are zero for a frame unreadable as TRILL.
-fn write_entry(entry: &mut [u8], nickname: u16, reply: bool, number: u32, frame: &[u8]) {
+fn write_entry(entry: &mut [u8], nickname: u16, reply: bool, number: u16, frame: &[u8]) {
     let (hop_count, egress) =
         Header::read(frame).map_or((0, 0), |header| (header.hop_count(), header.egress));
     let [n0, n1] = nickname.to_be_bytes();
@@ -182,6 +226,7 @@ impl<'a> Reader<'a> {
                 switch.add_record(record, seen)
             }
             Field::Strip(flag) => self.latest()?.0.set_strip(flag),
+            Field::Edition(edition) => self.latest()?.0.set_edition(edition),
             Field::Clock(clock) => match self.clock.replace(*clock) {
                 Some(_) => Err(Fault::SecondClock),
                 None => Ok(()),
@@ -194,7 +239,7 @@ impl<'a> Reader<'a> {
         }
     }
 
-    /// The switch to which records and strip flags belong.
+    /// The switch to which records, strip flags and editions belong.
     fn latest(&mut self) -> Result<(&mut Switch<'a>, &mut Seen), Fault> {
         let switches = &mut self.switches;
         let latest = switches.places[..switches.count].last_mut();

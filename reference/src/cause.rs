@@ -28,6 +28,8 @@ pub enum Fault {
     /// A record's VLAN above 4,094.
     OuterVlan,
     StripFlag,
+    /// An edition that is neither 1 nor 2.
+    Edition,
     /// Nickname of an earlier switch.
     NicknameMet,
     /// Over 16 switches.
@@ -39,6 +41,8 @@ pub enum Fault {
     EntryUnknown,
     /// Trace buffer under 640 octets.
     TraceRoom,
+    /// Trace buffer under 32,768 octets, with a switch of edition 2.
+    TraceRoomOfEdition2,
 }
 
 impl Fault {
@@ -59,12 +63,13 @@ impl Fault {
             | Fault::Neighbour
             | Fault::NeighbourMac
             | Fault::OuterVlan
-            | Fault::StripFlag => 44,
+            | Fault::StripFlag
+            | Fault::Edition => 44,
             Fault::NicknameMet => 45,
             Fault::Switches | Fault::Records => 46,
             Fault::SerialMet => 47,
             Fault::EntryUnknown => 48,
-            Fault::TraceRoom => 49,
+            Fault::TraceRoom | Fault::TraceRoomOfEdition2 => 49,
         }
     }
 }
@@ -94,6 +99,15 @@ pub enum Role {
     Egress,
 }
 
+/// Which header extension a switch speaks.
+#[derive(Clone, Copy, Debug, PartialEq, Eq, PartialOrd, Ord)]
+pub enum Edition {
+    /// The options draft, document 001.
+    First,
+    /// RFC 7179.
+    Second,
+}
+
 /// What makes an options area ill formed, in the order of the tests.
 #[derive(Clone, Copy, Debug, PartialEq, Eq, PartialOrd, Ord)]
 pub enum OptionFault {
@@ -111,7 +125,7 @@ pub enum OptionFault {
 }
 
 impl OptionFault {
-    fn number(self) -> u32 {
+    fn number(self) -> u16 {
         match self {
             OptionFault::ReservedLength => 30,
             OptionFault::PastArea => 31,
@@ -123,12 +137,62 @@ impl OptionFault {
     }
 }
 
+/// Kinds of critical flag, each with a summary bit.
+#[derive(Clone, Copy, Debug, PartialEq, Eq, PartialOrd, Ord)]
+pub enum FlagKind {
+    HopByHop,
+    ToEgress,
+    /// For switches of a class that does not exist yet.
+    Reserved,
+}
+
+/// What makes an extended flags word inconsistent.
+#[derive(Clone, Copy, Debug, PartialEq, Eq, PartialOrd, Ord)]
+pub enum FlagFault {
+    /// A critical flag, but its summary bit is 0.
+    Unsummed(FlagKind),
+    /// A summary bit with no flag of its kind in an area of one word.
+    Bare(FlagKind),
+}
+
+/// A channel alert; the critical one counts where both are set.
+#[derive(Clone, Copy, Debug, PartialEq, Eq, PartialOrd, Ord)]
+pub enum Alert {
+    Critical,
+    NonCritical,
+}
+
+/// What an alert meets in a frame that is forwarded all the same.
+#[derive(Clone, Copy, Debug, PartialEq, Eq, PartialOrd, Ord)]
+pub enum Alerted {
+    /// The inner frame is cut or has no good tag.
+    Unreadable,
+    /// Not to All-Egress-RBridges.
+    OtherDestination,
+    /// To All-Egress-RBridges, but not Ethertype 0x8946.
+    OtherEthertype,
+    /// A channel fault, with only the non-critical alert.
+    FaultPassedOver,
+    /// ERR is not 0, with only the non-critical alert.
+    ErrorFieldPassedOver,
+    /// An error, an echo reply or a bad echo body.
+    NoRequest,
+    /// An echo request that its egress would not answer.
+    Unanswered,
+    /// An echo request that we as its egress would give 20.
+    StopsEgress,
+    /// An echo request with a reply beside it.
+    Answered,
+}
+
 /// The condition that settled one handling, in the order of the answer table.
 #[derive(Clone, Copy, Debug, PartialEq, Eq, PartialOrd, Ord)]
 pub enum Cause {
     Settings(Fault),
     ClockLength,
     OutputRoom,
+    /// Second output buffer under 576 octets.
+    BesideRoom,
     FrameSize,
     /// Under 14 octets.
     LinkCut,
@@ -145,14 +209,18 @@ pub enum Cause {
     AreaPastFrame,
     /// The area is ill formed; the role plays no part in the answer.
     IllFormed(OptionFault, Role),
-    CriticalHopByHop,
-    CriticalToEgress,
+    /// The extended flags word is inconsistent, in either role.
+    Flags(FlagFault, Role),
+    CriticalHopByHop(Edition, Role),
+    CriticalToEgress(Edition),
     NoNextHop,
     /// The forwarded frame would have more than 2,048 octets.
     ForwardedSize,
     Forwarded,
     /// Forwarded with at least one option removed.
     ForwardedStripped,
+    /// Forwarded with an alert that met this.
+    ForwardedAlerted(Alert, Alerted),
     InnerCut,
     InnerTag,
     /// VLAN 0 or 4,095.
@@ -160,11 +228,11 @@ pub enum Cause {
     AnyRbridgeUnicast,
     Delivered,
     HandedUp,
-    /// Error reply with this code.
-    ErrorReply(u8),
+    /// Error reply with this code, in transit by a critical alert.
+    ErrorReply(u8, Role),
     /// Fault of this code with no error reply.
-    ErrorUnsent(u8, Silence),
-    ErrorField,
+    ErrorUnsent(u8, Silence, Role),
+    ErrorField(Role),
     ErrorHeard,
     EchoShort,
     EchoLong,
@@ -176,10 +244,11 @@ pub enum Cause {
 
 impl Cause {
     /// The answer number of documents 01 and 02.
-    pub fn number(self) -> u32 {
+    pub fn number(self) -> u16 {
         match self {
             Cause::Settings(_) | Cause::ClockLength => 1,
             Cause::OutputRoom => 2,
+            Cause::BesideRoom => 37,
             Cause::FrameSize => 3,
             Cause::LinkCut | Cause::TagCut | Cause::TrillCut => 10,
             Cause::NotTrill => 11,
@@ -191,18 +260,19 @@ impl Cause {
             Cause::HopCount => 17,
             Cause::AreaPastFrame => 18,
             Cause::IllFormed(fault, _) => fault.number(),
-            Cause::CriticalHopByHop | Cause::CriticalToEgress => 20,
+            Cause::Flags(..) => 38,
+            Cause::CriticalHopByHop(..) | Cause::CriticalToEgress(_) => 20,
             Cause::NoNextHop => 21,
             Cause::ForwardedSize => 29,
-            Cause::Forwarded | Cause::ForwardedStripped => 50,
+            Cause::Forwarded | Cause::ForwardedStripped | Cause::ForwardedAlerted(..) => 50,
             Cause::InnerCut => 22,
             Cause::InnerTag | Cause::Vlan => 23,
             Cause::AnyRbridgeUnicast => 24,
             Cause::Delivered => 51,
             Cause::HandedUp => 52,
-            Cause::ErrorReply(_) => 53,
+            Cause::ErrorReply(..) => 53,
             Cause::ErrorUnsent(..) => 25,
-            Cause::ErrorField => 26,
+            Cause::ErrorField(_) => 26,
             Cause::ErrorHeard => 55,
             Cause::EchoShort | Cause::EchoLong | Cause::EchoKind => 27,
             Cause::EchoHeard => 56,

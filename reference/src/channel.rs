@@ -5,7 +5,7 @@ use crate::octets::{put_u16, u16_at, Mac};
 use crate::settings::{NextHop, Own, Station};
 
 pub(crate) const ALL_EGRESS_RBRIDGES: Mac = [0x01, 0x80, 0xC2, 0x00, 0x00, 0x42];
-const CHANNEL: u16 = 0x8946;
+pub(crate) const CHANNEL: u16 = 0x8946;
 const ERROR_PROTOCOL: u16 = 0x001;
 const ECHO_PROTOCOL: u16 = 0xFF8;
 /// SL and MH, set in each reply.

@@ -3,8 +3,11 @@
 //! answer and every cause is met, near its boundary.
 
 mod areas;
+mod bursts;
 mod campuses;
+mod counts;
 mod faults;
+mod flags;
 mod frames;
 mod rng;
 mod switches;
@@ -14,6 +17,8 @@ use frames::Site;
 use rng::Rng;
 use switches::Settings;
 
+use crate::Counters;
+
 /// An input of the handling call.
 #[derive(Clone, Debug, PartialEq, Eq, Hash)]
 pub struct HandleInput {
@@ -22,6 +27,38 @@ pub struct HandleInput {
     pub clock: Vec<u8>,
     /// Octets of the lent output.
     pub room: usize,
+    /// Octets of the second lent output.
+    pub beside_room: usize,
+}
+
+/// Calls with one counters record, one after the other.
+#[derive(Clone, Debug, PartialEq, Eq, Hash)]
+pub struct CountedInput {
+    /// Before the first call.
+    pub counters: Counters,
+    pub calls: Vec<HandleInput>,
+}
+
+/// A reader's start, and the calls after it.
+#[derive(Clone, Debug, PartialEq, Eq, Hash)]
+pub struct ReaderInput {
+    pub settings: Vec<u8>,
+    pub clock: Vec<u8>,
+    /// Octets of both outputs, as the start is told.
+    pub room: usize,
+    pub beside_room: usize,
+    pub calls: Vec<ReaderCall>,
+}
+
+/// A call of a reader that was started.
+#[derive(Clone, Debug, PartialEq, Eq, Hash)]
+pub enum ReaderCall {
+    Burst(Vec<u8>),
+    /// The end mark, and octets of both lent outputs.
+    Mark {
+        room: usize,
+        beside_room: usize,
+    },
 }
 
 /// An input of the call that hands back a part of a frame.
@@ -55,6 +92,7 @@ pub fn handle_input(seed: u64, index: u64) -> HandleInput {
     let settings = Settings::new(&mut rng);
     let site = Site {
         mac: settings.mac,
+        edition: settings.edition,
         egress: settings.nickname,
         live: settings.live.clone(),
         dead: settings.dead.clone(),
@@ -65,6 +103,41 @@ pub fn handle_input(seed: u64, index: u64) -> HandleInput {
         settings: octets,
         clock: clock(&mut rng),
         room: room(&mut rng, 2048),
+        beside_room: room(&mut rng, 576),
+    }
+}
+
+/// Counters, near their greatest value or not, and calls, some of them repeated.
+pub fn counted_input(seed: u64, index: u64) -> CountedInput {
+    let mut rng = Rng::new(seed, 5, index);
+    let mut calls = Vec::new();
+    for number in 0..1 + rng.below(4) as u64 {
+        let call = handle_input(seed, index.wrapping_mul(4) + number);
+        let times = if rng.one_in(3) { 2 } else { 1 };
+        calls.extend(vec![call; times]);
+    }
+    CountedInput {
+        counters: counts::counters(&mut rng, calls.len()),
+        calls,
+    }
+}
+
+/// A frame for settings, cut in any way, and calls after its end.
+pub fn reader_input(seed: u64, index: u64) -> ReaderInput {
+    let HandleInput {
+        frame,
+        settings,
+        clock,
+        room,
+        beside_room,
+    } = handle_input(seed, index);
+    let mut rng = Rng::new(seed, 6, index);
+    ReaderInput {
+        settings,
+        clock,
+        room,
+        beside_room,
+        calls: bursts::calls(&mut rng, &frame),
     }
 }
 
@@ -160,16 +233,19 @@ pub fn way_input(seed: u64, index: u64) -> WayInput {
 /// A campus, valid or refused, and the room of its trace.
 pub fn campus_input(seed: u64, index: u64) -> CampusInput {
     let mut rng = Rng::new(seed, 3, index);
+    let plan = Plan::new(&mut rng);
     let description = match rng.below(100) {
         0 => {
             let size = rng.below(80);
             rng.octets(size)
         }
-        1..31 => Plan::new(&mut rng).spoiled(&mut rng),
-        _ => Plan::new(&mut rng).description(&mut rng),
+        1..31 => plan.spoiled(&mut rng),
+        _ => plan.description(&mut rng),
     };
-    CampusInput {
-        description,
-        room: room(&mut rng, 640),
-    }
+    let room = if plan.has_edition_2() && !rng.one_in(12) {
+        rng.pick(&[32_767, 32_768, 32_768, 32_768, 32_768, 32_769, 32_776])
+    } else {
+        room(&mut rng, 640)
+    };
+    CampusInput { description, room }
 }

@@ -1,14 +1,15 @@
 //! One handling: the answers in the order document 01 lists them.
 
-use crate::cause::{Cause, Role, Silence};
+use crate::cause::{Alert, Alerted, Cause, Edition, Role, Silence};
 use crate::channel::{
-    return_path, write_echo, write_error, Message, ReplyHead, ALL_EGRESS_RBRIDGES, ECHO_MAX,
-    ECHO_MIN, INNER_HEADER,
+    return_path, write_echo, write_error, Message, ReplyHead, ALL_EGRESS_RBRIDGES, CHANNEL,
+    ECHO_MAX, ECHO_MIN, INNER_HEADER,
 };
+use crate::flags;
 use crate::header::{Header, ANY_RBRIDGE, VLAN_TAG};
 use crate::octets::{put_u16, u16_at};
-use crate::options::{self, IllFormed};
-use crate::settings::{NextHop, Own, Station, Switch, MAX_FRAME};
+use crate::options::{self, IllFormed, Summary};
+use crate::settings::{NextHop, Own, Station, Switch, MAX_FRAME, MAX_REPLY};
 
 /// Inner Ethertype of frames that are handed up.
 const HANDED_UP: u16 = 0x22F4;
@@ -17,25 +18,32 @@ const HANDED_UP: u16 = 0x22F4;
 #[repr(C)]
 #[derive(Clone, Copy, Debug, PartialEq, Eq, Default)]
 pub struct Answer {
-    pub number: u32,
+    pub number: u16,
     /// Octets written at the start of the output.
-    pub written: u32,
+    pub written: u16,
     /// Place and length of the delivered part of the received frame; for 30 to
     /// 33 the place of the option at fault in the options area, with length 0.
-    pub start: u32,
-    pub length: u32,
+    pub start: u16,
+    pub length: u16,
+    /// Neighbour to which the written frame goes.
+    pub neighbour: u16,
+    /// Octets of the reply made beside 50, at the start of the second output.
+    pub beside: u16,
+    /// Neighbour to which that reply goes.
+    pub beside_neighbour: u16,
 }
 
-/// One handling within a run. The sizes are at most 2,048, and small ones let
-/// it be given back in registers.
+/// One handling within a run: an answer's fields, and the condition that settled
+/// its number. It is small enough to be given back in registers.
 #[derive(Clone, Copy)]
 pub(crate) struct Step {
     pub cause: Cause,
     pub written: u16,
     pub start: u16,
     pub length: u16,
-    /// Neighbour to which the written frame goes.
     pub neighbour: u16,
+    pub beside: u16,
+    pub beside_neighbour: u16,
 }
 
 impl Step {
@@ -47,6 +55,8 @@ impl Step {
             start: 0,
             length: 0,
             neighbour: 0,
+            beside: 0,
+            beside_neighbour: 0,
         }
     }
 
@@ -68,24 +78,40 @@ impl Step {
     pub(crate) fn answer(&self) -> Answer {
         Answer {
             number: self.cause.number(),
-            written: u32::from(self.written),
-            start: u32::from(self.start),
-            length: u32::from(self.length),
+            written: self.written,
+            start: self.start,
+            length: self.length,
+            neighbour: self.neighbour,
+            beside: self.beside,
+            beside_neighbour: self.beside_neighbour,
         }
     }
 }
 
 /// Answers one received frame (no FCS). Writes `out` for 50, 53 and 54 alone,
-/// and then its first `written` octets.
-pub fn handle(frame: &[u8], settings: &[u8], clock: &[u8], out: &mut [u8]) -> Answer {
-    explain(frame, settings, clock, out).0
+/// and then its first `written` octets; of `beside` the octets of a reply made
+/// beside 50.
+pub fn handle(
+    frame: &[u8],
+    settings: &[u8],
+    clock: &[u8],
+    out: &mut [u8],
+    beside: &mut [u8],
+) -> Answer {
+    explain(frame, settings, clock, out, beside).0
 }
 
 /// [`handle`], with the condition that settled the answer.
-pub fn explain(frame: &[u8], settings: &[u8], clock: &[u8], out: &mut [u8]) -> (Answer, Cause) {
+pub fn explain(
+    frame: &[u8],
+    settings: &[u8],
+    clock: &[u8],
+    out: &mut [u8],
+    beside: &mut [u8],
+) -> (Answer, Cause) {
     let mut switch = Switch::EMPTY;
     let step = match switch.read(settings) {
-        Ok(()) => admitted(&switch, frame, clock, out),
+        Ok(()) => admitted(&switch, frame, clock, out, beside),
         Err(fault) => Step::bare(Cause::Settings(fault)),
     };
     (step.answer(), step.cause)
@@ -93,24 +119,51 @@ pub fn explain(frame: &[u8], settings: &[u8], clock: &[u8], out: &mut [u8]) -> (
 
 /// [`handle`] for settings that are good.
 #[inline]
-pub(crate) fn admitted(switch: &impl Station, frame: &[u8], clock: &[u8], out: &mut [u8]) -> Step {
-    match admit(frame, clock, out) {
-        Ok(clock) => step(switch, frame, clock, out),
+pub(crate) fn admitted(
+    switch: &impl Station,
+    frame: &[u8],
+    clock: &[u8],
+    out: &mut [u8],
+    beside: &mut [u8],
+) -> Step {
+    match admit(frame, clock, out, beside) {
+        Ok(clock) => step(switch, frame, clock, out, beside),
         Err(cause) => Step::bare(cause),
     }
 }
 
-/// Answers 1, 2 and 3 for settings that are good.
+/// Answers 1, 2, 37 and 3 for settings that are good.
 #[inline]
-fn admit<'a>(frame: &[u8], clock: &'a [u8], out: &[u8]) -> Result<&'a [u8; 6], Cause> {
-    let clock = clock.try_into().map_err(|_| Cause::ClockLength)?;
-    if out.len() < MAX_FRAME {
-        return Err(Cause::OutputRoom);
-    }
+fn admit<'a>(
+    frame: &[u8],
+    clock: &'a [u8],
+    out: &[u8],
+    beside: &[u8],
+) -> Result<&'a [u8; 6], Cause> {
+    let clock = admit_clock(clock)?;
+    admit_rooms(out.len(), beside.len())?;
     if frame.len() > MAX_FRAME {
         return Err(Cause::FrameSize);
     }
     Ok(clock)
+}
+
+/// Answer 1 for a clock.
+#[inline]
+pub(crate) fn admit_clock(clock: &[u8]) -> Result<&[u8; 6], Cause> {
+    clock.try_into().map_err(|_| Cause::ClockLength)
+}
+
+/// Answers 2 and 37.
+#[inline]
+pub(crate) fn admit_rooms(room: usize, beside_room: usize) -> Result<(), Cause> {
+    if room < MAX_FRAME {
+        return Err(Cause::OutputRoom);
+    }
+    if beside_room < MAX_REPLY {
+        return Err(Cause::BesideRoom);
+    }
+    Ok(())
 }
 
 /// Hands back the part of `frame` that an answer delivers, or an empty part if
@@ -122,10 +175,16 @@ pub fn part(frame: &[u8], start: usize, length: usize) -> &[u8] {
         .unwrap_or_default()
 }
 
-/// One handling of a frame of at most 2,048 octets. The output has room for the
-/// frame and for the longest reply.
-pub(crate) fn step(switch: &impl Station, frame: &[u8], clock: &[u8; 6], out: &mut [u8]) -> Step {
-    receive(switch, frame, clock, out).unwrap_or_else(Step::bare)
+/// One handling of a frame of at most 2,048 octets. The outputs have room for
+/// the frame and for the longest reply.
+pub(crate) fn step(
+    switch: &impl Station,
+    frame: &[u8],
+    clock: &[u8; 6],
+    out: &mut [u8],
+    beside: &mut [u8],
+) -> Step {
+    receive(switch, frame, clock, out, beside).unwrap_or_else(Step::bare)
 }
 
 /// From the link header to the decision between transit and egress.
@@ -134,29 +193,48 @@ fn receive(
     frame: &[u8],
     clock: &[u8; 6],
     out: &mut [u8],
+    beside: &mut [u8],
 ) -> Result<Step, Cause> {
     let own = switch.own();
     let header = Header::read(frame)?;
-    check_header(&header, own, frame)?;
-    let area = frame.get(header.area_at()..header.inner_at());
-    let area = area.ok_or(Cause::AreaPastFrame)?;
+    check_header(&header, own)?;
+    let area = header.area().ok_or(Cause::AreaPastFrame)?;
     let role = role(&header, own);
-    let summary = match options::check(area) {
-        Ok(summary) => summary,
-        Err(ill_formed) => return Ok(Step::ill_formed(ill_formed, role)),
+    let summary = match own.edition {
+        Edition::First => match options::check(area) {
+            Ok(summary) => summary,
+            Err(ill_formed) => return Ok(Step::ill_formed(ill_formed, role)),
+        },
+        Edition::Second => flags::check(area).map_err(|fault| Cause::Flags(fault, role))?,
     };
     if summary.critical_hop_by_hop {
-        return Err(Cause::CriticalHopByHop);
+        return Err(Cause::CriticalHopByHop(own.edition, role));
     }
     if role == Role::Egress {
         if summary.critical_to_egress {
-            return Err(Cause::CriticalToEgress);
+            return Err(Cause::CriticalToEgress(own.edition));
         }
-        return deliver(switch, &header, frame, clock, out);
+        return deliver(switch, &header, clock, out);
     }
     let hop = switch.next_hop(header.egress).ok_or(Cause::NoNextHop)?;
-    let removed = if own.strip { summary.removable } else { 0 };
-    forward(own, &header, hop, removed, frame, out)
+    let Some(alert) = summary.alert else {
+        return forward(own, &header, hop, &summary, out);
+    };
+    let (found, request) = match alerted(switch, &header, &summary, alert) {
+        Found::Fault(code, silence) => {
+            return fault(switch, &header, Role::Transit, code, silence, out);
+        }
+        Found::ErrorField => return Err(Cause::ErrorField(Role::Transit)),
+        Found::Request(request) => (Alerted::Answered, Some(request)),
+        Found::Other(found) => (found, None),
+    };
+    let mut step = forward(own, &header, hop, &summary, out)?;
+    step.cause = Cause::ForwardedAlerted(alert, found);
+    if let Some(request) = request {
+        step.beside = request.answer(own, clock, beside) as u16;
+        step.beside_neighbour = request.hop.neighbour();
+    }
+    Ok(step)
 }
 
 fn role(header: &Header, own: &Own) -> Role {
@@ -168,8 +246,8 @@ fn role(header: &Header, own: &Own) -> Role {
 }
 
 /// Answers 12 to 17.
-fn check_header(header: &Header, own: &Own, frame: &[u8]) -> Result<(), Cause> {
-    if frame[..6] != own.mac {
+fn check_header(header: &Header, own: &Own) -> Result<(), Cause> {
+    if header.frame[..6] != own.mac {
         return Err(Cause::OuterDestination);
     }
     if header.version() != 0 {
@@ -191,19 +269,65 @@ fn check_header(header: &Header, own: &Own, frame: &[u8]) -> Result<(), Cause> {
     Ok(())
 }
 
+/// What an alert makes transit do with a message.
+enum Found<'a> {
+    /// A fault of this code, and what keeps its error reply back: no forwarding.
+    Fault(u8, Option<Silence>),
+    /// ERR is not 0: no forwarding.
+    ErrorField,
+    /// An echo request to be answered beside.
+    Request(Request<'a>),
+    /// Forwarded and nothing else.
+    Other(Alerted),
+}
+
+/// Reads a message in transit. An alert acts only on a readable inner frame to
+/// All-Egress-RBridges with Ethertype 0x8946, and only the critical one
+/// discards. A reply is made where we as the egress would make it.
+fn alerted<'a>(
+    switch: &impl Station,
+    header: &Header<'a>,
+    summary: &Summary,
+    alert: Alert,
+) -> Found<'a> {
+    let inner = header.inner();
+    if check_inner(inner).is_err() {
+        return Found::Other(Alerted::Unreadable);
+    }
+    if inner[..6] != ALL_EGRESS_RBRIDGES {
+        return Found::Other(Alerted::OtherDestination);
+    }
+    if u16_at(inner, 16) != CHANNEL {
+        return Found::Other(Alerted::OtherEthertype);
+    }
+    match (Message::read(inner), alert) {
+        (Message::Fault(code, silence), Alert::Critical) => Found::Fault(code, silence),
+        (Message::Fault(..), Alert::NonCritical) => Found::Other(Alerted::FaultPassedOver),
+        (Message::ErrorField, Alert::Critical) => Found::ErrorField,
+        (Message::ErrorField, Alert::NonCritical) => Found::Other(Alerted::ErrorFieldPassedOver),
+        (Message::Error, _) => Found::Other(Alerted::NoRequest),
+        (Message::Echo(body), _) => match Request::read(switch, header, body) {
+            Ok(_) if summary.critical_to_egress => Found::Other(Alerted::StopsEgress),
+            Ok(request) => Found::Request(request),
+            Err(Cause::EchoUnsent(_)) => Found::Other(Alerted::Unanswered),
+            Err(_) => Found::Other(Alerted::NoRequest),
+        },
+    }
+}
+
 /// Answers 29 and 50: the link header of the next hop, hop count one less, area
-/// without its removable options if they have `removed` octets, inner frame
+/// without its removable options if the strip flag is set, inner frame
 /// unchanged.
 fn forward(
     own: &Own,
     header: &Header,
     hop: NextHop,
-    removed: usize,
-    frame: &[u8],
+    summary: &Summary,
     out: &mut [u8],
 ) -> Result<Step, Cause> {
+    let frame = header.frame;
     let (area_at, inner_at) = (header.area_at(), header.inner_at());
-    let area = &frame[area_at..inner_at];
+    let removed = if own.strip { summary.removable } else { 0 };
     let start = hop.link_header() + 6;
     let written = start + (frame.len() - area_at) - removed;
     // What would be written counts, not what was received.
@@ -211,12 +335,12 @@ fn forward(
         return Err(Cause::ForwardedSize);
     }
     let (head, rest) = out[..written].split_at_mut(start);
-    let area_octets = area.len() - removed;
+    let area_octets = inner_at - area_at - removed;
     let cause = if removed == 0 {
         rest.copy_from_slice(&frame[area_at..]);
         Cause::Forwarded
     } else {
-        options::strip(area, rest);
+        options::strip(&frame[area_at..inner_at], rest);
         rest[area_octets..].copy_from_slice(&frame[inner_at..]);
         Cause::ForwardedStripped
     };
@@ -227,16 +351,8 @@ fn forward(
     Ok(Step::sent(cause, written, hop))
 }
 
-/// Answers from 22 on: we are the egress.
-fn deliver(
-    switch: &impl Station,
-    header: &Header,
-    frame: &[u8],
-    clock: &[u8; 6],
-    out: &mut [u8],
-) -> Result<Step, Cause> {
-    let start = header.inner_at();
-    let inner = &frame[start..];
+/// Answers 22 and 23.
+fn check_inner(inner: &[u8]) -> Result<(), Cause> {
     if inner.len() < INNER_HEADER {
         return Err(Cause::InnerCut);
     }
@@ -246,8 +362,20 @@ fn deliver(
     if matches!(u16_at(inner, 14) & 0x0FFF, 0 | 0xFFF) {
         return Err(Cause::Vlan);
     }
+    Ok(())
+}
+
+/// Answers from 22 on: we are the egress.
+fn deliver(
+    switch: &impl Station,
+    header: &Header,
+    clock: &[u8; 6],
+    out: &mut [u8],
+) -> Result<Step, Cause> {
+    let inner = header.inner();
+    check_inner(inner)?;
     let delivered = |cause| Step {
-        start: start as u16,
+        start: header.inner_at() as u16,
         length: inner.len() as u16,
         ..Step::bare(cause)
     };
@@ -261,10 +389,14 @@ fn deliver(
         return Ok(delivered(Cause::HandedUp));
     }
     match Message::read(inner) {
-        Message::Fault(code, silence) => fault(switch, header, code, silence, frame, out),
-        Message::ErrorField => Err(Cause::ErrorField),
+        Message::Fault(code, silence) => fault(switch, header, Role::Egress, code, silence, out),
+        Message::ErrorField => Err(Cause::ErrorField(Role::Egress)),
         Message::Error => Err(Cause::ErrorHeard),
-        Message::Echo(body) => echo(switch, header, body, clock, out),
+        Message::Echo(body) => {
+            let request = Request::read(switch, header, body)?;
+            let written = request.answer(switch.own(), clock, out);
+            Ok(Step::sent(Cause::EchoReply, written, request.hop))
+        }
     }
 }
 
@@ -272,12 +404,12 @@ fn deliver(
 fn fault(
     switch: &impl Station,
     header: &Header,
+    role: Role,
     code: u8,
     silence: Option<Silence>,
-    frame: &[u8],
     out: &mut [u8],
 ) -> Result<Step, Cause> {
-    let unsent = |silence| Cause::ErrorUnsent(code, silence);
+    let unsent = |silence| Cause::ErrorUnsent(code, silence, role);
     if let Some(silence) = silence {
         return Err(unsent(silence));
     }
@@ -287,38 +419,43 @@ fn fault(
         ingress: header.ingress,
         hop,
     };
-    let written = write_error(out, &head, code, &frame[header.ethertype_at..]);
-    Ok(Step::sent(Cause::ErrorReply(code), written, hop))
+    let written = write_error(out, &head, code, &header.frame[header.ethertype_at..]);
+    Ok(Step::sent(Cause::ErrorReply(code, role), written, hop))
 }
 
-/// Answers 27, 56, 54 and 28.
-fn echo(
-    switch: &impl Station,
-    header: &Header,
-    body: &[u8],
-    clock: &[u8; 6],
-    out: &mut [u8],
-) -> Result<Step, Cause> {
-    if body.len() < ECHO_MIN {
-        return Err(Cause::EchoShort);
+/// An echo request that is answered: 54 at its egress.
+struct Request<'a> {
+    ingress: u16,
+    /// The way back.
+    hop: NextHop,
+    body: &'a [u8],
+}
+
+impl<'a> Request<'a> {
+    /// Answers 27, 56 and 28.
+    fn read(switch: &impl Station, header: &Header, body: &'a [u8]) -> Result<Self, Cause> {
+        if body.len() < ECHO_MIN {
+            return Err(Cause::EchoShort);
+        }
+        if body.len() > ECHO_MAX {
+            return Err(Cause::EchoLong);
+        }
+        match body[0] >> 4 {
+            3 => {}
+            4 => return Err(Cause::EchoHeard),
+            _ => return Err(Cause::EchoKind),
+        }
+        if body[4] != 2 {
+            return Err(Cause::EchoUnsent(Silence::ReplyMode));
+        }
+        let ingress = header.ingress;
+        let hop = return_path(switch, ingress).map_err(Cause::EchoUnsent)?;
+        Ok(Request { ingress, hop, body })
     }
-    if body.len() > ECHO_MAX {
-        return Err(Cause::EchoLong);
+
+    /// Writes the reply and gives its octets.
+    fn answer(&self, own: &Own, clock: &[u8; 6], out: &mut [u8]) -> usize {
+        let (ingress, hop) = (self.ingress, self.hop);
+        write_echo(out, &ReplyHead { own, ingress, hop }, self.body, clock)
     }
-    match body[0] >> 4 {
-        3 => {}
-        4 => return Err(Cause::EchoHeard),
-        _ => return Err(Cause::EchoKind),
-    }
-    if body[4] != 2 {
-        return Err(Cause::EchoUnsent(Silence::ReplyMode));
-    }
-    let hop = return_path(switch, header.ingress).map_err(Cause::EchoUnsent)?;
-    let head = ReplyHead {
-        own: switch.own(),
-        ingress: header.ingress,
-        hop,
-    };
-    let written = write_echo(out, &head, body, clock);
-    Ok(Step::sent(Cause::EchoReply, written, hop))
 }

@@ -11,7 +11,9 @@ pub(crate) const ANY_RBRIDGE: u16 = 0xFFC0;
 const TYPE_AND_HEADER: usize = 8;
 
 /// A frame readable as TRILL.
-pub(crate) struct Header {
+pub(crate) struct Header<'a> {
+    /// The whole frame as received.
+    pub frame: &'a [u8],
     /// Place of the TRILL Ethertype, 12 or 16.
     pub ethertype_at: usize,
     /// V 2, R 2, M 1, Op-Length 5, Hop Count 6.
@@ -20,10 +22,10 @@ pub(crate) struct Header {
     pub ingress: u16,
 }
 
-impl Header {
+impl<'a> Header<'a> {
     /// Answers 10 and 11; one tag 0x8100 is skipped unread.
     #[inline]
-    pub(crate) fn read(frame: &[u8]) -> Result<Self, Cause> {
+    pub(crate) fn read(frame: &'a [u8]) -> Result<Self, Cause> {
         if frame.len() < 14 {
             return Err(Cause::LinkCut);
         }
@@ -38,6 +40,7 @@ impl Header {
         let header = frame.get(ethertype_at + 2..ethertype_at + TYPE_AND_HEADER);
         let header = header.ok_or(Cause::TrillCut)?;
         Ok(Header {
+            frame,
             ethertype_at,
             word: u16_at(header, 0),
             egress: u16_at(header, 2),
@@ -72,5 +75,15 @@ impl Header {
     /// Place of the inner frame, after 4 × Op-Length octets of options.
     pub(crate) fn inner_at(&self) -> usize {
         self.area_at() + usize::from(self.word >> 6 & 0x1F) * 4
+    }
+
+    /// The options area, if it does not run past the frame.
+    pub(crate) fn area(&self) -> Option<&'a [u8]> {
+        self.frame.get(self.area_at()..self.inner_at())
+    }
+
+    /// The inner frame, behind an area that does not run past the frame.
+    pub(crate) fn inner(&self) -> &'a [u8] {
+        &self.frame[self.inner_at()..]
     }
 }

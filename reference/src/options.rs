@@ -1,6 +1,6 @@
 //! The options area: summary word, then TLV options in order of their keys.
 
-use crate::cause::OptionFault;
+use crate::cause::{Alert, OptionFault};
 use crate::octets::u16_at;
 
 /// Places in an option's key: IE 1, NC 1, Type 6, MT 1.
@@ -16,15 +16,17 @@ const PAD: u16 = NC | 0x20 << 1;
 /// First of the reserved Lengths.
 const RESERVED_LENGTH: u16 = 119;
 
-/// What a well-formed area says to the handler.
+/// What a well-formed area says to the handler, in either edition.
 #[derive(Default)]
 pub(crate) struct Summary {
-    /// CHbH.
+    /// CHbH; in edition 2 a critical hop-by-hop flag other than the alert.
     pub critical_hop_by_hop: bool,
-    /// CItE.
+    /// CItE or CRItE.
     pub critical_to_egress: bool,
     /// Octets of the options that go when the strip flag is set.
     pub removable: usize,
+    /// Edition 2 alone.
+    pub alert: Option<Alert>,
 }
 
 /// Why an area is ill formed, and the place in it of the option at fault: 0 if
@@ -96,7 +98,7 @@ pub(crate) fn check(area: &[u8]) -> Result<Summary, IllFormed> {
     let mut summary = Summary {
         critical_hop_by_hop: first & 0x80 != 0,
         critical_to_egress: first & 0x40 != 0,
-        removable: 0,
+        ..Summary::default()
     };
     let mut previous = None;
     // Kinds of critical option met.

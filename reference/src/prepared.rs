@@ -60,6 +60,12 @@ impl Station for Prepared {
 }
 
 /// [`handle`](crate::handle()) with settings that were read before.
-pub fn handle_prepared(frame: &[u8], prepared: &Prepared, clock: &[u8], out: &mut [u8]) -> Answer {
-    admitted(prepared, frame, clock, out).answer()
+pub fn handle_prepared(
+    frame: &[u8],
+    prepared: &Prepared,
+    clock: &[u8],
+    out: &mut [u8],
+    beside: &mut [u8],
+) -> Answer {
+    admitted(prepared, frame, clock, out, beside).answer()
 }

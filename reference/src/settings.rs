@@ -1,6 +1,6 @@
 //! Fields of settings and descriptions, the settings rules, next-hop records.
 
-use crate::cause::Fault;
+use crate::cause::{Edition, Fault};
 use crate::header::{TRILL, VLAN_TAG};
 use crate::octets::{put_u16, Mac};
 
@@ -11,6 +11,8 @@ const MAX_RECORDS: usize = 64;
 const LAST_VLAN: u16 = 4094;
 /// Greatest frame, and least output buffer.
 pub(crate) const MAX_FRAME: usize = 2048;
+/// Greatest reply, an echo reply with a tag, and least second output buffer.
+pub(crate) const MAX_REPLY: usize = 576;
 const MAC_BITS: u64 = 0xFFFF_FFFF_FFFF;
 
 /// One field: one-byte tag, two-byte length, value.
@@ -25,6 +27,8 @@ pub(crate) enum Field<'a> {
     Clock(&'a [u8; 6]),
     /// Tag 5: entry switch, frame.
     Frame(u16, &'a [u8]),
+    /// Tag 6: edition of the header extension.
+    Edition(u8),
 }
 
 impl<'a> Field<'a> {
@@ -56,7 +60,8 @@ impl<'a> Field<'a> {
             (5, &[e0, e1, ref frame @ ..]) if frame.len() <= MAX_FRAME => {
                 Some(Field::Frame(u16::from_be_bytes([e0, e1]), frame))
             }
-            (2 | 3 | 5, _) => None,
+            (6, &[edition]) => Some(Field::Edition(edition)),
+            (2 | 3 | 5 | 6, _) => None,
             _ => return Err(Fault::UnknownTag),
         };
         field.ok_or(Fault::Length)
@@ -102,6 +107,7 @@ pub(crate) struct Own {
     pub nickname: u16,
     pub mac: Mac,
     pub strip: bool,
+    pub edition: Edition,
 }
 
 impl Own {
@@ -146,13 +152,14 @@ impl<'a> Switch<'a> {
             nickname: 0,
             mac: [0; 6],
             strip: false,
+            edition: Edition::First,
         },
         count: 0,
         fields: &[],
     };
 
-    /// Fills an empty switch from settings octets: one tag 1 field, then tag 2
-    /// and 3 fields alone.
+    /// Fills an empty switch from settings octets: one tag 1 field, then tag 2,
+    /// 3 and 6 fields alone.
     #[inline]
     pub(crate) fn read(&mut self, settings: &'a [u8]) -> Result<(), Fault> {
         let mut rest = settings;
@@ -165,6 +172,7 @@ impl<'a> Switch<'a> {
             match Field::take(&mut rest)? {
                 Field::Record(record) => self.add_record(record, &mut seen)?,
                 Field::Strip(flag) => self.set_strip(flag)?,
+                Field::Edition(edition) => self.set_edition(edition)?,
                 _ => return Err(Fault::NotSettings),
             }
         }
@@ -222,6 +230,17 @@ impl<'a> Switch<'a> {
             return Err(Fault::StripFlag);
         }
         self.own.strip = flag == 1;
+        Ok(())
+    }
+
+    /// The last edition given counts.
+    #[inline]
+    pub(crate) fn set_edition(&mut self, edition: u8) -> Result<(), Fault> {
+        self.own.edition = match edition {
+            1 => Edition::First,
+            2 => Edition::Second,
+            _ => return Err(Fault::Edition),
+        };
         Ok(())
     }
 

@@ -2,13 +2,13 @@
 
 use std::fmt::Write;
 
-use crate::campus::{run, TRACE};
+use crate::campus::{run, TRACE_OF_EDITION_2};
 use crate::octets::u16_at;
 
 /// The program's whole standard output for a description. Each line ends in
 /// LF; a refusal prints only its code.
 pub fn text(description: &[u8]) -> Vec<u8> {
-    let mut trace = [0; TRACE];
+    let mut trace = vec![0; TRACE_OF_EDITION_2];
     let outcome = run(description, &mut trace);
     if outcome.code != 0 {
         return format!("refused {}\n", outcome.code).into_bytes();

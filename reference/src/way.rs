@@ -19,7 +19,7 @@ pub fn way_out(settings: &[u8], destination: u16, out: &mut [u8]) -> Way {
     match write(settings, destination, out) {
         Ok(length) => Way { number: 0, length },
         Err(cause) => Way {
-            number: cause.number(),
+            number: cause.number().into(),
             length: 0,
         },
     }

@@ -6,20 +6,30 @@
 pub const TRILL_FRAME_MOST: usize = 2048;
 /// Octets that the output buffer must have.
 pub const TRILL_OUTPUT_LEAST: usize = 2048;
+/// Octets that the second output buffer must have: those of the longest reply.
+pub const TRILL_BESIDE_LEAST: usize = 576;
 /// Octets of a clock: 3 for seconds, 3 for microseconds.
 pub const TRILL_CLOCK: usize = 6;
 /// Words of a store of prepared settings.
 pub const TRILL_PREPARED_WORDS: usize = 164;
+/// Words of a reader.
+pub const TRILL_READER_WORDS: usize = 168;
+/// Octets that the buffer must have in which a reader gathers.
+pub const TRILL_GATHERED_LEAST: usize = 2048;
+/// Every answer's number is under it.
+pub const TRILL_ANSWER_NUMBERS: usize = 64;
 /// Octets of the longest link header that the way out writes.
 pub const TRILL_LINK_MOST: usize = 18;
 /// Octets of a description: a longer one is refused.
 pub const CAMPUS_DESCRIPTION_MOST: usize = 32768;
 /// Octets that the trace buffer must have.
 pub const CAMPUS_TRACE_LEAST: usize = 640;
+/// Octets that the trace buffer must have with a switch of edition 2.
+pub const CAMPUS_TRACE_MOST: usize = 32768;
 /// Octets of a trace entry.
 pub const CAMPUS_ENTRY: usize = 8;
 /// Octets of the longest text.
-pub const CAMPUS_TEXT_MOST: usize = 1451;
+pub const CAMPUS_TEXT_MOST: usize = 73741;
 
 /// Constants, and a table of their names and meanings.
 macro_rules! numbers {
@@ -36,6 +46,7 @@ numbers! {
     TRILL_REFUSED_SETTINGS = 1, "settings bad, or clock not six octets";
     TRILL_REFUSED_OUTPUT = 2, "output buffer under 2,048 octets";
     TRILL_REFUSED_FRAME = 3, "frame over 2,048 octets";
+    TRILL_REFUSED_COUNTERS = 4, "a counter or the total at its greatest value";
     TRILL_DROP_SHORT = 10, "link header or TRILL header cut short";
     TRILL_DROP_ETHERTYPE = 11, "Ethertype not 0x22F3";
     TRILL_DROP_OUTER_DA = 12, "outer DA not own MAC";
@@ -45,7 +56,7 @@ numbers! {
     TRILL_DROP_EGRESS = 16, "egress nickname 0 or above 0xFFC0";
     TRILL_DROP_HOP_COUNT = 17, "hop count 0";
     TRILL_DROP_OPTIONS_PAST = 18, "options area runs past the frame";
-    TRILL_DROP_CRITICAL = 20, "CHbH is 1, or CItE is 1 at the egress";
+    TRILL_DROP_CRITICAL = 20, "critical option or flag that affects us";
     TRILL_DROP_NO_NEXT_HOP = 21, "not the egress and no next hop";
     TRILL_DROP_INNER_SHORT = 22, "inner frame under 18 octets";
     TRILL_DROP_INNER_TAG = 23, "inner tag type not 0x8100, or VLAN 0 or 4,095";
@@ -61,6 +72,9 @@ numbers! {
     TRILL_DROP_OPTION_EQUAL = 33, "option key equal to the one before";
     TRILL_DROP_CHBH_MISSING = 34, "critical hop-by-hop option, CHbH is 0";
     TRILL_DROP_CITE_MISSING = 35, "critical ingress-to-egress option, CItE is 0";
+    TRILL_REFUSED_ENDED = 36, "burst or mark after the end mark";
+    TRILL_REFUSED_BESIDE = 37, "second output buffer under 576 octets";
+    TRILL_DROP_FLAGS = 38, "critical flag and summary bit at odds, edition 2";
     TRILL_FORWARDED = 50, "forwarded";
     TRILL_DELIVERED = 51, "delivered";
     TRILL_HANDED_UP = 52, "handed up: inner DA All-Egress-RBridges, Ethertype 0x22F4";
@@ -78,12 +92,12 @@ numbers! {
     CAMPUS_REFUSED_CUT = 41, "field cut short";
     CAMPUS_REFUSED_TAG = 42, "unknown tag or length";
     CAMPUS_REFUSED_PLACE = 43, "tag out of place, or no tag 5 at the end";
-    CAMPUS_REFUSED_VALUE = 44, "value outside the settings rules, or strip flag above 1";
+    CAMPUS_REFUSED_VALUE = 44, "value outside the settings rules";
     CAMPUS_REFUSED_NICKNAME = 45, "nickname of an earlier switch";
     CAMPUS_REFUSED_NUMBER = 46, "over 16 switches, or over 64 records at a switch";
     CAMPUS_REFUSED_SERIAL = 47, "serial met before for that destination at that switch";
     CAMPUS_REFUSED_ENTRY = 48, "entry switch unknown";
-    CAMPUS_REFUSED_TRACE = 49, "trace buffer under 640 octets";
+    CAMPUS_REFUSED_TRACE = 49, "trace buffer under 640 octets, or under 32,768 with edition 2";
 }
 
 fn meaning(table: &[(&str, u32, &'static str)], number: u32) -> &'static str {
@@ -96,30 +110,63 @@ fn meaning(table: &[(&str, u32, &'static str)], number: u32) -> &'static str {
 #[derive(Clone, Copy, Debug, PartialEq, Eq)]
 pub struct Answer {
     /// One of [`TRILL_ANSWERS`].
-    pub number: u32,
+    pub number: u16,
     /// Octets written at the start of the output, 0 where nothing is.
-    pub written: u32,
+    pub written: u16,
     /// Where the delivered part begins in the frame; of 30 to 33 the option's
     /// place in the options area; 0 where there is none.
-    pub start: u32,
+    pub start: u16,
     /// Octets of the delivered part, 0 where there is none.
-    pub length: u32,
+    pub length: u16,
+    /// Nickname of the neighbour to which the output goes, 0 where nothing is
+    /// written.
+    pub neighbour: u16,
+    /// Octets of the reply beside a forwarded frame, at the start of the second
+    /// output; 0 where there is none.
+    pub beside: u16,
+    /// Nickname of the neighbour to which that reply goes, 0 where there is none.
+    pub beside_neighbour: u16,
 }
 
 impl Answer {
     /// What the number means, in a few words.
     pub fn meaning(&self) -> &'static str {
-        meaning(TRILL_ANSWERS, self.number)
+        meaning(TRILL_ANSWERS, self.number.into())
     }
 
     /// The frame to send, of the output that was lent; empty where there is none.
     pub fn written<'a>(&self, out: &'a [u8]) -> &'a [u8] {
-        part(out, 0, self.written as usize)
+        part(out, 0, self.written.into())
+    }
+
+    /// The reply to send beside it, of the second output; empty where there is none.
+    pub fn beside<'a>(&self, beside: &'a [u8]) -> &'a [u8] {
+        part(beside, 0, self.beside.into())
     }
 
     /// The inner frame, of the frame that was handled; empty where none is delivered.
     pub fn delivered<'a>(&self, frame: &'a [u8]) -> &'a [u8] {
-        part(frame, self.start as usize, self.length as usize)
+        part(frame, self.start.into(), self.length.into())
+    }
+}
+
+/// How often each answer was given, and how often any; lent to
+/// [`handle_counted`], which counts where it is.
+#[repr(C)]
+#[derive(Clone, Copy, Debug, PartialEq, Eq, Hash)]
+pub struct Counters {
+    /// The counter of each number, used or not.
+    pub by_answer: [u64; TRILL_ANSWER_NUMBERS],
+    /// The counted calls.
+    pub total: u64,
+}
+
+impl Default for Counters {
+    fn default() -> Self {
+        Counters {
+            by_answer: [0; TRILL_ANSWER_NUMBERS],
+            total: 0,
+        }
     }
 }
 
@@ -161,7 +208,7 @@ pub struct Printed {
 }
 
 mod symbols {
-    use super::{Answer, Outcome, Printed, WayOut};
+    use super::{Answer, Counters, Outcome, Printed, WayOut};
 
     extern "C" {
         pub fn trill_handle(
@@ -173,6 +220,22 @@ mod symbols {
             clock_len: usize,
             out: *mut u8,
             out_len: usize,
+            beside: *mut u8,
+            beside_len: usize,
+        ) -> Answer;
+
+        pub fn trill_handle_counted(
+            counters: *mut Counters,
+            frame: *const u8,
+            frame_len: usize,
+            settings: *const u8,
+            settings_len: usize,
+            clock: *const u8,
+            clock_len: usize,
+            out: *mut u8,
+            out_len: usize,
+            beside: *mut u8,
+            beside_len: usize,
         ) -> Answer;
 
         pub fn trill_prepare(
@@ -191,6 +254,39 @@ mod symbols {
             clock_len: usize,
             out: *mut u8,
             out_len: usize,
+            beside: *mut u8,
+            beside_len: usize,
+        ) -> Answer;
+
+        pub fn trill_reader_start(
+            reader: *mut u64,
+            words: usize,
+            settings: *const u8,
+            settings_len: usize,
+            clock: *const u8,
+            clock_len: usize,
+            out_len: usize,
+            beside_len: usize,
+        ) -> u32;
+
+        pub fn trill_reader_burst(
+            reader: *mut u64,
+            words: usize,
+            gathered: *mut u8,
+            gathered_len: usize,
+            octets: *const u8,
+            len: usize,
+        ) -> u32;
+
+        pub fn trill_reader_mark(
+            reader: *mut u64,
+            words: usize,
+            gathered: *const u8,
+            gathered_len: usize,
+            out: *mut u8,
+            out_len: usize,
+            beside: *mut u8,
+            beside_len: usize,
         ) -> Answer;
 
         pub fn trill_way_out(
@@ -228,9 +324,15 @@ mod symbols {
 /// Handles one received frame at the switch of these settings; `trill_handle`
 /// in C.
 #[inline]
-pub fn handle(frame: &[u8], settings: &[u8], clock: &[u8], out: &mut [u8]) -> Answer {
+pub fn handle(
+    frame: &[u8],
+    settings: &[u8],
+    clock: &[u8],
+    out: &mut [u8],
+    beside: &mut [u8],
+) -> Answer {
     // SAFETY: the call takes any lengths. The slices are valid for theirs, and
-    // `out`, which alone is written, overlaps none of the others.
+    // `out` and `beside`, which alone are written, overlap no other.
     unsafe {
         symbols::trill_handle(
             frame.as_ptr(),
@@ -241,6 +343,39 @@ pub fn handle(frame: &[u8], settings: &[u8], clock: &[u8], out: &mut [u8]) -> An
             clock.len(),
             out.as_mut_ptr(),
             out.len(),
+            beside.as_mut_ptr(),
+            beside.len(),
+        )
+    }
+}
+
+/// The same, counted: 4, which changes nothing, if a counter or the total is at
+/// its greatest value; `trill_handle_counted` in C.
+#[inline]
+pub fn handle_counted(
+    counters: &mut Counters,
+    frame: &[u8],
+    settings: &[u8],
+    clock: &[u8],
+    out: &mut [u8],
+    beside: &mut [u8],
+) -> Answer {
+    // SAFETY: the call takes any lengths and any counters. The slices are valid
+    // for theirs, and what is written, the counters and both outputs, overlaps
+    // no other.
+    unsafe {
+        symbols::trill_handle_counted(
+            counters,
+            frame.as_ptr(),
+            frame.len(),
+            settings.as_ptr(),
+            settings.len(),
+            clock.as_ptr(),
+            clock.len(),
+            out.as_mut_ptr(),
+            out.len(),
+            beside.as_mut_ptr(),
+            beside.len(),
         )
     }
 }
@@ -265,9 +400,15 @@ pub fn prepare(settings: &[u8], store: &mut [u64]) -> u32 {
 /// Handles one received frame at the switch of a store, which may hold any
 /// words; `trill_handle_prepared` in C.
 #[inline]
-pub fn handle_prepared(frame: &[u8], store: &[u64], clock: &[u8], out: &mut [u8]) -> Answer {
+pub fn handle_prepared(
+    frame: &[u8],
+    store: &[u64],
+    clock: &[u8],
+    out: &mut [u8],
+    beside: &mut [u8],
+) -> Answer {
     // SAFETY: the call takes any lengths and any words. The slices are valid for
-    // theirs, and `out`, which alone is written, overlaps none of the others.
+    // theirs, and `out` and `beside`, which alone are written, overlap no other.
     unsafe {
         symbols::trill_handle_prepared(
             frame.as_ptr(),
@@ -278,6 +419,81 @@ pub fn handle_prepared(frame: &[u8], store: &[u64], clock: &[u8], out: &mut [u8]
             clock.len(),
             out.as_mut_ptr(),
             out.len(),
+            beside.as_mut_ptr(),
+            beside.len(),
+        )
+    }
+}
+
+/// Begins a frame in bursts with [`TRILL_READER_WORDS`] words of state: 0, or
+/// the early answer 1, 2 or 37; `trill_reader_start` in C. The lengths are those
+/// of the outputs that will be lent at the mark.
+#[inline]
+pub fn reader_start(
+    reader: &mut [u64],
+    settings: &[u8],
+    clock: &[u8],
+    out_len: usize,
+    beside_len: usize,
+) -> u32 {
+    // SAFETY: the call takes any lengths and any words. The slices are valid for
+    // theirs, and `reader`, which alone is written, overlaps no other.
+    unsafe {
+        symbols::trill_reader_start(
+            reader.as_mut_ptr(),
+            reader.len(),
+            settings.as_ptr(),
+            settings.len(),
+            clock.as_ptr(),
+            clock.len(),
+            out_len,
+            beside_len,
+        )
+    }
+}
+
+/// Takes a burst into `gathered`, which has [`TRILL_GATHERED_LEAST`] octets or more
+/// and is lent to each call: 0, the early answer, or 36 after the mark;
+/// `trill_reader_burst` in C.
+#[inline]
+pub fn reader_burst(reader: &mut [u64], gathered: &mut [u8], octets: &[u8]) -> u32 {
+    // SAFETY: the call takes any lengths and any words. The slices are valid for
+    // theirs, and `reader` and `gathered`, which alone are written, overlap no
+    // other.
+    unsafe {
+        symbols::trill_reader_burst(
+            reader.as_mut_ptr(),
+            reader.len(),
+            gathered.as_mut_ptr(),
+            gathered.len(),
+            octets.as_ptr(),
+            octets.len(),
+        )
+    }
+}
+
+/// The end mark: the early answer, 36 after another mark, or what [`handle`]
+/// answers to all that was gathered; `trill_reader_mark` in C.
+#[inline]
+pub fn reader_mark(
+    reader: &mut [u64],
+    gathered: &[u8],
+    out: &mut [u8],
+    beside: &mut [u8],
+) -> Answer {
+    // SAFETY: the call takes any lengths and any words. The slices are valid for
+    // theirs, and what is written, the reader and both outputs, overlaps no
+    // other.
+    unsafe {
+        symbols::trill_reader_mark(
+            reader.as_mut_ptr(),
+            reader.len(),
+            gathered.as_ptr(),
+            gathered.len(),
+            out.as_mut_ptr(),
+            out.len(),
+            beside.as_mut_ptr(),
+            beside.len(),
         )
     }
 }

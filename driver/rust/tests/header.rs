@@ -45,11 +45,16 @@ fn sizes_are_those_of_the_header() {
     let sizes = [
         ("TRILL_FRAME_MOST", TRILL_FRAME_MOST),
         ("TRILL_OUTPUT_LEAST", TRILL_OUTPUT_LEAST),
+        ("TRILL_BESIDE_LEAST", TRILL_BESIDE_LEAST),
         ("TRILL_CLOCK", TRILL_CLOCK),
         ("TRILL_PREPARED_WORDS", TRILL_PREPARED_WORDS),
+        ("TRILL_READER_WORDS", TRILL_READER_WORDS),
+        ("TRILL_GATHERED_LEAST", TRILL_GATHERED_LEAST),
+        ("TRILL_ANSWER_NUMBERS", TRILL_ANSWER_NUMBERS),
         ("TRILL_LINK_MOST", TRILL_LINK_MOST),
         ("CAMPUS_DESCRIPTION_MOST", CAMPUS_DESCRIPTION_MOST),
         ("CAMPUS_TRACE_LEAST", CAMPUS_TRACE_LEAST),
+        ("CAMPUS_TRACE_MOST", CAMPUS_TRACE_MOST),
         ("CAMPUS_ENTRY", CAMPUS_ENTRY),
         ("CAMPUS_TEXT_MOST", CAMPUS_TEXT_MOST),
     ];
@@ -74,11 +79,14 @@ fn a_frame_is_delivered() {
     ];
     let frame = [&link[..], &header, &inner].concat();
     let mut out = [0x5A; TRILL_OUTPUT_LEAST];
-    let answer = handle(&frame, &settings, &[0; TRILL_CLOCK], &mut out);
+    let mut beside = [0x5A; TRILL_BESIDE_LEAST];
+    let answer = handle(&frame, &settings, &[0; TRILL_CLOCK], &mut out, &mut beside);
     assert_eq!((answer.number, answer.meaning()), (51, "delivered"));
     assert_eq!(answer.delivered(&frame), inner);
     assert!(answer.written(&out).is_empty());
     assert_eq!(out, [0x5A; TRILL_OUTPUT_LEAST]);
+    assert!(answer.beside(&beside).is_empty());
+    assert_eq!(beside, [0x5A; TRILL_BESIDE_LEAST]);
 }
 
 #[test]
@@ -94,10 +102,8 @@ fn a_campus_is_refused() {
 
 #[test]
 fn empty_slices_are_taken() {
-    assert_eq!(
-        handle(&[], &[], &[], &mut []).number,
-        TRILL_REFUSED_SETTINGS
-    );
+    let answer = handle(&[], &[], &[], &mut [], &mut []);
+    assert_eq!(u32::from(answer.number), TRILL_REFUSED_SETTINGS);
     assert_eq!(run(&[], &mut []).code, CAMPUS_REFUSED_TRACE);
     assert_eq!(text(&[], &mut []).needed, 11);
 }

@@ -1,4 +1,5 @@
-//! The buffers that the two programs write: equal before, compared after.
+//! A buffer that the two programs write, one for each: equal before, compared
+//! after.
 
 use std::hint::black_box;
 
@@ -33,8 +34,18 @@ impl Buffers {
         lent(&mut self.reference)
     }
 
+    /// How many octets around what the product is lent are not equal.
+    pub fn around(&self) -> u64 {
+        let end = self.product.len() - CANARY;
+        let pairs = black_box(&self.product).iter().zip(&self.reference);
+        let changed = pairs
+            .enumerate()
+            .filter(|(place, (left, right))| !(CANARY..end).contains(place) && left != right);
+        changed.count() as u64
+    }
+
     /// The first octet, canaries included, that is not equal.
-    pub fn difference(&self) -> Option<String> {
+    pub fn difference(&self, name: &str) -> Option<String> {
         // The product may have written outside of what it was lent.
         let (product, reference) = (black_box(&self.product), &self.reference);
         if product == reference {
@@ -44,9 +55,9 @@ impl Buffers {
         let place = pairs.position(|(left, right)| left != right)?;
         let room = product.len() - 2 * CANARY;
         let area = match place {
-            ..CANARY => format!("{} before the output", CANARY - place),
-            _ if place < CANARY + room => format!("{} of the output", place - CANARY),
-            _ => format!("{} after the output", place - CANARY - room + 1),
+            ..CANARY => format!("{} before the {name}", CANARY - place),
+            _ if place < CANARY + room => format!("{} of the {name}", place - CANARY),
+            _ => format!("{} after the {name}", place - CANARY - room + 1),
         };
         let (left, right) = (product[place], reference[place]);
         Some(format!("octet {area} is {left:02x} and not {right:02x}"))

@@ -3,13 +3,10 @@
 use reference::generate::{campus_input, CampusInput};
 use reference::Outcome;
 
-use crate::call::{start, Call};
+use crate::call::{start, with_emptied, Call, Lent};
 use crate::hex;
 use crate::run::{Run, FEATURES};
 use crate::tally::Hit;
-
-/// Inputs that are tried without description, without trace and without both.
-const EMPTIED: u64 = 64;
 
 pub struct CampusRun;
 
@@ -22,25 +19,21 @@ impl Call for CampusRun {
     /// Of each code, each answer within a run and each feature.
     const ENOUGH: u64 = 50;
 
-    /// Generated inputs, then some of them emptied.
+    /// Some without description, without trace and without both.
     fn inputs(seed: u64, count: u64) -> impl Iterator<Item = CampusInput> {
-        let choices = move |index| {
-            let CampusInput { description, room } = campus_input(seed, index);
-            [(Vec::new(), room), (description, 0), (Vec::new(), 0)]
-        };
-        let emptied = (0..EMPTIED).flat_map(choices);
-        let emptied = emptied.map(|(description, room)| CampusInput { description, room });
-        (0..count)
-            .map(move |index| campus_input(seed, index))
-            .chain(emptied)
+        let input = move |index| campus_input(seed, index);
+        with_emptied(count, 2, input, |input, part| match part {
+            0 => input.description.clear(),
+            _ => input.room = 0,
+        })
     }
 
-    /// Every code, every feature, and every answer that a run can give: 1, 2
-    /// and 3 need bad settings, too little room or too long a frame, which no
+    /// Every code, every feature, and every answer that a run can give: 1, 2, 3
+    /// and 37 need bad settings, too little room or too long a frame, which no
     /// accepted description has.
     fn expected() -> impl Iterator<Item = Hit> {
         let codes = [0].into_iter().chain(40..=49).map(Hit::Code);
-        let refusals = (10..=18).chain(20..=35);
+        let refusals = (10..=18).chain(20..=35).chain([38]);
         let answers = refusals.chain(50..=56).map(Hit::Answer);
         let features = FEATURES.iter().map(|&(name, _)| Hit::Feature(name));
         codes.chain(answers).chain(features)
@@ -63,23 +56,26 @@ impl Call for CampusRun {
         })
     }
 
-    fn room(input: &CampusInput) -> usize {
-        input.room
+    fn rooms(input: &CampusInput) -> [usize; 2] {
+        [input.room, 0]
     }
 
-    fn product(input: &CampusInput, trace: &mut [u8]) -> Outcome {
+    fn product(input: &CampusInput, [trace, _]: Lent) -> Outcome {
         product::run(&input.description, trace)
     }
 
-    fn reference(input: &CampusInput, trace: &mut [u8]) -> (Outcome, ()) {
+    fn reference(input: &CampusInput, [trace, _]: Lent) -> (Outcome, ()) {
         (reference::run(&input.description, trace), ())
     }
 
-    fn fields(outcome: &Outcome) -> Vec<(&'static str, u32)> {
-        vec![("code", outcome.code), ("count", outcome.count)]
+    fn fields(outcome: &Outcome) -> Vec<(&'static str, u64)> {
+        vec![
+            ("code", outcome.code.into()),
+            ("count", outcome.count.into()),
+        ]
     }
 
-    fn written(outcome: &Outcome, trace: &[u8]) -> String {
+    fn written(outcome: &Outcome, [trace, _]: Lent) -> String {
         let entries = start(trace, outcome.count.saturating_mul(8));
         format!("entries {}", hex::write(entries))
     }

@@ -8,14 +8,18 @@
 mod buffers;
 mod call;
 mod campus;
+mod counted;
+mod forged;
 mod handling;
 mod hex;
 mod prepared;
 mod program;
+mod reader;
 mod run;
 mod tally;
 mod text;
 mod way;
+mod words;
 
 use std::env;
 use std::path::PathBuf;
@@ -23,17 +27,23 @@ use std::process::ExitCode;
 
 use call::Call;
 use campus::CampusRun;
+use counted::Counted;
+use forged::Forged;
 use handling::Handling;
 use prepared::{HandlePrepared, Prepare};
+use reader::Bursts;
 use tally::Tally;
 use text::Text;
 use way::WayOut;
 
 const USAGE: &str = "\
 usage: compare [--seed S] [--count N] [--campus-count N] [--program PATH]
-       compare --replay SETTINGS CLOCK ROOM FRAME    (all in hex)
+       compare --replay SETTINGS CLOCK ROOM BESIDE FRAME    (all in hex)
+       compare --replay-counted COUNTERS (SETTINGS CLOCK ROOM BESIDE FRAME)..
+       compare --replay-bursts SETTINGS CLOCK ROOM BESIDE (OCTETS | ROOM,BESIDE)..
+       compare --replay-forged FORGERY SETTINGS CLOCK ROOM BESIDE (OCTETS | ROOM,BESIDE)..
        compare --replay-prepare SETTINGS WORDS
-       compare --replay-prepared SETTINGS CLOCK ROOM FRAME
+       compare --replay-prepared SETTINGS CLOCK ROOM BESIDE FRAME
        compare --replay-way SETTINGS DESTINATION ROOM
        compare --replay-campus ROOM DESCRIPTION
        compare --replay-text ROOM DESCRIPTION";
@@ -50,9 +60,18 @@ struct Plan {
 /// Compares a call on the inputs of a plan, or says on which it differs.
 type Comparison = fn(&Plan) -> Result<Tally, String>;
 
-const COMPARISONS: [(&str, Comparison); 6] = [
+const COMPARISONS: [(&str, Comparison); 9] = [
     ("handling", |plan| {
         call::compare::<Handling>(plan.seed, plan.count)
+    }),
+    ("counted handlings", |plan| {
+        call::compare::<Counted>(plan.seed, plan.count / 4)
+    }),
+    ("frames in bursts", |plan| {
+        call::compare::<Bursts>(plan.seed, plan.count / 4)
+    }),
+    ("forged readers", |plan| {
+        call::compare::<Forged>(plan.seed, plan.count / 4)
     }),
     ("preparing", |plan| {
         call::compare::<Prepare>(plan.seed, plan.count)
@@ -74,8 +93,11 @@ const COMPARISONS: [(&str, Comparison); 6] = [
 /// Runs one input given in hex; whether both programs agree.
 type Replay = fn(&[String]) -> Result<bool, String>;
 
-const REPLAYS: [(&str, Replay); 6] = [
+const REPLAYS: [(&str, Replay); 9] = [
     (Handling::REPLAY, call::replay::<Handling>),
+    (Counted::REPLAY, call::replay::<Counted>),
+    (Bursts::REPLAY, call::replay::<Bursts>),
+    (Forged::REPLAY, call::replay::<Forged>),
     (Prepare::REPLAY, call::replay::<Prepare>),
     (HandlePrepared::REPLAY, call::replay::<HandlePrepared>),
     (WayOut::REPLAY, call::replay::<WayOut>),

@@ -6,13 +6,12 @@ use product::TRILL_PREPARED_WORDS;
 use reference::generate::{handle_input, HandleInput};
 use reference::{Answer, Prepared};
 
-use crate::call::Call;
+use crate::call::{Call, Lent};
 use crate::handling::Handling;
 use crate::hex;
 use crate::tally::Hit;
+use crate::words::Words;
 
-/// Words on each side of a store, to be left alone.
-const CANARY: usize = 8;
 /// Sizes of stores, too small, exact and greater.
 const SIZES: [usize; 7] = [
     0,
@@ -37,8 +36,8 @@ pub struct PrepareInput {
 /// changed.
 pub struct PrepareAnswer {
     number: u32,
-    changed: u32,
-    around: u32,
+    changed: u64,
+    around: u64,
 }
 
 impl Call for Prepare {
@@ -80,29 +79,22 @@ impl Call for Prepare {
     }
 
     /// The store is not of octets.
-    fn room(_: &PrepareInput) -> usize {
-        0
+    fn rooms(_: &PrepareInput) -> [usize; 2] {
+        [0; 2]
     }
 
-    fn product(input: &PrepareInput, _: &mut [u8]) -> PrepareAnswer {
-        let before = pattern(CANARY + input.words + CANARY);
-        let mut after = before.clone();
-        let end = CANARY + input.words;
-        let number = product::prepare(&input.settings, &mut after[CANARY..end]);
-        let changed = |range: std::ops::Range<usize>| {
-            let places =
-                range.filter(|&place| std::hint::black_box(&after)[place] != before[place]);
-            places.count() as u32
-        };
+    fn product(input: &PrepareInput, _: Lent) -> PrepareAnswer {
+        let mut store = Words::new(input.words);
+        let number = product::prepare(&input.settings, store.lent());
         PrepareAnswer {
             number,
-            changed: if number == 0 { 0 } else { changed(CANARY..end) },
-            around: changed(0..CANARY) + changed(end..end + CANARY),
+            changed: if number == 0 { 0 } else { store.changed() },
+            around: store.around(),
         }
     }
 
     /// Bad settings come before too few words.
-    fn reference(input: &PrepareInput, _: &mut [u8]) -> (PrepareAnswer, ()) {
+    fn reference(input: &PrepareInput, _: Lent) -> (PrepareAnswer, ()) {
         let number = match Prepared::new(&input.settings) {
             Err(_) => 1,
             Ok(_) if input.words < TRILL_PREPARED_WORDS => 2,
@@ -116,27 +108,21 @@ impl Call for Prepare {
         (answer, ())
     }
 
-    fn fields(answer: &PrepareAnswer) -> Vec<(&'static str, u32)> {
+    fn fields(answer: &PrepareAnswer) -> Vec<(&'static str, u64)> {
         vec![
-            ("number", answer.number),
+            ("number", answer.number.into()),
             ("words changed by a refusal", answer.changed),
             ("words changed around the store", answer.around),
         ]
     }
 
-    fn written(_: &PrepareAnswer, _: &[u8]) -> String {
+    fn written(_: &PrepareAnswer, _: Lent) -> String {
         String::new()
     }
 
     fn hits(_: &PrepareInput, answer: &PrepareAnswer, (): (), _: &[u8]) -> Vec<Hit> {
         vec![Hit::Answer(answer.number)]
     }
-}
-
-/// Words that differ from place to place, none of them likely to be written.
-fn pattern(words: usize) -> Vec<u64> {
-    let word = |place: u64| (place + 1).wrapping_mul(0x9E37_79B9_7F4A_7C15);
-    (0..words as u64).map(word).collect()
 }
 
 pub struct HandlePrepared;
@@ -146,7 +132,7 @@ pub struct HandlePrepared;
 pub struct PreparedAnswer {
     prepared: u32,
     answer: Answer,
-    changed: u32,
+    changed: u64,
 }
 
 impl Call for HandlePrepared {
@@ -175,53 +161,52 @@ impl Call for HandlePrepared {
         Handling::read(words)
     }
 
-    fn room(input: &HandleInput) -> usize {
-        input.room
+    fn rooms(input: &HandleInput) -> [usize; 2] {
+        Handling::rooms(input)
     }
 
-    fn product(input: &HandleInput, out: &mut [u8]) -> PreparedAnswer {
-        let mut store = pattern(TRILL_PREPARED_WORDS);
-        let prepared = product::prepare(&input.settings, &mut store);
+    fn product(input: &HandleInput, [out, beside]: Lent) -> PreparedAnswer {
+        let mut store = Words::new(TRILL_PREPARED_WORDS);
+        let prepared = product::prepare(&input.settings, store.lent());
         if prepared != 0 {
             return refused(prepared);
         }
-        let before = store.clone();
-        let answer = product::handle_prepared(&input.frame, &store, &input.clock, out);
-        let pairs = std::hint::black_box(&store).iter().zip(&before);
+        store.keep();
+        let (frame, clock) = (&input.frame, &input.clock);
         PreparedAnswer {
             prepared,
-            answer,
-            changed: pairs.filter(|(after, before)| after != before).count() as u32,
+            answer: product::handle_prepared(frame, store.lent(), clock, out, beside),
+            changed: store.changed(),
         }
     }
 
     /// The plain call with the same settings; bad ones are not prepared.
-    fn reference(input: &HandleInput, out: &mut [u8]) -> (PreparedAnswer, ()) {
+    fn reference(input: &HandleInput, lent: Lent) -> (PreparedAnswer, ()) {
         let answer = match Prepared::new(&input.settings) {
             Err(_) => refused(1),
             Ok(_) => PreparedAnswer {
                 prepared: 0,
-                answer: reference::handle(&input.frame, &input.settings, &input.clock, out),
+                answer: Handling::reference(input, lent).0,
                 changed: 0,
             },
         };
         (answer, ())
     }
 
-    fn fields(answer: &PreparedAnswer) -> Vec<(&'static str, u32)> {
-        let mut fields = vec![("prepared", answer.prepared)];
+    fn fields(answer: &PreparedAnswer) -> Vec<(&'static str, u64)> {
+        let mut fields = vec![("prepared", answer.prepared.into())];
         fields.extend(Handling::fields(&answer.answer));
         fields.push(("words of the store changed", answer.changed));
         fields
     }
 
-    fn written(answer: &PreparedAnswer, out: &[u8]) -> String {
-        Handling::written(&answer.answer, out)
+    fn written(answer: &PreparedAnswer, lent: Lent) -> String {
+        Handling::written(&answer.answer, lent)
     }
 
     fn hits(_: &HandleInput, answer: &PreparedAnswer, (): (), _: &[u8]) -> Vec<Hit> {
         match answer.prepared {
-            0 => vec![Hit::Answer(answer.answer.number)],
+            0 => vec![Hit::Answer(answer.answer.number.into())],
             _ => vec![Hit::Feature(REFUSED)],
         }
     }

@@ -13,6 +13,7 @@ struct Entry {
     switch: u16,
     reply: bool,
     answer: u8,
+    hops: u8,
     egress: u16,
 }
 
@@ -20,7 +21,7 @@ struct Entry {
 type Shows = fn(&Run) -> bool;
 
 /// Features that the compared runs must have.
-pub const FEATURES: [(&str, Shows); 8] = [
+pub const FEATURES: [(&str, Shows); 11] = [
     ("loop: a switch handles the original twice", |run| {
         run.loops()
     }),
@@ -35,6 +36,9 @@ pub const FEATURES: [(&str, Shows); 8] = [
     ("an echo reply travels", |run| run.reply_travels(54)),
     ("64 handlings or more", |run| run.entries.len() >= 64),
     ("80 handlings", |run| run.entries.len() == 80),
+    ("replies wait", |run| run.replies() > 1),
+    ("63 replies", |run| run.replies() == 63),
+    ("4,096 handlings", |run| run.entries.len() == 4096),
 ];
 
 impl<'a> Run<'a> {
@@ -54,9 +58,16 @@ impl<'a> Run<'a> {
         self.entries.last().expect("a run has an entry")
     }
 
-    /// Each entry with the one after it, to which its frame was sent.
-    fn sent(&self) -> impl Iterator<Item = (&Entry, &Entry)> {
-        self.entries.iter().zip(&self.entries[1..])
+    /// Each entry with the one after it, if its frame was forwarded there.
+    fn forwarded(&self) -> impl Iterator<Item = (&Entry, &Entry)> {
+        let pairs = self.entries.iter().zip(&self.entries[1..]);
+        pairs.filter(|(from, to)| from.answer == 50 && from.hops == to.hops + 1)
+    }
+
+    /// Replies that were handled: each begins with the greatest hop count.
+    fn replies(&self) -> usize {
+        let first = |entry: &&Entry| entry.reply && entry.hops == 63;
+        self.entries.iter().filter(first).count()
     }
 
     fn loops(&self) -> bool {
@@ -66,7 +77,7 @@ impl<'a> Run<'a> {
     }
 
     fn sends_to_itself(&self) -> bool {
-        self.sent().any(|(from, to)| from.switch == to.switch)
+        self.forwarded().any(|(from, to)| from.switch == to.switch)
     }
 
     /// A frame was written, but no switch of the campus is its neighbour.
@@ -80,9 +91,10 @@ impl<'a> Run<'a> {
         last.answer == 21 && self.has_record(last.switch, last.egress)
     }
 
-    /// The reply that this answer wrote was handled at least once.
+    /// This answer wrote a reply, and one reply alone was handled.
     fn reply_travels(&self, answer: u8) -> bool {
-        self.sent().any(|(from, _)| from.answer == answer)
+        let answered = self.entries.iter().any(|entry| entry.answer == answer);
+        answered && self.replies() == 1
     }
 
     fn has_record(&self, switch: u16, destination: u16) -> bool {
@@ -109,6 +121,7 @@ impl Entry {
             switch: u16_of(octets[0], octets[1]),
             reply: octets[2] == 1,
             answer: octets[3],
+            hops: octets[4],
             egress: u16_of(octets[6], octets[7]),
         }
     }

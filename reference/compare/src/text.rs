@@ -3,7 +3,7 @@
 use product::TextAnswer;
 use reference::generate::campus_input;
 
-use crate::call::{start, Call};
+use crate::call::{start, Call, Lent};
 use crate::hex;
 use crate::tally::Hit;
 
@@ -67,25 +67,28 @@ impl Call for Text {
         })
     }
 
-    fn room(input: &TextInput) -> usize {
-        input.room
+    fn rooms(input: &TextInput) -> [usize; 2] {
+        [input.room, 0]
     }
 
-    fn product(input: &TextInput, room: &mut [u8]) -> TextAnswer {
+    fn product(input: &TextInput, [room, _]: Lent) -> TextAnswer {
         product::text(&input.description, room)
     }
 
     /// The answer, and the code that the text tells.
-    fn reference(input: &TextInput, room: &mut [u8]) -> (TextAnswer, u32) {
+    fn reference(input: &TextInput, [room, _]: Lent) -> (TextAnswer, u32) {
         let text = reference::text(&input.description);
         (put(&text, room), code(&text))
     }
 
-    fn fields(answer: &TextAnswer) -> Vec<(&'static str, u32)> {
-        vec![("written", answer.written), ("needed", answer.needed)]
+    fn fields(answer: &TextAnswer) -> Vec<(&'static str, u64)> {
+        vec![
+            ("written", answer.written.into()),
+            ("needed", answer.needed.into()),
+        ]
     }
 
-    fn written(answer: &TextAnswer, room: &[u8]) -> String {
+    fn written(answer: &TextAnswer, [room, _]: Lent) -> String {
         let text = String::from_utf8_lossy(start(room, answer.written));
         format!("text {text:?}")
     }

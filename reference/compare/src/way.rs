@@ -3,12 +3,9 @@
 use reference::generate::{way_input, WayInput};
 use reference::Way;
 
-use crate::call::{start, Call};
+use crate::call::{start, with_emptied, Call, Lent};
 use crate::hex;
 use crate::tally::Hit;
-
-/// Inputs that are tried without settings, without output and without both.
-const EMPTIED: u64 = 64;
 
 pub struct WayOut;
 
@@ -20,13 +17,13 @@ impl Call for WayOut {
     const REPLAY: &'static str = "--replay-way";
     const ENOUGH: u64 = 100;
 
-    /// Generated inputs, then some of them emptied.
+    /// Some without settings, without output and without both.
     fn inputs(seed: u64, count: u64) -> impl Iterator<Item = WayInput> {
-        let choices =
-            move |index| (1..4).map(move |choice| emptied(way_input(seed, index), choice));
-        (0..count)
-            .map(move |index| way_input(seed, index))
-            .chain((0..EMPTIED).flat_map(choices))
+        let input = move |index| way_input(seed, index);
+        with_emptied(count, 2, input, |input, part| match part {
+            0 => input.settings.clear(),
+            _ => input.room = 0,
+        })
     }
 
     fn expected() -> impl Iterator<Item = Hit> {
@@ -55,41 +52,30 @@ impl Call for WayOut {
         })
     }
 
-    fn room(input: &WayInput) -> usize {
-        input.room
+    fn rooms(input: &WayInput) -> [usize; 2] {
+        [input.room, 0]
     }
 
-    fn product(input: &WayInput, out: &mut [u8]) -> Way {
+    fn product(input: &WayInput, [out, _]: Lent) -> Way {
         product::way_out(&input.settings, input.destination, out)
     }
 
-    fn reference(input: &WayInput, out: &mut [u8]) -> (Way, ()) {
+    fn reference(input: &WayInput, [out, _]: Lent) -> (Way, ()) {
         (
             reference::way_out(&input.settings, input.destination, out),
             (),
         )
     }
 
-    fn fields(way: &Way) -> Vec<(&'static str, u32)> {
-        vec![("number", way.number), ("length", way.length)]
+    fn fields(way: &Way) -> Vec<(&'static str, u64)> {
+        vec![("number", way.number.into()), ("length", way.length.into())]
     }
 
-    fn written(way: &Way, out: &[u8]) -> String {
+    fn written(way: &Way, [out, _]: Lent) -> String {
         format!("octets {}", hex::write(start(out, way.length)))
     }
 
     fn hits(_: &WayInput, way: &Way, (): (), _: &[u8]) -> Vec<Hit> {
         vec![Hit::Answer(way.number)]
     }
-}
-
-/// The low bit of `choice` empties the settings, the next one the output.
-fn emptied(mut input: WayInput, choice: u8) -> WayInput {
-    if choice & 1 == 1 {
-        input.settings = Vec::new();
-    }
-    if choice & 2 == 2 {
-        input.room = 0;
-    }
-    input
 }

@@ -3,10 +3,12 @@
 
 #![forbid(unsafe_code)]
 
-use reference::{Answer, Outcome, Way};
+use reference::{Answer, Counters, Outcome, Way};
 
+pub use staffripple::Counters as LentCounters;
 pub use staffripple::Printed as TextAnswer;
-pub use staffripple::{prepare, text, TRILL_PREPARED_WORDS};
+pub use staffripple::{prepare, reader_burst, reader_start, text};
+pub use staffripple::{TRILL_FRAME_MOST, TRILL_PREPARED_WORDS, TRILL_READER_WORDS};
 
 fn answer(answer: staffripple::Answer) -> Answer {
     Answer {
@@ -14,6 +16,9 @@ fn answer(answer: staffripple::Answer) -> Answer {
         written: answer.written,
         start: answer.start,
         length: answer.length,
+        neighbour: answer.neighbour,
+        beside: answer.beside,
+        beside_neighbour: answer.beside_neighbour,
     }
 }
 
@@ -26,14 +31,73 @@ fn way(way: staffripple::WayOut) -> Way {
 
 /// One handling by the product.
 #[inline]
-pub fn handle(frame: &[u8], settings: &[u8], clock: &[u8], out: &mut [u8]) -> Answer {
-    answer(staffripple::handle(frame, settings, clock, out))
+pub fn handle(
+    frame: &[u8],
+    settings: &[u8],
+    clock: &[u8],
+    out: &mut [u8],
+    beside: &mut [u8],
+) -> Answer {
+    answer(staffripple::handle(frame, settings, clock, out, beside))
+}
+
+/// One counted handling by the product.
+pub fn handle_counted(
+    counters: &mut Counters,
+    frame: &[u8],
+    settings: &[u8],
+    clock: &[u8],
+    out: &mut [u8],
+    beside: &mut [u8],
+) -> Answer {
+    let mut lent = LentCounters {
+        by_answer: counters.by_answer,
+        total: counters.total,
+    };
+    let given = handle_counted_lent(&mut lent, frame, settings, clock, out, beside);
+    counters.by_answer = lent.by_answer;
+    counters.total = lent.total;
+    given
+}
+
+/// The same with counters that are not copied.
+#[inline]
+pub fn handle_counted_lent(
+    counters: &mut LentCounters,
+    frame: &[u8],
+    settings: &[u8],
+    clock: &[u8],
+    out: &mut [u8],
+    beside: &mut [u8],
+) -> Answer {
+    answer(staffripple::handle_counted(
+        counters, frame, settings, clock, out, beside,
+    ))
 }
 
 /// One handling by the product with a store.
 #[inline]
-pub fn handle_prepared(frame: &[u8], store: &[u64], clock: &[u8], out: &mut [u8]) -> Answer {
-    answer(staffripple::handle_prepared(frame, store, clock, out))
+pub fn handle_prepared(
+    frame: &[u8],
+    store: &[u64],
+    clock: &[u8],
+    out: &mut [u8],
+    beside: &mut [u8],
+) -> Answer {
+    answer(staffripple::handle_prepared(
+        frame, store, clock, out, beside,
+    ))
+}
+
+/// The end mark of a reader of the product.
+#[inline]
+pub fn reader_mark(
+    reader: &mut [u64],
+    gathered: &[u8],
+    out: &mut [u8],
+    beside: &mut [u8],
+) -> Answer {
+    answer(staffripple::reader_mark(reader, gathered, out, beside))
 }
 
 /// The way out to a destination by the product.

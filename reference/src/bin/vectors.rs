@@ -6,13 +6,17 @@ use std::fmt::Write as _;
 use std::path::Path;
 use std::{env, fs, io};
 
-use reference::generate::{campus_input, handle_input, part_input};
-use reference::{handle, part, run, text};
+use reference::generate::{campus_input, handle_input, part_input, HandleInput};
+use reference::{handle, part, run, text, Answer};
 
 /// Cases to a claim: a claim is checked under a limit of steps.
 const CLAIM: usize = 10;
 /// Longer inputs add checking time and no new rule but answer 29.
 const LONGEST: usize = 700;
+/// Longer runs likewise.
+const HANDLINGS: u32 = 100;
+/// Room for every trace.
+const TRACE_MOST: usize = 32768;
 
 const HEADER: &str = "\
 -- Generated cases, each with what the second program answers.
@@ -28,8 +32,9 @@ use Rattle.rules.specs.Cases.{Case, computedIn, hex}
 use Rattle.rules.specs.Handling.{handled, partOf}
 use Rattle.rules.specs.Text.{printed}
 
+-- 256, which is no octet, stands between what is written and the reply beside it
 unfoldable answer : Handled → List ℕ
-answer a = a .number ∷ a .start ∷ a .size ∷ a .octets
+answer a = a .number ∷ a .start ∷ a .size ∷ a .via ∷ a .besideVia ∷ (a .octets ++ 256 ∷ a .beside)
 
 unfoldable outcome : Outcome → List ℕ
 outcome o = o .code ∷ o .count ∷ o .trace
@@ -63,28 +68,50 @@ fn main() -> io::Result<()> {
 fn handlings(seed: u64) -> impl Iterator<Item = String> {
     (0..).filter_map(move |index| {
         let input = handle_input(seed, index);
-        let mut out = vec![0; input.room];
-        let answer = handle(&input.frame, &input.settings, &input.clock, &mut out);
+        let (mut out, mut beside) = (vec![0; input.room], vec![0; input.beside_room]);
+        let (frame, settings, clock) = (&input.frame, &input.settings, &input.clock);
+        let answer = handle(frame, settings, clock, &mut out, &mut beside);
         let long = input.frame.len() > LONGEST && answer.number != 29;
         if long || input.settings.len() > LONGEST {
             return None;
         }
-        let computed = format!(
-            "answer (handled ({}) ({}) {} ({}))",
-            hex(&input.settings),
-            hex(&input.clock),
-            input.room,
-            hex(&input.frame)
+        let name = format!("handling {index}");
+        let (out, beside) = (
+            &out[..answer.written.into()],
+            &beside[..answer.beside.into()],
         );
-        let numbers = [answer.number, answer.start, answer.length];
-        let octets = &out[..answer.written as usize];
         Some(case(
-            &format!("handling {index}"),
-            &computed,
-            &numbers,
-            octets,
+            &name,
+            &computed(&input),
+            &expected(answer, out, beside),
         ))
     })
+}
+
+/// What the definitions compute, by `answer` of [`HEADER`].
+fn computed(input: &HandleInput) -> String {
+    format!(
+        "answer (handled {} {} {} {} {})",
+        hex(&input.settings),
+        hex(&input.clock),
+        input.room,
+        input.beside_room,
+        hex(&input.frame)
+    )
+}
+
+/// The list that `answer` of [`HEADER`] makes of this answer.
+fn expected(answer: Answer, out: &[u8], beside: &[u8]) -> String {
+    format!(
+        "{} ∷ {} ∷ {} ∷ {} ∷ {} ∷ ({} ++ 256 ∷ {})",
+        answer.number,
+        answer.start,
+        answer.length,
+        answer.neighbour,
+        answer.beside_neighbour,
+        hex(out),
+        hex(beside)
+    )
 }
 
 fn parts(seed: u64) -> impl Iterator<Item = String> {
@@ -95,54 +122,41 @@ fn parts(seed: u64) -> impl Iterator<Item = String> {
         }
         let octets = part(&input.frame, input.start as usize, input.length as usize);
         let computed = format!(
-            "partOf ({}) {} {}",
+            "partOf {} {} {}",
             hex(&input.frame),
             input.start,
             input.length
         );
-        Some(case(&format!("part {index}"), &computed, &[], octets))
+        Some(case(&format!("part {index}"), &computed, &hex(octets)))
     })
 }
 
 fn campuses(seed: u64) -> impl Iterator<Item = String> {
     (0..).filter_map(move |index| {
         let input = campus_input(seed, index);
-        if input.description.len() > LONGEST {
-            return None;
-        }
         let mut trace = vec![0; input.room];
         let outcome = run(&input.description, &mut trace);
+        // A run that the trace has no room for is printed all the same.
+        let handlings = run(&input.description, &mut [0; TRACE_MOST]).count;
+        if input.description.len() > LONGEST || handlings > HANDLINGS {
+            return None;
+        }
         let file = hex(&input.description);
-        let computed = format!(
-            "outcome (campus ({file}) {}) ++ printed ({file})",
-            input.room
-        );
+        let computed = format!("outcome (campus {file} {}) ++ printed {file}", input.room);
         let mut octets = trace[..outcome.count as usize * 8].to_vec();
         octets.extend(text(&input.description));
-        let numbers = [outcome.code, outcome.count];
-        Some(case(
-            &format!("campus {index}"),
-            &computed,
-            &numbers,
-            &octets,
-        ))
+        let expected = format!("{} ∷ {} ∷ {}", outcome.code, outcome.count, hex(&octets));
+        Some(case(&format!("campus {index}"), &computed, &expected))
     })
 }
 
-fn case(name: &str, computed: &str, numbers: &[u32], octets: &[u8]) -> String {
-    let mut expected = String::new();
-    for number in numbers {
-        write!(expected, "{number} ∷ ").unwrap();
-    }
-    let octets = hex(octets);
-    format!(
-        "record {{ name = \"{name}\"; computed = {computed}; expected = {expected}({octets}) }}"
-    )
+fn case(name: &str, computed: &str, expected: &str) -> String {
+    format!("record {{ name = \"{name}\"; computed = {computed}; expected = {expected} }}")
 }
 
 fn hex(octets: &[u8]) -> String {
     let digits: String = octets.iter().map(|octet| format!("{octet:02X}")).collect();
-    format!("hex \"{digits}\"")
+    format!("(hex \"{digits}\")")
 }
 
 /// A crate with no code: a claim for each few cases.

@@ -1,6 +1,7 @@
 //! Campuses: topologies, the frame that is put in, and refusals.
 
 use super::faults;
+use super::flags;
 use super::frames::{self, Draft, Site};
 use super::rng::{Mac, Rng};
 use super::switches::{self, field, frame_field, switch_field, Record};
@@ -10,6 +11,8 @@ const MAX_FILE: usize = 32_768;
 /// A campus description in the making.
 pub(super) struct Plan {
     switches: Vec<(u16, Mac)>,
+    /// Edition of each switch, 1 or 2.
+    editions: Vec<u8>,
     /// Records of each switch.
     records: Vec<Vec<Record>>,
     entry: u16,
@@ -50,11 +53,18 @@ impl Plan {
         match rng.below(20) {
             0 => Self::longest(rng),
             1 => Self::looping(rng),
+            2 => Self::waiting(rng),
             _ => Self::mixed(rng),
         }
     }
 
-    /// 1 to 16 switches with different nicknames and, mostly, MACs.
+    /// Whether some switch has edition 2.
+    pub(super) fn has_edition_2(&self) -> bool {
+        self.editions.contains(&2)
+    }
+
+    /// 1 to 16 switches with different nicknames and, mostly, MACs, of edition 1
+    /// alone, of edition 2 alone or mixed.
     fn with_switches(rng: &mut Rng, count: usize) -> Self {
         let mut switches: Vec<(u16, Mac)> = Vec::new();
         while switches.len() < count {
@@ -63,8 +73,15 @@ impl Plan {
                 switches.push((nickname, rng.mac()));
             }
         }
+        let mut editions = vec![1; count];
+        match rng.below(6) {
+            0 => editions.fill(2),
+            1 => editions.fill_with(|| 1 + rng.below(2) as u8),
+            _ => {}
+        }
         Plan {
             records: vec![Vec::new(); count],
+            editions,
             entry: switches[0].0,
             switches,
             frame: Vec::new(),
@@ -111,9 +128,11 @@ impl Plan {
         for records in &mut plan.records {
             rng.shuffle(records);
         }
-        let (entry, mac) = rng.pick(&plan.switches);
+        let place = rng.below(plan.switches.len());
+        let (entry, mac) = plan.switches[place];
         let site = Site {
             mac,
+            edition: plan.editions[place],
             egress: rng.pick(&targets[..targets.len() - 1]),
             live: targets,
             dead: vec![plan.outsider(rng)],
@@ -183,6 +202,7 @@ impl Plan {
         plan.route_exactly(rng, ingress, Shape::Own);
         let site = Site {
             mac: plan.switches[0].1,
+            edition: plan.editions[0],
             egress,
             live: vec![ingress],
             dead: Vec::new(),
@@ -217,6 +237,7 @@ impl Plan {
         plan.route_exactly(rng, target, shape);
         let site = Site {
             mac: plan.switches[0].1,
+            edition: plan.editions[0],
             egress: target,
             live: vec![target],
             dead: Vec::new(),
@@ -228,13 +249,64 @@ impl Plan {
         plan
     }
 
+    /// An echo request with an alert: each switch of edition 2 on its way makes a
+    /// reply, and the replies go round or home.
+    fn waiting(rng: &mut Rng) -> Self {
+        let count = match rng.below(4) {
+            0 => 1 + rng.below(16),
+            _ => 1 + rng.below(4),
+        };
+        let mut plan = Self::with_switches(rng, count);
+        let mixed = rng.one_in(3);
+        plan.editions
+            .fill_with(|| if mixed { 1 + rng.below(2) as u8 } else { 2 });
+        // An outsider is never reached, as egress or as ingress.
+        let [egress, ingress] = [(); 2].map(|()| {
+            if rng.one_in(3) {
+                rng.pick(&plan.switches).0
+            } else {
+                plan.outsider(rng)
+            }
+        });
+        let onward = rng.pick(&[Shape::Line, Shape::Pairs, Shape::Ring, Shape::Own]);
+        let back = rng.pick(&[Shape::Line, Shape::Ring, Shape::Own]);
+        plan.route_exactly(rng, egress, onward);
+        if ingress != egress {
+            plan.route_exactly(rng, ingress, back);
+        }
+        let site = Site {
+            mac: plan.switches[0].1,
+            edition: 2,
+            egress,
+            live: vec![ingress],
+            dead: Vec::new(),
+        };
+        let inner = frames::echo_request(rng);
+        let mut draft = Draft::new(rng, &site, inner);
+        draft.ingress = ingress;
+        draft.egress = egress;
+        match rng.below(4) {
+            0 => draft.hops = 63,
+            1 => draft.hops = 1 + rng.below(4) as u16,
+            _ => {}
+        }
+        let area = if mixed || rng.one_in(2) {
+            flags::noticed()
+        } else {
+            flags::alerted(rng)
+        };
+        plan.frame = draft.with_area(area).octets();
+        plan
+    }
+
     /// The fields in file order; tag 5 is the last.
     fn fields(&self, rng: &mut Rng) -> Vec<Vec<u8>> {
         let mut fields = Vec::new();
-        for (&(nickname, mac), records) in self.switches.iter().zip(&self.records) {
+        for (place, &(nickname, mac)) in self.switches.iter().enumerate() {
             let mut own = vec![switch_field(nickname, mac)];
-            own.extend(records.iter().map(Record::field));
+            own.extend(self.records[place].iter().map(Record::field));
             switches::add_strips(rng, &mut own);
+            switches::add_editions(rng, &mut own, self.editions[place]);
             fields.extend(own);
         }
         if !rng.one_in(3) {

@@ -70,10 +70,12 @@ fn cut(rng: &mut Rng, fields: &mut Fields) {
 
 /// Code 43: each field out of place, its value good or bad, or no tag 5.
 fn misplace(rng: &mut Rng, fields: &mut Fields) {
-    let any_value = match rng.below(4) {
+    let any_value = match rng.below(6) {
         0 => switches::bad_record(rng),
         1 => switches::bad_strip(rng),
-        2 => Record::any(rng).field(),
+        2 => switches::bad_edition(rng),
+        3 => Record::any(rng).field(),
+        4 => field(6, &[2]),
         _ => field(3, &[1]),
     };
     match rng.below(5) {
@@ -95,9 +97,10 @@ fn misplace(rng: &mut Rng, fields: &mut Fields) {
 
 /// Code 44.
 fn spoil_value(rng: &mut Rng, fields: &mut Fields) {
-    let bad = match rng.below(4) {
+    let bad = match rng.below(5) {
         0 => switches::bad_switch(rng),
         1 => switches::bad_strip(rng),
+        2 => switches::bad_edition(rng),
         _ => switches::bad_record(rng),
     };
     let place = inside(rng, fields);

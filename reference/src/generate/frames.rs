@@ -1,6 +1,7 @@
 //! Frames: each kind of answer aimed at from a valid draft.
 
 use super::areas;
+use super::flags;
 use super::rng::{Mac, Rng};
 
 const ALL_EGRESS_RBRIDGES: Mac = [0x01, 0x80, 0xC2, 0x00, 0x00, 0x42];
@@ -12,6 +13,8 @@ const NA: u16 = 0x2000;
 pub(super) struct Site {
     /// MAC of the switch that receives the frame.
     pub mac: Mac,
+    /// Edition for which areas are made, 1 or 2.
+    pub edition: u8,
     /// Nickname of the switch that is to be the egress.
     pub egress: u16,
     /// Nicknames with a next hop.
@@ -37,10 +40,18 @@ impl Site {
         rng.pick(&self.dead)
     }
 
+    /// An area that is well formed and not critical.
+    fn carried(&self, rng: &mut Rng) -> Vec<u8> {
+        match self.edition {
+            1 => areas::carried(rng),
+            _ => flags::carried(rng),
+        }
+    }
+
     fn ingress(&self, rng: &mut Rng) -> u16 {
-        match rng.below(10) {
+        match rng.below(7) {
             0 => self.egress,
-            1 | 2 => self.unreachable(rng),
+            1 => self.unreachable(rng),
             _ => self.reachable(rng),
         }
     }
@@ -87,10 +98,10 @@ impl Draft {
             area: Vec::new(),
             inner,
         }
-        .with_area(areas::carried(rng))
+        .with_area(site.carried(rng))
     }
 
-    fn with_area(mut self, area: Vec<u8>) -> Self {
+    pub(super) fn with_area(mut self, area: Vec<u8>) -> Self {
         // An area one word too long for Op-Length 31 makes it 0.
         self.op_length = (area.len() / 4) as u16 & 0x1F;
         self.area = area;
@@ -126,18 +137,10 @@ fn hops(rng: &mut Rng) -> u16 {
 
 /// A frame for the site; one in nine is then mutated.
 pub(super) fn frame(rng: &mut Rng, site: &Site) -> Vec<u8> {
-    let mut octets = match rng.below(100) {
-        0..3 => random(rng, site),
-        3..15 => header_fault(rng, site),
-        15..18 => long_transit(rng, site),
-        18..32 => option_fault(rng, site),
-        32..50 => transit(rng, site),
-        50..60 => inner_fault(rng, site),
-        60..66 => delivered(rng, site),
-        _ => {
-            let message = message(rng);
-            Draft::new(rng, site, message).octets()
-        }
+    let mut octets = if site.edition == 1 {
+        frame_of_edition_1(rng, site)
+    } else {
+        frame_of_edition_2(rng, site)
     };
     match rng.below(36) {
         0 => resize(rng, &mut octets),
@@ -146,6 +149,40 @@ pub(super) fn frame(rng: &mut Rng, site: &Site) -> Vec<u8> {
         _ => {}
     }
     octets
+}
+
+fn frame_of_edition_1(rng: &mut Rng, site: &Site) -> Vec<u8> {
+    match rng.below(100) {
+        0..3 => random(rng, site),
+        3..14 => header_fault(rng, site),
+        14..20 => long_transit(rng, site),
+        20..42 => option_fault(rng, site),
+        42..62 => transit(rng, site),
+        62..69 => inner_fault(rng, site),
+        69..74 => delivered(rng, site),
+        _ => {
+            let message = message(rng);
+            Draft::new(rng, site, message).octets()
+        }
+    }
+}
+
+/// Mostly what differs from edition 1; at times with an area of that edition.
+fn frame_of_edition_2(rng: &mut Rng, site: &Site) -> Vec<u8> {
+    match rng.below(100) {
+        0..2 => random(rng, site),
+        2..6 => header_fault(rng, site),
+        6..8 => long_transit(rng, site),
+        8..22 => flag_fault(rng, site),
+        22..82 => alerted_transit(rng, site),
+        82..84 => transit(rng, site),
+        84..88 => inner_fault(rng, site),
+        88..92 => delivered(rng, site),
+        _ => {
+            let message = message(rng);
+            Draft::new(rng, site, message).octets()
+        }
+    }
 }
 
 /// Random octets, mostly after a valid link header and first word.
@@ -269,6 +306,43 @@ fn option_fault(rng: &mut Rng, site: &Site) -> Vec<u8> {
     draft.with_area(area).octets()
 }
 
+/// Answers 20 and 38 at the egress and in transit, and areas of edition 1.
+fn flag_fault(rng: &mut Rng, site: &Site) -> Vec<u8> {
+    let inner = any_inner(rng);
+    let mut draft = Draft::new(rng, site, inner);
+    if rng.one_in(2) {
+        draft.egress = site.reachable(rng);
+    }
+    let area = match rng.below(8) {
+        0..4 => flags::faulty(rng),
+        4..7 => flags::critical(rng),
+        _ => areas::carried(rng),
+    };
+    draft.with_area(area).octets()
+}
+
+/// An alert in transit: mostly a message, now and then one that cannot be read.
+fn alerted_transit(rng: &mut Rng, site: &Site) -> Vec<u8> {
+    let inner = match rng.below(16) {
+        0 => unreadable(rng),
+        1 => any_inner(rng),
+        2..6 => echo(rng),
+        6 => echo_request_of(rng, 530),
+        _ => fault_message(rng),
+    };
+    let mut draft = Draft::new(rng, site, inner);
+    draft.egress = match rng.below(12) {
+        0 => site.unreachable(rng),
+        _ => site.reachable(rng),
+    };
+    draft.ingress = match rng.below(4) {
+        0 => site.egress,
+        1 => site.unreachable(rng),
+        _ => site.reachable(rng),
+    };
+    draft.with_area(flags::alerted(rng)).octets()
+}
+
 /// Answers 50 and 21; whatever stands in the inner frame is not read.
 fn transit(rng: &mut Rng, site: &Site) -> Vec<u8> {
     let inner = if rng.one_in(8) {
@@ -349,23 +423,30 @@ fn inner(rng: &mut Rng, destination: Mac, vlan: u16, ethertype: u16, rest: &[u8]
 
 /// Answers 22, 23 and 24.
 fn inner_fault(rng: &mut Rng, site: &Site) -> Vec<u8> {
+    if !rng.one_in(5) {
+        let inner = unreadable(rng);
+        return Draft::new(rng, site, inner).octets();
+    }
     let mut inner = any_inner(rng);
-    let kind = rng.below(5);
-    match kind {
+    inner[rng.below(6)] ^= 1 << rng.below(8);
+    let mut draft = Draft::new(rng, site, inner);
+    draft.egress = ANY_RBRIDGE;
+    draft.octets()
+}
+
+/// An inner frame that is cut or whose tag is bad.
+fn unreadable(rng: &mut Rng) -> Vec<u8> {
+    let mut inner = any_inner(rng);
+    match rng.below(4) {
         0 => inner.truncate(rng.pick(&[0, 1, 12, 14, 16, 17, 17, 18])),
         1 => inner[12] = rng.octet(),
         2 => inner[13] = rng.pick(&[0x01, 0x80, 0xFF]),
-        3 => {
+        _ => {
             let vlan = rng.pick(&[0, 0xFFF]) | rng.word() & 0xF000;
             inner[14..16].copy_from_slice(&vlan.to_be_bytes());
         }
-        _ => inner[rng.below(6)] ^= 1 << rng.below(8),
     }
-    let mut draft = Draft::new(rng, site, inner);
-    if kind == 4 {
-        draft.egress = ANY_RBRIDGE;
-    }
-    draft.octets()
+    inner
 }
 
 /// Answers 51 and 52.
@@ -390,35 +471,42 @@ fn delivered(rng: &mut Rng, site: &Site) -> Vec<u8> {
 /// A message to All-Egress-RBridges: faults, errors and echoes.
 fn message(rng: &mut Rng) -> Vec<u8> {
     match rng.below(16) {
-        0 => {
+        0..10 => fault_message(rng),
+        _ => echo(rng),
+    }
+}
+
+/// A fault, an error, or ERR where it may not be.
+fn fault_message(rng: &mut Rng) -> Vec<u8> {
+    match rng.below(12) {
+        0 | 1 => {
             let size = rng.below(4);
             let rest = rng.octets(size);
             to_all_egress(rng, 0x8946, &rest)
         }
-        1 => {
+        2 => {
             let ethertype = rng.pick(&[0x0800, 0x22F3, 0x22F5, 0x8100, 0x8945, 0x8947]);
             let rest = filling(rng);
             to_all_egress(rng, ethertype, &rest)
         }
-        2 => {
+        3 | 4 => {
             let version = 1 + rng.below(15) as u16;
             let protocol = protocol(rng);
             channel_with_filling(rng, version << 12 | protocol, 0)
         }
-        3..6 => {
+        5..8 => {
             let protocol = protocol(rng);
             channel_with_filling(rng, protocol, NA)
         }
-        6..8 => {
+        8 | 9 => {
             let protocol = rng.pick(&[0, 2, 4, 0xFF7, 0xFF9, 0xFFF, 0x801]);
             channel_with_filling(rng, protocol, 0)
         }
-        8 => channel_with_filling(rng, 0x001, 0),
-        9 => {
+        10 => channel_with_filling(rng, 0x001, 0),
+        _ => {
             let err = 1 + rng.below(15) as u16;
             channel_with_filling(rng, 0xFF8, err)
         }
-        _ => echo(rng),
     }
 }
 
@@ -430,7 +518,7 @@ fn to_all_egress(rng: &mut Rng, ethertype: u16, rest: &[u8]) -> Vec<u8> {
 fn protocol(rng: &mut Rng) -> u16 {
     match rng.below(6) {
         0 => rng.word() & 0xFFF,
-        _ => rng.pick(&[0x001, 0x001, 0xFF8, 0x004]),
+        _ => rng.pick(&[0x001, 0xFF8, 0xFF8, 0x004]),
     }
 }
 
@@ -451,7 +539,7 @@ fn channel_with_filling(rng: &mut Rng, word: u16, flags: u16) -> Vec<u8> {
     if rng.one_in(5) {
         flags |= SL;
     }
-    if rng.one_in(5) {
+    if rng.one_in(4) {
         flags |= rng.word() & 0xF;
     }
     let body = filling(rng);
@@ -495,7 +583,12 @@ fn echo(rng: &mut Rng) -> Vec<u8> {
 
 /// A short echo request that asks for a reply.
 pub(super) fn echo_request(rng: &mut Rng) -> Vec<u8> {
-    let mut body = rng.octets(18);
+    echo_request_of(rng, 18)
+}
+
+/// The same with a body of this size.
+fn echo_request_of(rng: &mut Rng, size: usize) -> Vec<u8> {
+    let mut body = rng.octets(size);
     body[0] = 0x30;
     body[4] = 2;
     channel(rng, 0xFF8, 0x4000, &body)

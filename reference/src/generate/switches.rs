@@ -100,6 +100,8 @@ pub(super) fn add_older(rng: &mut Rng, records: &mut Vec<Record>, ruling: Record
 pub(super) struct Settings {
     pub nickname: u16,
     pub mac: Mac,
+    /// 1 or 2.
+    pub edition: u8,
     records: Vec<Record>,
     /// Destinations other than the switch with a live ruling record.
     pub live: Vec<u16>,
@@ -112,6 +114,7 @@ impl Settings {
         let mut settings = Settings {
             nickname: rng.nickname(),
             mac: rng.mac(),
+            edition: if rng.below(5) < 2 { 2 } else { 1 },
             records: Vec::new(),
             live: Vec::new(),
             dead: Vec::new(),
@@ -179,11 +182,12 @@ impl Settings {
         }
     }
 
-    /// Tag 1, then records and strip flags in any mixture.
+    /// Tag 1, then records, strip flags and editions in any mixture.
     pub(super) fn fields(&self, rng: &mut Rng) -> Vec<Vec<u8>> {
         let mut fields = vec![switch_field(self.nickname, self.mac)];
         fields.extend(self.records.iter().map(Record::field));
         add_strips(rng, &mut fields);
+        add_editions(rng, &mut fields, self.edition);
         fields
     }
 }
@@ -202,10 +206,26 @@ pub(super) fn add_strips(rng: &mut Rng, fields: &mut Vec<Vec<u8>>) {
     }
 }
 
+/// Editions after the first field, or none where it is 1; the last one counts.
+pub(super) fn add_editions(rng: &mut Rng, fields: &mut Vec<Vec<u8>>, edition: u8) {
+    let count = match rng.below(4) {
+        0 => 1 + rng.below(3),
+        _ => usize::from(edition == 2),
+    };
+    for _ in 0..count {
+        let place = 1 + rng.below(fields.len());
+        fields.insert(place, field(6, &[1 + rng.below(2) as u8]));
+    }
+    let editions = fields.iter_mut().filter(|field| field[0] == 6);
+    if let Some(last) = editions.last() {
+        last[3] = edition;
+    }
+}
+
 /// Makes the settings bad in one way.
 pub(super) fn spoil(rng: &mut Rng, fields: &mut Vec<Vec<u8>>) {
     let place = 1 + rng.below(fields.len());
-    match rng.below(14) {
+    match rng.below(15) {
         0 => fields.clear(),
         1 => {
             let octets = fields.concat();
@@ -225,6 +245,7 @@ pub(super) fn spoil(rng: &mut Rng, fields: &mut Vec<Vec<u8>>) {
         10 => fields.insert(place - 1, wrong_length(rng)),
         11 => fields.insert(place - 1, unknown_tag(rng)),
         12 => add_records(rng, fields, 65),
+        13 => fields.insert(place, bad_edition(rng)),
         _ => repeat_serial(rng, fields),
     }
 }
@@ -255,6 +276,11 @@ pub(super) fn bad_strip(rng: &mut Rng) -> Vec<u8> {
     field(3, &[flag])
 }
 
+pub(super) fn bad_edition(rng: &mut Rng) -> Vec<u8> {
+    let edition = rng.pick(&[0, 3, 0x12, 0x82, 0xFF]);
+    field(6, &[edition])
+}
+
 /// A known tag with a length it does not have.
 pub(super) fn wrong_length(rng: &mut Rng) -> Vec<u8> {
     let (tag, lengths) = rng.pick(&[
@@ -263,13 +289,14 @@ pub(super) fn wrong_length(rng: &mut Rng) -> Vec<u8> {
         (3, [0, 2, 3]),
         (4, [0, 5, 7]),
         (5, [0, 1, 2051]),
+        (6, [0, 2, 3]),
     ]);
     let length = rng.pick(&lengths);
     field(tag, &rng.octets(length))
 }
 
 pub(super) fn unknown_tag(rng: &mut Rng) -> Vec<u8> {
-    let tag = rng.pick(&[0, 6, 7, 0x10, 0x80, 0xFF]);
+    let tag = rng.pick(&[0, 7, 8, 0x10, 0x80, 0xFF]);
     let length = rng.pick(&[0, 1, 6, 8, 14]);
     field(tag, &rng.octets(length))
 }

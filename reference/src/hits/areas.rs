@@ -3,7 +3,7 @@
 use super::Feature;
 use crate::header::Header;
 use crate::octets::u16_at;
-use crate::{Answer, Cause};
+use crate::{Answer, Cause, Edition};
 
 /// Nine-bit key of the Flow ID, and its Length.
 const FLOW_ID: u16 = 0x083;
@@ -12,8 +12,8 @@ const MAX_LENGTH: u16 = 118;
 
 /// The area of a readable frame.
 fn area_of(frame: &[u8]) -> &[u8] {
-    let area = Header::read(frame).map_or(0..0, |header| header.area_at()..header.inner_at());
-    &frame[area]
+    let header = Header::read(frame).ok();
+    header.and_then(|header| header.area()).unwrap_or_default()
 }
 
 /// Heads of the options from the first on.
@@ -40,7 +40,7 @@ pub(super) fn good_options(frame: &[u8]) -> [(Feature, bool); 1] {
 /// An area with an option at fault, where the answer says.
 pub(super) fn faulty_option(frame: &[u8], answer: Answer) -> [(Feature, bool); 2] {
     let area = area_of(frame);
-    let (before, rest) = area.split_at(answer.start as usize);
+    let (before, rest) = area.split_at(answer.start.into());
     let before = || heads(&before[4..]).map(key);
     let at_fault = key(u16_at(rest, 0));
     let not_above = before().last().is_some_and(|key| key >= at_fault);
@@ -53,6 +53,37 @@ pub(super) fn faulty_option(frame: &[u8], answer: Answer) -> [(Feature, bool); 2
         (Feature::LengthAndKey, answer.number < 32 && not_above),
         (Feature::UnsummedBefore, before().any(unsummed)),
     ]
+}
+
+/// Answers of edition 2 that an area's length or a flag beside others leads to.
+pub(super) fn flags(frame: &[u8], cause: Cause) -> Vec<(Feature, bool)> {
+    let area = area_of(frame);
+    let longer = area.len() > 4;
+    let word = |mask: u32| {
+        let word = area
+            .first_chunk()
+            .map_or(0, |word| u32::from_be_bytes(*word));
+        word & mask
+    };
+    match cause {
+        Cause::Flags(..) => vec![(Feature::FlagFaultInLongerArea, longer)],
+        Cause::CriticalHopByHop(Edition::Second, _) => vec![
+            (Feature::BareHopByHop, word(0x1F00_0000) == 0),
+            (Feature::AlertWithUnknownFlag, word(0x0100_0000) != 0),
+        ],
+        Cause::CriticalToEgress(Edition::Second) => {
+            vec![(Feature::BareToEgress, word(0x07E0) == 0)]
+        }
+        Cause::Forwarded | Cause::ForwardedAlerted(..) | Cause::Delivered => vec![
+            (
+                Feature::BareReserved,
+                longer && word(0x2003_8000) == 0x2000_0000,
+            ),
+            (Feature::AlertInLongerArea, longer && word(0x0180_0000) != 0),
+            (Feature::BothAlerts, word(0x0180_0000) == 0x0180_0000),
+        ],
+        _ => Vec::new(),
+    }
 }
 
 /// A forwarded frame as it was received and as it was written.

@@ -18,6 +18,25 @@ pub enum Feature {
     LengthAndKey,
     /// An option at fault after critical ones whose summary bit is missing.
     UnsummedBefore,
+    /// 38 in an area of more than one word.
+    FlagFaultInLongerArea,
+    /// 20 by a summary bit with no flag of its kind in a longer area.
+    BareHopByHop,
+    BareToEgress,
+    /// 20 by an unknown flag beside the critical alert.
+    AlertWithUnknownFlag,
+    /// Carried with such a summary bit of the reserved kind.
+    BareReserved,
+    /// Carried with an alert and words that nobody reads, and with both alerts.
+    AlertInLongerArea,
+    BothAlerts,
+    /// A reply beside 50 for the same neighbour, and for another.
+    BesideSameNeighbour,
+    BesideOtherNeighbour,
+    /// A reply beside 50 with a tag, the forwarded frame without.
+    BesideTaggedAlone,
+    /// A reply beside 50 of 576 octets.
+    LongestBeside,
     /// Forwarded without a tag and with one, as it was received.
     ForwardedUntagged,
     ForwardedTagged,
@@ -36,6 +55,28 @@ pub enum Feature {
     /// A frame written with VLAN 1 and with VLAN 4,094.
     FirstVlan,
     LastVlan,
+    /// 4, since the counter of what would be answered is full, another one, or
+    /// the total.
+    OwnCounterFull,
+    OtherCounterFull,
+    TotalFull,
+    /// 4 after calls that were counted.
+    FilledByCalls,
+    /// 4 where 1 would be answered.
+    FullBeforeBadSettings,
+    /// An empty burst, and one after 2,048 octets.
+    EmptyBurst,
+    EmptyBurstAfterAll,
+    /// 3 by a burst of one octet.
+    OctetTooMany,
+    /// 3 repeated at a mark that is lent too little.
+    LongFrameAndShortOutput,
+    /// 2 and 37 at a mark, though the start was told enough.
+    AnewAtMark,
+    BesideAnewAtMark,
+    /// 36 after a mark that answered 3, and 2.
+    EndedByEarly3,
+    EndedByShortOutput,
     /// A part with octets, an empty one within the frame, one not within it.
     PartFull,
     PartEmpty,
@@ -59,6 +100,14 @@ pub enum Feature {
     LeftCampus,
     /// A reply was handled twice or more.
     ReplyTravels,
+    /// Two replies or more were handled, and so in a campus of both editions.
+    RepliesWait,
+    RepliesWaitInMixed,
+    /// 65h + 1 handlings with h of 2 or more, and with h of 63.
+    BoundOfEdition2,
+    Handled4096,
+    /// Another refusal of a file with an edition 2, though the trace is short.
+    FaultBeforeTraceRoom,
     Handled64OrMore,
     Handled80,
     /// A description of exactly 32,768 octets is accepted.

@@ -11,6 +11,23 @@ fn tag(frame: &[u8]) -> Option<u16> {
     (u16_at(frame, 12) == 0x8100).then(|| u16_at(frame, 14))
 }
 
+/// A reply beside a forwarded frame, to the same neighbour or to another.
+pub(super) fn beside(out: &[u8], beside: &[u8], answer: Answer) -> Vec<(Feature, bool)> {
+    if answer.beside == 0 {
+        return Vec::new();
+    }
+    let same = answer.neighbour == answer.beside_neighbour;
+    vec![
+        (Feature::BesideSameNeighbour, same),
+        (Feature::BesideOtherNeighbour, !same),
+        (
+            Feature::BesideTaggedAlone,
+            tag(beside).is_some() && tag(out).is_none(),
+        ),
+        (Feature::LongestBeside, answer.beside == 576),
+    ]
+}
+
 /// Tags received and written, and sizes near the greatest.
 pub(super) fn shown(frame: &[u8], out: &[u8], answer: Answer) -> Vec<(Feature, bool)> {
     let written = answer.written as usize;

@@ -75,7 +75,7 @@ fn c6_data_lengths_take_whole_words() {
         let fits = optioned("0003", &sized(length, octets));
         assert_eq!(number(&fits), 50, "Length {length}");
         // A word more is an option with key 0.
-        let next = 4 + octets as u32;
+        let next = 4 + octets as u16;
         assert_eq!(fault(&sized(length, octets + 4)), (32, next));
         if octets > 4 {
             assert_eq!(fault(&sized(length, octets - 4)), (31, 4));

@@ -1,7 +1,7 @@
 //! The generator reaches every answer and cause, and every generated input
 //! keeps the promises that hold for all.
 
-use crate::support::ask;
+use crate::support::{ask, ask_both};
 use reference::generate::{campus_input, handle_input, part_input, way_input};
 use reference::hits::Hits;
 use reference::{handle, part, run, text};
@@ -45,14 +45,16 @@ fn inputs_depend_on_seed_and_index_alone() {
 fn only_the_written_octets_change() {
     for index in 0..COUNT {
         let input = handle_input(2, index);
-        // `ask` tests what stays; another filling gives the same octets.
-        let (answer, written) = ask(&input.frame, &input.settings, &input.clock, input.room);
-        let mut out = vec![0; input.room];
-        assert_eq!(
-            handle(&input.frame, &input.settings, &input.clock, &mut out),
-            answer
-        );
-        assert_eq!(out[..written.len()], written);
+        let (frame, settings, clock) = (&input.frame, &input.settings, &input.clock);
+        let rooms = [input.room, input.beside_room];
+        // `ask_both` tests what stays; another filling gives the same octets.
+        let (answer, written) = ask_both(frame, settings, clock, rooms);
+        let [mut out, mut beside] = rooms.map(|room| vec![0; room]);
+        let again = handle(frame, settings, clock, &mut out, &mut beside);
+        assert_eq!(again, answer);
+        for (octets, written) in [out, beside].iter().zip(written) {
+            assert_eq!(octets[..written.len()], written);
+        }
     }
 }
 
@@ -62,7 +64,7 @@ fn delivered_parts_lie_within_the_frame() {
         let input = handle_input(3, index);
         let (answer, _) = ask(&input.frame, &input.settings, &input.clock, input.room);
         if matches!(answer.number, 51 | 52) {
-            let (start, length) = (answer.start as usize, answer.length as usize);
+            let [start, length] = [answer.start, answer.length].map(usize::from);
             assert_eq!(part(&input.frame, start, length), &input.frame[start..]);
             assert!(length >= 18);
         }
@@ -87,34 +89,51 @@ fn parts_are_those_of_plain_arithmetic() {
     }
 }
 
-/// Demand 3 for an accepted run: the bound, and one reply at most.
+/// Demand 3 for an accepted run: the bounds of its edition, originals first, and
+/// nothing answers a reply.
 fn check_run(description: &[u8], trace: &[u8]) {
     let entries: Vec<&[u8]> = trace.chunks(8).collect();
-    let switches = switches_of(description);
+    let editions = editions_of(description);
     let (hops, unreadable) = (u32::from(entries[0][4]), matches!(entries[0][3], 10 | 11));
     let count = entries.len() as u32;
     if hops == 0 || unreadable {
         assert_eq!(count, 1);
     }
-    assert!(count <= 64 + switches.min(hops).max(1));
+    let (most, most_replies) = if editions.contains(&2) {
+        (65 * hops + 1, hops)
+    } else {
+        (64 + hops.min(editions.len() as u32).max(1), 1)
+    };
+    assert!(count <= most);
     assert!(entries.is_sorted_by_key(|entry| entry[2]));
-    let replies = entries.iter().filter(|entry| matches!(entry[3], 53 | 54));
-    assert!(replies.count() <= 1);
+    let is_reply = |entry: &&&[u8]| entry[2] == 1;
+    assert!(!entries
+        .iter()
+        .filter(is_reply)
+        .any(|entry| matches!(entry[3], 53 | 54)));
+    let mut replies = 0;
     for pair in entries.windows(2) {
-        let lower = pair[0][4].wrapping_sub(1);
-        let expected = if pair[0][3] == 50 { lower } else { 63 };
-        assert_eq!(pair[1][4], expected);
+        let goes_on = pair[0][3] == 50 && pair[1][4] == pair[0][4] - 1 && pair[1][2] == pair[0][2];
+        let begins = pair[1][2] == 1 && pair[1][4] == 63;
+        assert!(goes_on || begins);
+        replies += u32::from(begins);
     }
+    assert!(replies <= most_replies);
 }
 
-/// Number of tag 1 fields.
-fn switches_of(description: &[u8]) -> u32 {
-    let (mut rest, mut count) = (description, 0);
+/// The edition of each switch of an accepted description.
+fn editions_of(description: &[u8]) -> Vec<u8> {
+    let (mut rest, mut editions) = (description, Vec::new());
     while let [tag, high, low, after @ ..] = rest {
-        count += u32::from(*tag == 1);
-        rest = &after[usize::from(*high) << 8 | usize::from(*low)..];
+        let (value, after) = after.split_at(usize::from(*high) << 8 | usize::from(*low));
+        match tag {
+            1 => editions.push(1),
+            6 => *editions.last_mut().unwrap() = value[0],
+            _ => {}
+        }
+        rest = after;
     }
-    count
+    editions
 }
 
 #[test]
@@ -125,13 +144,15 @@ fn runs_keep_their_bounds() {
         let outcome = run(&input.description, &mut trace);
         let written = 8 * outcome.count as usize;
         assert!(trace[written..].iter().all(|&octet| octet == 0xA5));
-        assert_eq!(outcome.code == 49, input.room < 640);
+        if input.room < 640 {
+            assert_eq!(outcome.code, 49);
+        }
         if outcome.code == 0 {
             check_run(&input.description, &trace[..written]);
         } else {
             assert_eq!(outcome.count, 0);
         }
-        if input.room >= 640 {
+        if outcome.code != 49 {
             let lines = String::from_utf8(text(&input.description)).unwrap();
             let last = match outcome.code {
                 0 => format!("handled {}\n", outcome.count),

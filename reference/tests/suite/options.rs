@@ -89,7 +89,7 @@ fn each_place_of_an_area() {
     for before in 0..30 {
         let good = good(before);
         let after = "45020000".repeat(29 - before);
-        let start = 4 + 4 * before as u32;
+        let start = 4 + 4 * before as u16;
         let area = |option: &str| format!("00000000 {good} {option} {after}");
         assert_eq!(fault(&area("7F7F0000")), (30, start));
         if before > 0 {

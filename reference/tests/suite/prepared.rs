@@ -12,12 +12,15 @@ fn answers_are_those_of_the_plain_call() {
         let (frame, clock) = (&input.frame, &input.clock);
         let mut plain = vec![0x5A; input.room];
         let mut written = plain.clone();
-        let (answer, cause) = explain(frame, &input.settings, clock, &mut plain);
+        let mut plain_beside = vec![0x5A; input.beside_room];
+        let mut beside = plain_beside.clone();
+        let (answer, cause) = explain(frame, &input.settings, clock, &mut plain, &mut plain_beside);
         match Prepared::new(&input.settings) {
             Ok(prepared) => {
-                let with_prepared = handle_prepared(frame, &prepared, clock, &mut written);
+                let with_prepared =
+                    handle_prepared(frame, &prepared, clock, &mut written, &mut beside);
                 assert_eq!(with_prepared, answer);
-                assert_eq!(written, plain);
+                assert_eq!((written, beside), (plain, plain_beside));
                 prepared_inputs += 1;
             }
             Err(fault) => assert_eq!(cause, Cause::Settings(fault)),
@@ -50,21 +53,24 @@ fn every_destination_is_found_and_no_other() {
         let frame = hex(&format!("{LINK} 0005 {destination:04X} 0001"));
         let (answer, expected) = ask(&frame, &settings, &CLOCK, 2048);
         let mut out = [0; 2048];
-        assert_eq!(handle_prepared(&frame, &prepared, &CLOCK, &mut out), answer);
+        let found = handle_prepared(&frame, &prepared, &CLOCK, &mut out, &mut [0; 576]);
+        assert_eq!(found, answer);
         assert_eq!(out[..expected.len()], expected);
     }
 }
 
 #[test]
-fn order_of_1_2_3() {
+fn order_of_1_2_37_3() {
     let prepared = Prepared::new(&hex(SWITCH)).unwrap();
-    let number = |frame: usize, clock: usize, room: usize| {
-        let mut out = vec![0; room];
-        handle_prepared(&vec![0; frame], &prepared, &vec![0; clock], &mut out).number
+    let number = |frame: usize, clock: usize, room: usize, beside: usize| {
+        let [frame, clock] = [frame, clock].map(|size| vec![0; size]);
+        let [mut out, mut beside] = [room, beside].map(|size| vec![0; size]);
+        handle_prepared(&frame, &prepared, &clock, &mut out, &mut beside).number
     };
-    assert_eq!(number(2049, 5, 0), 1);
-    assert_eq!(number(2049, 7, 2048), 1);
-    assert_eq!(number(2049, 6, 2047), 2);
-    assert_eq!(number(2049, 6, 2048), 3);
-    assert_eq!(number(2048, 6, 2048), 11);
+    assert_eq!(number(2049, 5, 0, 0), 1);
+    assert_eq!(number(2049, 7, 2048, 576), 1);
+    assert_eq!(number(2049, 6, 2047, 575), 2);
+    assert_eq!(number(2049, 6, 2048, 575), 37);
+    assert_eq!(number(2049, 6, 2048, 576), 3);
+    assert_eq!(number(2048, 6, 2048, 576), 11);
 }

@@ -148,7 +148,7 @@ fn fields_nobody_tests() {
 }
 
 /// The answers in transit and at the egress for an area.
-fn area(area: &str) -> (u32, u32) {
+fn area(area: &str) -> (u16, u16) {
     (
         number(&optioned("0003", area)),
         number(&optioned("0002", area)),
@@ -372,13 +372,13 @@ fn start_and_length() {
                 let start = start + 4 * words;
                 let expected = Answer {
                     number,
-                    written: 0,
                     start,
-                    length: frame.len() as u32 - start,
+                    length: frame.len() as u16 - start,
+                    ..Answer::default()
                 };
                 let answer = answer(&frame);
                 assert_eq!(answer, expected);
-                let delivered = part(&frame, start as usize, answer.length as usize);
+                let delivered = part(&frame, start.into(), answer.length.into());
                 assert_eq!(delivered, hex(&format!("{inner} 000000")));
             }
         }
@@ -429,7 +429,7 @@ fn second_call() {
 }
 
 /// The answer to a channel message, and the code of its error reply.
-fn channel(rest: &str) -> (u32, u16) {
+fn channel(rest: &str) -> (u16, u16) {
     let (number, written) = sent(&to_us(&format!("{CHANNEL} {rest}")));
     let code = if number == 53 {
         u16::from_be_bytes([written[40], written[41]]) - 0xC000

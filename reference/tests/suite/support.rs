@@ -42,7 +42,7 @@ pub fn optioned(egress: &str, area: &str) -> Vec<u8> {
 
 /// Number and start of the answer to a frame with this area, which are the same
 /// in transit, at the egress and without a next hop.
-pub fn fault(area: &str) -> (u32, u32) {
+pub fn fault(area: &str) -> (u16, u16) {
     let [transit, egress, unreachable] = ["0003", "0002", "0009"].map(|egress| {
         let frame = optioned(egress, area);
         let answer = ask(&frame, &hex(SWITCH), &CLOCK, 2048).0;
@@ -58,43 +58,60 @@ pub fn to_us(inner: &str) -> Vec<u8> {
     hex(&format!("{LINK} 0005 0002 0001 {inner}"))
 }
 
-/// The answer and what is written. Octets after that stay, only 50, 53 and 54
-/// write, a length is given by 51 and 52 alone, and a start by them and, for
-/// the option at fault, by 30 to 33.
+/// The answer and what is written, with room for a reply beside it.
 pub fn ask(frame: &[u8], settings: &[u8], clock: &[u8], room: usize) -> (Answer, Vec<u8>) {
-    let mut out = vec![SENTINEL; room];
-    let answer = handle(frame, settings, clock, &mut out);
-    let written = answer.written as usize;
-    assert!(out[written..].iter().all(|&octet| octet == SENTINEL));
-    assert_eq!(written > 0, matches!(answer.number, 50 | 53 | 54));
-    assert_eq!(answer.length > 0, matches!(answer.number, 51 | 52));
-    assert_eq!(answer.start > 0, matches!(answer.number, 30..=33 | 51 | 52));
-    out.truncate(written);
-    (answer, out)
+    let (answer, [written, _]) = ask_both(frame, settings, clock, [room, 576]);
+    (answer, written)
+}
+
+/// The answer and what is written to both outputs. Octets after that stay, only
+/// 50, 53 and 54 write, a reply is made beside 50 alone, each frame written has
+/// its neighbour, a length is given by 51 and 52 alone, and a start by them
+/// and, for the option at fault, by 30 to 33.
+pub fn ask_both(
+    frame: &[u8],
+    settings: &[u8],
+    clock: &[u8],
+    rooms: [usize; 2],
+) -> (Answer, [Vec<u8>; 2]) {
+    let [mut out, mut beside] = rooms.map(|room| vec![SENTINEL; room]);
+    let answer = handle(frame, settings, clock, &mut out, &mut beside);
+    let number = answer.number;
+    assert_eq!(answer.written > 0, matches!(number, 50 | 53 | 54));
+    assert_eq!(answer.neighbour > 0, answer.written > 0);
+    assert!(answer.beside == 0 || number == 50);
+    assert_eq!(answer.beside_neighbour > 0, answer.beside > 0);
+    assert_eq!(answer.length > 0, matches!(number, 51 | 52));
+    assert_eq!(answer.start > 0, matches!(number, 30..=33 | 51 | 52));
+    for (octets, written) in [(&mut out, answer.written), (&mut beside, answer.beside)] {
+        let after = octets.split_off(written.into());
+        assert!(after.iter().all(|&octet| octet == SENTINEL));
+    }
+    (answer, [out, beside])
 }
 
 /// The answer's number at the switch asked.
-pub fn number(frame: &[u8]) -> u32 {
+pub fn number(frame: &[u8]) -> u16 {
     number_at(frame, SWITCH)
 }
 
-pub fn number_at(frame: &[u8], settings: &str) -> u32 {
+pub fn number_at(frame: &[u8], settings: &str) -> u16 {
     ask(frame, &hex(settings), &CLOCK, 2048).0.number
 }
 
 /// Number and written octets at the switch asked.
-pub fn sent(frame: &[u8]) -> (u32, Vec<u8>) {
+pub fn sent(frame: &[u8]) -> (u16, Vec<u8>) {
     sent_at(frame, SWITCH)
 }
 
-pub fn sent_at(frame: &[u8], settings: &str) -> (u32, Vec<u8>) {
+pub fn sent_at(frame: &[u8], settings: &str) -> (u16, Vec<u8>) {
     let (answer, written) = ask(frame, &hex(settings), &CLOCK, 2048);
     (answer.number, written)
 }
 
-/// The campus call with a trace of 700 octets; octets after the entries stay.
+/// The campus call with a trace for every campus; octets after the entries stay.
 pub fn campus(description: &[u8]) -> (Outcome, Vec<u8>) {
-    let mut trace = vec![SENTINEL; 700];
+    let mut trace = vec![SENTINEL; 33_000];
     let outcome = run(description, &mut trace);
     let written = 8 * outcome.count as usize;
     assert!(trace[written..].iter().all(|&octet| octet == SENTINEL));

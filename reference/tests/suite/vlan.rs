@@ -21,11 +21,12 @@ fn transit(link: &str, area: &str, size: usize) -> Vec<u8> {
 }
 
 /// Number and octets written, which are the same with prepared settings.
-fn answer(frame: &[u8], settings: &str) -> (u32, usize) {
+fn answer(frame: &[u8], settings: &str) -> (u16, usize) {
     let (answer, written) = ask(frame, &hex(settings), &CLOCK, 2048);
     let prepared = Prepared::new(&hex(settings)).unwrap();
     let mut out = [0; 2048];
-    assert_eq!(handle_prepared(frame, &prepared, &CLOCK, &mut out), answer);
+    let found = handle_prepared(frame, &prepared, &CLOCK, &mut out, &mut [0; 576]);
+    assert_eq!(found, answer);
     assert_eq!(out[..written.len()], written);
     (answer.number, written.len())
 }

@@ -125,7 +125,7 @@ fn forwarding_takes_the_same_way() {
         let header = &out[..way.length as usize];
         match way.number {
             0 => assert_eq!((answer.number, &written[..header.len()]), (50, header)),
-            refusal => assert_eq!(answer.number, refusal),
+            refusal => assert_eq!(u32::from(answer.number), refusal),
         }
     }
 }
