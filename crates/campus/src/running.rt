@@ -140,7 +140,7 @@ fn handled(
         (now (out .entry)) (now (out .exit)) (now (beside .entry)) (now (beside .exit)) ⌝ }
 {
     let at = starts[i];
-    handler::trill_handle_prepared(frame, &w[at..], clock, out, beside)
+    handler::handle_prepared(frame, &w[at..], clock, out, beside)
 }
 
 // One handling: switch i handles the frame, writes to `out` and `beside`; entry k is put into the trace.

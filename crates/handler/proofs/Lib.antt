@@ -16,6 +16,7 @@ pub mod FieldWalks
 pub mod ChannelLaws
 pub mod StageLaws
 pub mod RouteLaws
+pub mod TaskLaws
 pub mod StoreLaws
 pub mod WayOutLaws
 pub mod RulingLaws

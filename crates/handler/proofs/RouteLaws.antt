@@ -48,7 +48,7 @@ use Rattle.handler.specs.declared.handling.Task.the-variants.{Answered, 
 use Rattle.handler.specs.declared.handling.Received.{Received}
 use Rattle.handler.specs.declared.handling.Received.the-variants as R
 use Rattle.handler.specs.Tasks as Tasks
-use Rattle.handler.specs.Tasks.{areaReadBy, ReadBy, stopsBy, alertBy, answerBy, besideOf, alertedBy, transitBy, doneBy, wantedBy, alertsBy, EchoIn, Answerable, Forwardable, Left, Ends, Comes, Role, Routes, receivedBy, Receives, Lent, Receiving, Both}
+use Rattle.handler.specs.Tasks.{areaReadBy, ReadBy, stopsBy, alertBy, answerBy, alertedBy, transitBy, wantedBy, askedBy, Answerable, Left, Ends, Comes, Role, Routes, Receives, Lent, Receiving}
 use Rattle.handler.specs.Shapes.{answerOf, droppedBy, besideBy, ownOf, onlyFor, waysBy, judgedBy, Ready, Done}
 use Rattle.handler.proofs.StageLaws.{ready, inner-held, area-held}
 
@@ -427,7 +427,23 @@ module _ (own : Own) (clock f : List ℕ) (room besideRoom : ℕ) where
 
 pub ruleset receive-laws = (needs, received-clock, received-room, received-beside, received-long, received-read)
 
--- the destination, and whether the ingress is asked for too
+-- what a frame that was received has with it
+module _ {own : Own} {clock f : List ℕ} {room besideRoom : ℕ} {received : Received} (x : Receiving own clock f room besideRoom received) {h : Header} (e : received ≡ R.Trill h) where
+  pub lent-ready : Ready f h
+  lent-ready = rw e at (x .got)
+
+  pub lent-clock : length clock ≡ 6
+  lent-clock = rw e at (x .lent) .0
+
+  pub lent-room : 2048 ≤ room
+  lent-room = rw e at (x .lent) .1
+
+  pub lent-beside : 576 ≤ besideRoom
+  lent-beside = rw e at (x .lent) .2
+
+pub ruleset received-lent = (lent-ready, lent-clock, lent-room, lent-beside)
+
+-- the destination
 module _ (nickname : ℕ) (h : Header) (egress : Bool) (e : egress ≡ weAreEgress nickname h) where
   pub wanted-back : egress ≡ true → h .ingress ≡ wantedBy nickname h
   wanted-back t = rw (← e, t)
@@ -435,187 +451,13 @@ module _ (nickname : ℕ) (h : Header) (egress : Bool) (e : egress ≡ weAreEgre
   pub wanted-on : egress ≡ false → h .egress ≡ wantedBy nickname h
   wanted-on t = rw (← e, t)
 
-module _ (task : Task) where
-  module _ (alert : Alert) (e : task ≡ Forward alert) where
-    pub alerts-no : alert ≡ NoAlert → false ≡ alertsBy task
-    alerts-no q = rw (e, q)
+module _ (nickname : ℕ) (received : Received) where
+  pub asked-none : (a : Answer) → received ≡ R.Answered a → 0 ≡ askedBy nickname received
+  asked-none a e = rw e
 
-    pub alerts-fault : (code : ℕ) → alert ≡ AlertFault code → true ≡ alertsBy task
-    alerts-fault code q = rw (e, q)
-
-    pub alerts-err : alert ≡ AlertErr → false ≡ alertsBy task
-    alerts-err q = rw (e, q)
-
-    pub alerts-request : alert ≡ AlertRequest → true ≡ alertsBy task
-    alerts-request q = rw (e, q)
-
-  pub alerts-answered : (a : Answer) → task ≡ Answered a → false ≡ alertsBy task
-  alerts-answered a e = rw e
-
-  pub alerts-error : (code : ℕ) → task ≡ Error code → false ≡ alertsBy task
-  alerts-error code e = rw e
-
-  pub alerts-echo : task ≡ Echo → false ≡ alertsBy task
-  alerts-echo e = rw e
-
-pub ruleset alerts-laws = (needs, alerts-no, alerts-fault, alerts-err, alerts-request, alerts-answered, alerts-error, alerts-echo)
+  pub asked-so : (h : Header) → received ≡ R.Trill h → (d : ℕ) → d ≡ wantedBy nickname h → d ≡ askedBy nickname received
+  asked-so h e d is = rw e is
 
 pub ruleset wanted-laws = (needs, wanted-back, wanted-on)
 
--- an answer that writes nothing, from its numbers and back
-pub kept : (a : Answer) → a .written ≡ 0 → a .beside ≡ 0 → a ≡ answerOf (answerBy a)
-kept a z y =
-    ap (λ (w : ℕ). record { number = a .number; written = w; start = a .start; length = a .length; neighbour = a .neighbour; beside = a .beside; «beside_neighbour» = a .«beside_neighbour» }) z
-    ∙ ap (λ (w : ℕ). record { number = a .number; written = 0; start = a .start; length = a .length; neighbour = a .neighbour; beside = w; «beside_neighbour» = a .«beside_neighbour» }) y
-
--- 21, and the alert
-both-of : {a : A.Handled} {r : Answer} {out out1 : List ℕ} (beside : List ℕ) → Done a r out out1 → Both a r out out1 beside beside
-both-of beside d = record { answer = d .answer; after = d .after; after-beside = rw (d .alone) (sym (put-none beside 0)) }
-
-both-dropped : {a : A.Handled} {r : Answer} (out beside : List ℕ) (n : ℕ) → a ≡ A.dropped n → r ≡ answerOf (A.dropped n) → Both a r out out beside beside
-both-dropped out beside n e is = rw e (record { answer = is; after = sym (put-none out 0); after-beside = sym (put-none beside 0) })
-
-module _ (T B : Ways) (clock f : List ℕ) (h : Header) (alert : Alert) (out beside : List ℕ) (R : Ruling) (asks : R ≡ T .hop (h .egress)) where
-  pub transit-lost : (a : Answer) → a ≡ answerOf (A.dropped 21) → R ≡ Absent → Both (transitBy T B clock f h alert) a out out beside beside
-  unfolding Tasks.transitBy
-  transit-lost a is e = both-dropped out beside 21 (rw (Tasks.transitBy, sym asks ∙ e)) is
-
-  module _ (r : NextHop) (found : R ≡ Found r) where
-    over : (x : Alert) → alert ≡ x → transitBy T B clock f h alert ≡ alertedBy T B r clock f h x
-    unfolding Tasks.transitBy
-    over x e = rw (Tasks.transitBy, sym asks ∙ found, e)
-
-    module _ (a : Answer) (out1 : List ℕ) where
-      pub transit-sent : alert ≡ NoAlert → Done (onward T r f h [] 0) a out out1 → Both (transitBy T B clock f h alert) a out out1 beside beside
-      transit-sent e d = rw (over NoAlert e) (both-of beside d)
-
-      pub transit-fault : (code : ℕ) → alert ≡ AlertFault code → Done (faulted B f h code) a out out1 → Both (transitBy T B clock f h alert) a out out1 beside beside
-      transit-fault code e d = rw (over (AlertFault code) e) (both-of beside d)
-
-      pub transit-err : alert ≡ AlertErr → a ≡ answerOf (A.dropped 26) → Both (transitBy T B clock f h alert) a out out beside beside
-      transit-err e is = both-dropped out beside 26 (over AlertErr e) is
-
-      pub transit-request : (beside1 : List ℕ) → alert ≡ AlertRequest → Both (besideOf T B r clock f h) a out out1 beside beside1 → Both (transitBy T B clock f h alert) a out out1 beside beside1
-      transit-request beside1 e d = rw (over AlertRequest e) d
-
-module _ {rfc7179 : Bool} {f : List ℕ} {h : Header} {alert : Alert} (x : Forwardable rfc7179 f h alert) where
-  pub forward-ready : Ready f h
-  forward-ready = x .is-ready
-
-  pub forward-well : rfc7179 ≡ false → draftRead (areaOf f h) ≡ WellFormed
-  forward-well = x .well
-
-  pub forward-request : alert ≡ AlertRequest → Forwardable rfc7179 f h AlertRequest
-  forward-request e = rw e at x
-
-pub reply-room : (out : List ℕ) → 2048 ≤ length out → 576 ≤ length out
-reply-room out h = omega arith
-
-pub ruleset transit-laws = (needs, transit-lost, transit-sent, transit-fault, transit-err, transit-request, forward-ready, forward-well, forward-request, reply-room)
-
--- an echo reply beside a frame that is forwarded
-module _ (T B : Ways) (r : NextHop) (clock f : List ℕ) (h : Header) (out out1 beside : List ℕ) (a : Answer) (d : Done (onward T r f h [] 0) a out out1) where
-  sends : (n : ℕ) → a .number ≡ n → (x : List ℕ) (v : ℕ) → (n ≡ 50 → onward T r f h x v ≡ record { number = 50; octets = onward T r f h [] 0 .octets; start = 0; size = 0; via = onward T r f h [] 0 .via; beside = x; besideVia = v })
-      × ((n ≡ 50 → ⊥) → onward T r f h x v ≡ onward T r f h [] 0)
-  unfolding Rules.onward
-  sends n e x v =
-      by-test (ltb 2048 (length (Rules.forwarded T r f h)))
-      (λ t. rw t ((λ z. absurd (apart (rw t at (sym e ∙ ap (λ (y : Answer). y .number) (d .answer))) z)), λ _. refl))
-      (λ t. rw t ((λ _. refl), λ z. absurd (z (rw t at (sym e ∙ ap (λ (y : Answer). y .number) (d .answer))))))
-    where
-      apart : n ≡ 29 → n ≡ 50 → ⊥
-      apart p q = omega arith
-
-  pub beside-not : (a .number ≡ 50 → ⊥) → Both (besideOf T B r clock f h) a out out1 beside beside
-  beside-not z = rw (sends (a .number) refl (echoed B clock f h .octets) (echoed B clock f h .via) .1 z) (both-of beside d)
-
-  pub beside-so : a .number ≡ 50 → (reply : Answer) (beside1 : List ℕ) → Done (echoed B clock f h) reply beside beside1 → (r2 : Answer) → r2 ≡ besideBy a reply
-      → Both (besideOf T B r clock f h) r2 out out1 beside beside1
-  beside-so e reply beside1 k r2 is =
-      let w = sends (a .number) refl (echoed B clock f h .octets) (echoed B clock f h .via) .0 e in
-      rw w
-      (record {
-        answer = is ∙ both;
-        after = d .after;
-        after-beside = k .after;
-      })
-    where
-      both : besideBy a reply ≡ answerOf (record { number = 50; octets = onward T r f h [] 0 .octets; start = 0; size = 0; via = onward T r f h [] 0 .via; beside = echoed B clock f h .octets; besideVia = echoed B clock f h .via })
-      both =
-          let w = sends (a .number) refl [] 0 .0 e in
-          rw (d .answer, k .answer) (ap (λ (y : A.Handled). besideBy (answerOf y) (answerOf (echoed B clock f h))) w)
-
-module _ {rfc7179 : Bool} {f : List ℕ} {h : Header} (x : Forwardable rfc7179 f h AlertRequest) where
-  pub request-18 : 18 ≤ length (bodyOf (innerOf f h))
-  request-18 = x .answerable .0
-
-  pub request-530 : length (bodyOf (innerOf f h)) ≤ 530
-  request-530 = x .answerable .1
-
-pub ruleset send-and-answer-laws = (needs, beside-not, beside-so, forward-ready, forward-well, request-18, request-530)
-
--- a task, once the next hops are told
-module _ (t b : Told) (clock f : List ℕ) (h : Header) (task : Task) (out beside : List ℕ) where
-  pub carry-answer : (a : Answer) → task ≡ Answered a → Left (t .rfc7179) f h task → Both (doneBy (waysBy t) (waysBy b) clock f h task) a out out beside beside
-  carry-answer a e left = rw e (record { answer = kept a (rw e at left .0) (rw e at left .1); after = sym (put-none out 0); after-beside = sym (put-none beside 0) })
-
-  module _ (r : Answer) (out2 : List ℕ) where
-    pub carry-forward : (alert : Alert) (beside2 : List ℕ) → task ≡ Forward alert → Both (transitBy (waysBy t) (waysBy b) clock f h alert) r out out2 beside beside2
-        → Both (doneBy (waysBy t) (waysBy b) clock f h task) r out out2 beside beside2
-    carry-forward alert beside2 e d = rw e d
-
-    pub carry-error : (code : ℕ) → task ≡ Error code → Done (faulted (waysBy t) f h code) r out out2 → Both (doneBy (waysBy t) (waysBy b) clock f h task) r out out2 beside beside
-    carry-error code e d = rw e (both-of beside d)
-
-    pub carry-echo : task ≡ Echo → Done (echoed (waysBy t) clock f h) r out out2 → Both (doneBy (waysBy t) (waysBy b) clock f h task) r out out2 beside beside
-    carry-echo e d = rw e (both-of beside d)
-
-module _ (rfc7179 : Bool) (f : List ℕ) (h : Header) (task : Task) (left : Left rfc7179 f h task) where
-  pub left-forward : (alert : Alert) → task ≡ Forward alert → Forwardable rfc7179 f h alert
-  left-forward alert e = rw e at left
-
-  pub left-error : (code : ℕ) → task ≡ Error code → Ready f h
-  left-error code e = rw e at left
-
-  pub left-echo : task ≡ Echo → Ready f h
-  left-echo e = rw e at left .1
-
-  pub left-18 : task ≡ Echo → 18 ≤ length (bodyOf (innerOf f h))
-  left-18 e = rw e at left .0 .0
-
-  pub left-530 : task ≡ Echo → length (bodyOf (innerOf f h)) ≤ 530
-  left-530 e = rw e at left .0 .1
-
-pub ruleset carry-laws = (needs, carry-answer, carry-forward, carry-error, carry-echo, left-forward, left-error, left-echo, left-18, left-530, reply-room)
-
--- the destinations that a task asks for are all that it asks
-asks-two : (S : Ways) (clock f : List ℕ) (h : Header) (d : ℕ) (task : Task) (B : Ways) → Role (S .nickname) h task → d ≡ wantedBy (S .nickname) h → (alertsBy task ≡ true → B ≡ onlyFor (h .ingress) S)
-    → doneBy S S clock f h task ≡ doneBy (onlyFor d S) B clock f h task
-unfolding Tasks.transitBy Rules.onward Rules.faulted Rules.echoed Rattle.rules.specs.Channel.returnPath Rules.forwarded Rules.forwardedRest E.areaSent Rattle.rules.specs.Link.link Rattle.rules.specs.Channel.errorReply Rattle.rules.specs.Channel.echoReply Rattle.rules.specs.Channel.replyRest Rattle.rules.specs.Channel.replyInner
-asks-two S clock f h d (Answered a) B role e back = refl
-asks-two S clock f h d (Forward NoAlert) B role e back = rw (e, role)
-asks-two S clock f h d (Forward (AlertFault code)) B role e back = rw (back refl, e, role)
-asks-two S clock f h d (Forward AlertErr) B role e back = rw (e, role)
-asks-two S clock f h d (Forward AlertRequest) B role e back = rw (back refl, e, role)
-asks-two S clock f h d (Error code) B role e back = rw (e, role)
-asks-two S clock f h d Echo B role e back = rw (e, role)
-
-pub tells : (S : Ways) (d : ℕ) (own : Own) (strip rfc7179 : Bool) (hop : Ruling) → own ≡ ownOf S → strip ≡ S .strip → rfc7179 ≡ S .rfc7179 → hop ≡ S .hop d
-    → waysBy (record { own = own; strip = strip; rfc7179 = rfc7179; hop = hop }) ≡ onlyFor d S
-tells S d own strip rfc7179 hop o s t p =
-    ap (λ (x : Own). record { nickname = x .nickname; mac = x .mac; strip = strip; rfc7179 = rfc7179; hop = λ e. hop }) o
-    ∙ ap (λ (x : Bool). record { nickname = S .nickname; mac = S .mac; strip = x; rfc7179 = rfc7179; hop = λ e. hop }) s
-    ∙ ap (λ (x : Bool). record { nickname = S .nickname; mac = S .mac; strip = S .strip; rfc7179 = x; hop = λ e. hop }) t
-    ∙ ap (λ (x : Ruling). record { nickname = S .nickname; mac = S .mac; strip = S .strip; rfc7179 = S .rfc7179; hop = λ e. x }) p
-
-pub ruleset told-laws = (needs, tells)
-
--- a frame that was received, its task carried out
-module _ (S : Ways) (clock f : List ℕ) (h : Header) (nickname : ℕ) (rfc7179 : Bool) (task : Task) (x : Routes nickname rfc7179 f h task) (t b : Told) (d : ℕ) (r : Answer)
-    (out out2 beside beside2 : List ℕ) (done : Both (doneBy (waysBy t) (waysBy b) clock f h task) r out out2 beside beside2) where
-  pub routed-done : waysBy t ≡ onlyFor d S → d ≡ wantedBy nickname h → nickname ≡ S .nickname → rfc7179 ≡ S .rfc7179 → (alertsBy task ≡ true → waysBy b ≡ onlyFor (h .ingress) S)
-      → Both (routed S clock f h) r out out2 beside beside2
-  routed-done is wants named two back =
-      let same : routed S clock f h ≡ doneBy (waysBy t) (waysBy b) clock f h task =
-      x .same S clock named two ∙ asks-two S clock f h d task (waysBy b) (rw named at (x .role)) (rw named at wants) back ∙ rw (← is) in
-      rw same done
+pub ruleset asked-laws = (needs, asked-none, asked-so)

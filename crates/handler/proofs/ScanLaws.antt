@@ -2,7 +2,7 @@
 -- the two folds keep. By the laws of each for each step. Assumes nothing.
 use Prim.Native.Nat.{ℕ, _+_, _-_, _≤_, _<_}
 use mathlib.Core.Path.{_≡_, refl, sym, ap, _∙_}
-use mathlib.Core.List.{List}
+use mathlib.Core.List.{List, []}
 use mathlib.Core.Bool.{Bool, true, false, not, true≢false, false≢true}
 use mathlib.Core.Option.{Option, none, some}
 use native.Mathlib.Omega.{arith}
@@ -36,17 +36,17 @@ use Rattle.rules.specs.declared.Header.{Header}
 use Rattle.handler.specs.declared.judged.Scan.{Scan}
 use Rattle.handler.specs.declared.judged.Judged.{Judged}
 use Rattle.handler.specs.Keys.{hopTaken, withKey, flagTag, flagTaken, Taking, Kept, Verdict, Scanned, JudgedBy}
-use Rattle.handler.specs.Shapes.{answerOf, droppedBy, ownOf, onlyFor, waysBy, ruledBy, noFlags, flaggedBy, unlessWithdrawn, Ready}
-use Rattle.handler.specs.Tasks.{answerBy, doneBy, wantedBy, alertsBy, Left, Routes, Receiving, Both}
-use Rattle.handler.specs.Calls as Calls
-use Rattle.handler.specs.Calls.{unlessBad, BackBy, ToldOf}
+use Rattle.handler.specs.Shapes.{answerOf, droppedBy, ownOf, onlyFor, waysBy, ruledBy, noFlags, flaggedBy, unlessWithdrawn, Ready, Done}
+use Rattle.handler.specs.Tasks.{answerBy, quietBy, wantedBy, askedBy, alertsBy, Left, Routes, receivedBy, Receiving, AlertAnswered, Both}
+use Rattle.handler.specs.Calls.{ToldOf, RoutedBy, Answers}
 use Rattle.handler.proofs.Taken.{taken, taken-first}
 use Rattle.handler.proofs.KeyLaws.{flag-tag}
 use Rattle.handler.proofs.JudgeLaws as J
 use Rattle.handler.proofs.JudgeLaws.{Judging, keys-count, seen-count}
 use Rattle.handler.proofs.FieldWalks.{Folding, fold-begin, fold-end, fold-on, newer-other, ruled-hop, ruled-other, flagged-hop, rules, flags-read}
 use Rattle.handler.proofs.LookupLaws.{next-hop}
-use Rattle.handler.proofs.RouteLaws.{kept, tells, routed-done}
+use Rattle.handler.proofs.RouteLaws.{received-lent}
+use Rattle.handler.proofs.TaskLaws.{kept, tells, answers-quiet, answers-so, answers-left, answered, left-so}
 
 -- what the loop keeps
 pub record Scanning (s : List ℕ) (from d : ℕ) (keys seen : List ℕ) (n : ℕ) (best : Ruling) (flags : Flags) (at : ℕ) : Type 0 where
@@ -172,96 +172,68 @@ module _ (s : List ℕ) (d : ℕ) (j : Judged) (is : JudgedBy s d j) where
       go none e k = absurd (false≢true (sym (ap known e) ∙ k))
       go (some T) e k = e ∙ ap some (sym (settings-read s T e))
 
-  -- a frame that was answered before its area was read
-  pub early-bad : not (j .good) ≡ true → (received : Received) (r : Answer) → r ≡ droppedBy 1 0 → r ≡ unlessBad s received
-  unfolding Calls.unlessBad
-  early-bad n received r e = rw (Calls.unlessBad, settings-none n) e
-
-  pub early-good : not (j .good) ≡ false → (received : Received) (a : Answer) → received ≡ Answered a → a ≡ unlessBad s received
-  unfolding Calls.unlessBad
-  early-good n received a e = rw (Calls.unlessBad, settings-some n, e)
-
-  pub early-none : not (j .good) ≡ false → (received : Received) (h : Header) → received ≡ Trill h → (r : Answer) → r ≡ droppedBy 1 0 → r ≡ unlessBad s received
-  unfolding Calls.unlessBad
-  early-none n received h e r is = rw (Calls.unlessBad, settings-some n, e) is
-
-pub ruleset unless-bad-laws = (needs, early-bad, early-good, early-none)
-
--- what is told of the ingress
-module _ (s : List ℕ) (h : Header) (task : Task) (asks : Bool) (is : asks ≡ alertsBy task) where
-  pub back-none : (t : Told) → not asks ≡ true → BackBy s h task t
-  back-none t n e = absurd (true≢false (sym e ∙ sym is ∙ not-true asks n))
-
-pub back-so : (s : List ℕ) (h : Header) (task : Task) (j : Judged) → JudgedBy s (h .ingress) j → known (settingsOf s) ≡ true → BackBy s h task (j .told)
-back-so s h task j is k e = is .tells (is .judged ∙ k)
-
-pub ruleset back-laws = (needs, back-none, back-so)
-
 -- the whole call
-module _ (s clock f out beside : List ℕ) (own : Own) (o : own ≡ ownOf (waysOf (settingsRead s))) (received : Received) (x : Receiving own clock f (length out) (length beside) received) where
+module _ (s clock f out beside : List ℕ) (d : ℕ) (j : Judged) (is : JudgedBy s d j) where
   abbrev answer : A.Handled
   answer = handled s clock (length out) (length beside) f
 
-  pub trill-early : (a : Answer) → received ≡ Answered a → (r : Answer) → r ≡ unlessBad s received → Both answer r out out beside beside
-  unfolding Calls.unlessBad
-  trill-early a e r is = go (settingsOf s) refl
-    where
-      go : (w : Option Settings) → settingsOf s ≡ w → Both answer r out out beside beside
-      go none q =
-          rw (settings-bad s clock (length out) (length beside) f q)
-          (record { answer = rw (Calls.unlessBad, q) at is; after = sym (put-none out 0); after-beside = sym (put-none beside 0) })
-      go (some S) q =
-          let got = rw e at (x .got) in
-          let same : answer ≡ answerBy a =
-          settings-good s clock (length out) (length beside) f S q ∙ x .same (waysOf S) (o ∙ ap (λ (y : Settings). ownOf (waysOf y)) (settings-read s S q)) ∙ rw e in
-          rw same (record { answer = (rw (Calls.unlessBad, q, e) at is) ∙ kept a (got .0) (got .1); after = sym (put-none out 0); after-beside = sym (put-none beside 0) })
+  pub trill-bad : not (j .good) ≡ true → (r : Answer) → r ≡ droppedBy 1 0 → Both answer r out out beside beside
+  trill-bad n r k =
+      rw (settings-bad s clock (length out) (length beside) f (settings-none s d j is n))
+      (record { answer = k; after = sym (put-none out 0); after-beside = sym (put-none beside 0) })
 
-  module _ (h : Header) (e : received ≡ Trill h) where
-    pub trill-ready : Ready f h
-    trill-ready = rw e at (x .got)
+  module _ (n : not (j .good) ≡ false) (own : Own) (o : own ≡ ownOf (waysOf (settingsRead s))) (received : Received)
+      (x : Receiving own clock f (length out) (length beside) received) where
+    good-answer : answer ≡ receivedBy (waysOf (settingsRead s)) clock f received
+    good-answer = settings-good s clock (length out) (length beside) f (settingsRead s) (settings-some s d j is n) ∙ x .same (waysOf (settingsRead s)) o
 
-    pub trill-clock : length clock ≡ 6
-    trill-clock = rw e at (x .lent) .0
+    pub trill-early : (a : Answer) → received ≡ Answered a → Both answer a out out beside beside
+    trill-early a e =
+        let got = rw e at (x .got) in
+        let same : answer ≡ answerBy a = good-answer ∙ rw e in
+        rw same (record { answer = kept a (got .0) (got .1); after = sym (put-none out 0); after-beside = sym (put-none beside 0) })
 
-    pub trill-room : 2048 ≤ length out
-    trill-room = rw e at (x .lent) .1
+    module _ (h : Header) (e : received ≡ Trill h) where
+      pub trill-told : d ≡ askedBy (own .nickname) received → ToldOf s h (j .told)
+      trill-told wants =
+          let asked : d ≡ wantedBy (waysOf (settingsRead s) .nickname) h = rw (e, o) at wants in
+          let said = is .tells (not-false (j .good) n) in
+          record {
+            good = sym (is .judged) ∙ not-false (j .good) n;
+            tells = record { its-own = ap ownOf said; told = rw asked at said };
+          }
 
-    pub trill-beside : 576 ≤ length beside
-    trill-beside = rw e at (x .lent) .2
+      pub trill-good : (r : Answer) (out2 beside2 : List ℕ) → Both (routed (waysOf (settingsRead s)) clock f h) r out out2 beside beside2
+          → Both answer r out out2 beside beside2
+      trill-good r out2 beside2 done =
+          let same : answer ≡ routed (waysOf (settingsRead s)) clock f h = good-answer ∙ rw e in
+          rw same done
 
-    module _ (d : ℕ) (j : Judged) (is : JudgedBy s d j) where
-      pub trill-bad : not (j .good) ≡ true → (r : Answer) → r ≡ droppedBy 1 0 → Both answer r out out beside beside
-      trill-bad n r k =
-          rw (settings-bad s clock (length out) (length beside) f (settings-none s d j is n)) (record { answer = k; after = sym (put-none out 0); after-beside = sym (put-none beside 0) })
-
-      module _ (n : not (j .good) ≡ false) where
-        pub trill-told : d ≡ wantedBy (own .nickname) h → ToldOf s own h (j .told)
-        trill-told wants = record { its-own = o; good = sym (is .judged) ∙ not-false (j .good) n; told = rw wants at (is .tells (not-false (j .good) n)) }
-
-        pub trill-good : (r : Answer) (out2 beside2 : List ℕ) → Both (routed (waysOf (settingsRead s)) clock f h) r out out2 beside beside2 → Both answer r out out2 beside beside2
-        trill-good r out2 beside2 done =
-            let S = waysOf (settingsRead s) in
-            let same : answer ≡ routed S clock f h =
-            settings-good s clock (length out) (length beside) f (settingsRead s) (settings-some s d j is n) ∙ x .same S o ∙ rw e in
-            rw same done
-
-pub left-so : {nickname : ℕ} {rfc7179 : Bool} {f : List ℕ} {h : Header} {task : Task} → Routes nickname rfc7179 f h task → Left rfc7179 f h task
-left-so x = x .left
-
-pub ruleset trill-handle-laws = (needs, trill-early, trill-ready, trill-clock, trill-room, trill-beside, trill-bad, trill-told, trill-good)
+pub ruleset trill-handle-laws = (needs, received-lent, trill-bad, trill-early, trill-told, trill-good)
 
 -- what good settings have told
-module _ (s : List ℕ) (own : Own) (h : Header) (t : Told) (x : ToldOf s own h t) where
-  pub told-own : own ≡ ownOf (waysOf (settingsRead s))
-  told-own = x .its-own
+module _ (s : List ℕ) (h : Header) (t : Told) (x : ToldOf s h t) where
+  pub told-routed : (f : List ℕ) (task : Task) → Routes (t .own .nickname) (t .rfc7179) f h task → RoutedBy s t f h task
+  told-routed f task routes = record { good = x .good; tells = x .tells; routes = routes }
 
-  pub told-known : known (settingsOf s) ≡ true
-  told-known = x .good
+pub ruleset handle-told-laws = (needs, left-so, told-routed, answered)
 
-  pub told-done : (clock f : List ℕ) (task : Task) → Routes (own .nickname) (t .rfc7179) f h task → (b : Told) (r : Answer) (out out2 beside beside2 : List ℕ)
-      → Both (doneBy (waysBy t) (waysBy b) clock f h task) r out out2 beside beside2 → BackBy s h task b → Both (routed (waysOf (settingsRead s)) clock f h) r out out2 beside beside2
-  told-done clock f task routes b r out out2 beside beside2 done back =
-      routed-done (waysOf (settingsRead s)) clock f h (own .nickname) (t .rfc7179) task routes t b (wantedBy (own .nickname) h) r out out2 beside beside2 done (x .told) refl
-      (ap (λ (y : Own). y .nickname) (x .its-own)) (ap (λ (y : Ways). y .rfc7179) (x .told)) back
+-- what good settings tell of the ingress
+module _ (s : List ℕ) (t : Told) (f : List ℕ) (h : Header) (task : Task) (x : RoutedBy s t f h task) where
+  pub by-own : (own : Own) → own ≡ t .own → own ≡ ownOf (waysOf (settingsRead s))
+  by-own own e = e ∙ x .tells .its-own
 
-pub ruleset handle-told-laws = (needs, told-own, told-known, told-done, left-so)
+  pub by-quiet : (clock : List ℕ) (a : Answer) (out beside : List ℕ) (asks : Bool) → asks ≡ alertsBy task → not asks ≡ true
+      → Answers (waysOf (settingsRead s)) t clock f h task a a out out beside beside
+  by-quiet clock = answers-quiet (waysOf (settingsRead s)) t clock f h task (x .tells) (x .routes)
+
+  module _ (j : Judged) (is : JudgedBy s (h .ingress) j) where
+    pub by-left : Left (j .told .rfc7179) f h task
+    by-left = answers-left (waysOf (settingsRead s)) t [] f h task (x .tells) (x .routes) (j .told) (is .tells (is .judged ∙ x .good))
+
+    pub by-answered : (clock : List ℕ) (a r : Answer) (out out1 beside beside1 : List ℕ) → AlertAnswered (waysBy (j .told)) clock f h task a r out out1 beside beside1
+        → Answers (waysOf (settingsRead s)) t clock f h task a r out out1 beside beside1
+    by-answered clock a r out out1 beside beside1 =
+        answers-so (waysOf (settingsRead s)) t clock f h task (x .tells) (x .routes) a out beside (j .told) (is .tells (is .judged ∙ x .good)) r out1 beside1
+
+pub ruleset answer-alert-laws = (needs, by-own, by-quiet, by-left, by-answered)

@@ -248,29 +248,30 @@ pub ruleset strips-laws = (needs, strips-none, strips-not, strips-so)
 
 pub ruleset send-laws = (needs, ready, strips-some, strips-well, sends-stripped, sends-whole)
 
--- a reply that was written
-replied : {a : A.Handled} {r : Answer} {answer n via : ℕ} {octets out out1 : List ℕ} → a ≡ A.wrote answer octets via → r ≡ wroteBy answer n via → Replied octets n out out1 → Done a r out out1
-replied e is p = rw e (record { answer = is ∙ rw (p .long); after = p .after; alone = refl })
-
+-- a reply, or none
 pub reply-few : {octets : List ℕ} {n : ℕ} {out out1 : List ℕ} → Replied octets n out out1 → n ≤ 2048
 reply-few p = omega (arith, p .few)
 
+unreplied : {a : A.Handled} (n : ℕ) (out : List ℕ) → a ≡ A.dropped n → Replied (a .octets) 0 out out
+unreplied n out e = rw e (record { long = refl; few = omega arith; after = sym (put-none out 0) })
+
 -- 25 and 53
-module _ (S : Ways) (f : List ℕ) (h : Header) (code : ℕ) (inner : List ℕ) (held : inner ≡ innerOf f h) (quiet : Bool) (q : quiet ≡ silenced code inner) (r : Answer) (out : List ℕ) where
+module _ (S : Ways) (f : List ℕ) (h : Header) (code : ℕ) (inner : List ℕ) (held : inner ≡ innerOf f h) (quiet : Bool) (q : quiet ≡ silenced code inner) (out : List ℕ) where
   said : {b : Bool} → quiet ≡ b → silenced code (innerOf f h) ≡ b
   said t = sym (rw held at q) ∙ t
 
-  pub fault-quiet : r ≡ answerOf (A.dropped 25) → quiet ≡ true → Done (faulted S f h code) r out out
-  fault-quiet is t = done-dropped 25 (faulted-silent S f h code (said t)) is
+  pub fault-quiet : quiet ≡ true → Replied (faulted S f h code .octets) 0 out out
+  fault-quiet t = unreplied 25 out (faulted-silent S f h code (said t))
 
   module _ (t : quiet ≡ false) (R : Ruling) (asks : R ≡ back S h) where
-    pub fault-lost : r ≡ answerOf (A.dropped 25) → R ≡ Absent → Done (faulted S f h code) r out out
-    fault-lost is e = done-dropped 25 (faulted-none S f h code (said t) (sym asks ∙ e)) is
+    pub fault-lost : R ≡ Absent → Replied (faulted S f h code .octets) 0 out out
+    fault-lost e = unreplied 25 out (faulted-none S f h code (said t) (sym asks ∙ e))
 
-    pub fault-sent : (hop : NextHop) → R ≡ Found hop → (n : ℕ) (out1 : List ℕ) → r ≡ wroteBy 53 n (hop .neighbour) → Replied (errorReply S hop f h code) n out out1 → Done (faulted S f h code) r out out1
-    fault-sent hop e n out1 is p = replied (faulted-over S f h code (said t) hop (sym asks ∙ e)) is p
+    pub fault-sent : (hop : NextHop) → R ≡ Found hop → (n : ℕ) (out1 : List ℕ) → Replied (errorReply S hop f h code) n out out1
+        → Replied (faulted S f h code .octets) n out out1
+    fault-sent hop e n out1 p = rw (faulted-over S f h code (said t) hop (sym asks ∙ e)) p
 
-pub ruleset faulted-laws = (needs, ready, inner-held, reply-few, fault-quiet, fault-lost, fault-sent)
+pub ruleset faulted-laws = (needs, ready, inner-held, fault-quiet, fault-lost, fault-sent)
 
 -- 28 and 54
 pub echo-enough : (f : List ℕ) (h : Header) (body : List ℕ) → body ≡ bodyOf (innerOf f h) → 18 ≤ length (bodyOf (innerOf f h)) → 18 ≤ length body
@@ -279,15 +280,16 @@ echo-enough f h body held b = rw held b
 pub echo-most : (f : List ℕ) (h : Header) (body : List ℕ) → body ≡ bodyOf (innerOf f h) → length (bodyOf (innerOf f h)) ≤ 530 → length body ≤ 530
 echo-most f h body held b = rw held b
 
-module _ (S : Ways) (f : List ℕ) (h : Header) (clock body : List ℕ) (held : body ≡ bodyOf (innerOf f h)) (mode : ℕ) (m : mode ≡ octet body 4) (r : Answer) (out : List ℕ) where
-  pub echo-other : r ≡ answerOf (A.dropped 28) → (mode ≡ 2 → ⊥) → Done (echoed S clock f h) r out out
-  echo-other is o = done-dropped 28 (echoed-mode S f h clock (λ e. o (rw held at m ∙ e))) is
+module _ (S : Ways) (f : List ℕ) (h : Header) (clock body : List ℕ) (held : body ≡ bodyOf (innerOf f h)) (mode : ℕ) (m : mode ≡ octet body 4) (out : List ℕ) where
+  pub echo-other : (mode ≡ 2 → ⊥) → Replied (echoed S clock f h .octets) 0 out out
+  echo-other o = unreplied 28 out (echoed-mode S f h clock (λ e. o (rw held at m ∙ e)))
 
   module _ (o : mode ≡ 2) (R : Ruling) (asks : R ≡ back S h) where
-    pub echo-lost : r ≡ answerOf (A.dropped 28) → R ≡ Absent → Done (echoed S clock f h) r out out
-    echo-lost is e = done-dropped 28 (echoed-none S f h clock (sym (rw held at m) ∙ o) (sym asks ∙ e)) is
+    pub echo-lost : R ≡ Absent → Replied (echoed S clock f h .octets) 0 out out
+    echo-lost e = unreplied 28 out (echoed-none S f h clock (sym (rw held at m) ∙ o) (sym asks ∙ e))
 
-    pub echo-sent : (hop : NextHop) → R ≡ Found hop → (n : ℕ) (out1 : List ℕ) → r ≡ wroteBy 54 n (hop .neighbour) → Replied (echoReply S hop h clock body) n out out1 → Done (echoed S clock f h) r out out1
-    echo-sent hop e n out1 is p = replied (echoed-over S f h clock (sym (rw held at m) ∙ o) hop (sym asks ∙ e)) is (rw held at p)
+    pub echo-sent : (hop : NextHop) → R ≡ Found hop → (n : ℕ) (out1 : List ℕ) → Replied (echoReply S hop h clock body) n out out1
+        → Replied (echoed S clock f h .octets) n out out1
+    echo-sent hop e n out1 p = rw (echoed-over S f h clock (sym (rw held at m) ∙ o) hop (sym asks ∙ e)) (rw held at p)
 
-pub ruleset echoed-laws = (needs, ready, body-held, body-within, reply-few, echo-enough, echo-most, echo-other, echo-lost, echo-sent)
+pub ruleset echoed-laws = (needs, ready, body-held, body-within, echo-enough, echo-most, echo-other, echo-lost, echo-sent)

@@ -1,7 +1,7 @@
 -- A store as the code reads it: one law for each way out, over what the tests and calls before it say. By computation. Assumes nothing.
 use Prim.Native.Nat.{ℕ, _+_, _*_, _/_, _%_, _^_, _≤_, _<_}
 use mathlib.Core.Path.{_≡_, refl, sym, ap, _∙_}
-use mathlib.Core.List.{List}
+use mathlib.Core.List.{List, []}
 use mathlib.Core.Bool.{Bool, true, false, not, _&&_, true≢false}
 use native.Mathlib.Omega.{arith}
 use borrow.Author.Needs.{needs}
@@ -24,10 +24,11 @@ use Rattle.handler.specs.declared.handling.Task.{Task}
 use Rattle.handler.specs.declared.handling.Task.the-variants as TaskIs
 use Rattle.handler.specs.declared.handling.Received.{Received}
 use Rattle.handler.specs.declared.handling.Received.the-variants.{Answered, Trill}
-use Rattle.handler.specs.Shapes.{answerOf, droppedBy, ownOf, onlyFor, waysBy, Ready}
-use Rattle.handler.specs.Calls.{RoutedIn}
-use Rattle.handler.specs.Tasks.{answerBy, doneBy, wantedBy, alertsBy, Left, Routes, receivedBy, Receiving, Both}
-use Rattle.handler.proofs.RouteLaws.{kept, tells, routed-done}
+use Rattle.handler.specs.Shapes.{answerOf, droppedBy, ownOf, onlyFor, waysBy, Ready, Done}
+use Rattle.handler.specs.Calls.{RoutedIn, Answers}
+use Rattle.handler.specs.Tasks.{answerBy, quietBy, wantedBy, alertsBy, Left, Routes, receivedBy, Receiving, AlertAnswered, Both}
+use Rattle.handler.proofs.RouteLaws.{received-lent}
+use Rattle.handler.proofs.TaskLaws.{kept, tells, answers-quiet, answers-so, answers-left, answered}
 use Rattle.handler.specs.Store.{nicknameIn, countIn, valueAt, destAt, hopOf, hopAt, stepped, searched, lastAt, hintAt, placeIn, hopFor, waysIn, storeGood, handledIn, Whole, destOf}
 
 -- which words are good
@@ -209,22 +210,10 @@ module _ (w clock f out beside : List ℕ) (ok : Bool) (is : ok ≡ storeGood w)
           rw (comes, e) (record { answer = kept a (got .0) (got .1); after = sym (put-none out 0); after-beside = sym (put-none beside 0) })
 
       module _ (h : Header) (e : received ≡ Trill h) where
-        pub store-ready : Ready f h
-        store-ready = rw e at (x .got)
-
-        pub store-clock : length clock ≡ 6
-        store-clock = rw e at (x .lent) .0
-
-        pub store-room : 2048 ≤ length out
-        store-room = rw e at (x .lent) .1
-
-        pub store-beside : 576 ≤ length beside
-        store-beside = rw e at (x .lent) .2
-
         pub store-done : (r : Answer) (out2 beside2 : List ℕ) → Both (routed (waysIn w) clock f h) r out out2 beside beside2 → Both answer r out out2 beside beside2
         store-done r out2 beside2 d = rw (comes, e) d
 
-pub ruleset trill-handle-prepared-laws = (needs, good-store, store-bad, store-early, store-ready, store-clock, store-room, store-beside, store-done)
+pub ruleset handle-prepared-laws = (needs, received-lent, good-store, store-bad, store-early, store-done)
 
 -- a frame that was received, by a good store
 module _ (w clock f out beside : List ℕ) (h : Header) (own : Own) (o : own ≡ ownOf (waysIn w)) (two : Bool) (t2 : two ≡ waysIn w .rfc7179) (task : Task) (x : Routes (own .nickname) two f h task) where
@@ -234,36 +223,37 @@ module _ (w clock f out beside : List ℕ) (h : Header) (own : Own) (o : own ≡
       let same : routed (waysIn w) clock f h ≡ answerBy a = x .same (waysIn w) clock (ap (λ (y : Own). y .nickname) o) t2 ∙ rw e in
       rw same (record { answer = kept a (left .0) (left .1); after = sym (put-none out 0); after-beside = sym (put-none beside 0) })
 
-  pub received-in : Whole w → RoutedIn w own f h task
-  received-in whole = record { whole = whole; its-own = o; routes = rw (← t2) x }
+  pub received-in : Whole w → (t : Told) (d : ℕ) → waysBy t ≡ onlyFor d (waysIn w) → d ≡ wantedBy (own .nickname) h → RoutedIn w t f h task
+  received-in whole t d said wants =
+      let asked : d ≡ wantedBy (waysIn w .nickname) h = rw o at wants in
+      let named : own .nickname ≡ t .own .nickname = ap (λ (y : Own). y .nickname) (o ∙ sym (ap ownOf said)) in
+      let same : two ≡ t .rfc7179 = t2 ∙ sym (ap (λ (y : Ways). y .rfc7179) said) in
+      record { whole = whole; tells = record { its-own = ap ownOf said; told = rw asked at said }; routes = rw (named, same) at x }
 
 pub ruleset handle-received-laws = (needs, received-answered, received-in)
 
--- its task
-module _ (w : List ℕ) (own : Own) (f : List ℕ) (h : Header) (task : Task) (x : RoutedIn w own f h task) where
+-- its task, and what is told of the ingress
+module _ (w : List ℕ) (t : Told) (f : List ℕ) (h : Header) (task : Task) (x : RoutedIn w t f h task) where
   pub in-whole : Whole w
   in-whole = x .whole
 
-  pub in-own : own ≡ ownOf (waysIn w)
-  in-own = x .its-own
+  pub in-own : (own : Own) → own ≡ t .own → own ≡ ownOf (waysIn w)
+  in-own own e = e ∙ x .tells .its-own
 
-  module _ (t : Told) (d : ℕ) (said : waysBy t ≡ onlyFor d (waysIn w)) where
-    pub in-left : Left (t .rfc7179) f h task
-    in-left = rw (ap (λ (y : Ways). y .rfc7179) said) (x .routes .left)
+  pub in-task : Left (t .rfc7179) f h task
+  in-task = x .routes .left
 
-  pub in-done : (clock : List ℕ) (t b : Told) (r : Answer) (out out2 beside beside2 : List ℕ) → Both (doneBy (waysBy t) (waysBy b) clock f h task) r out out2 beside beside2
-      → (alertsBy task ≡ true → waysBy b ≡ onlyFor (h .ingress) (waysIn w)) → (d : ℕ) → d ≡ wantedBy (own .nickname) h → waysBy t ≡ onlyFor d (waysIn w)
-      → Both (routed (waysIn w) clock f h) r out out2 beside beside2
-  in-done clock t b r out out2 beside beside2 done back d wants said =
-      routed-done (waysIn w) clock f h (own .nickname) (waysIn w .rfc7179) task (x .routes) t b d r out out2 beside beside2 done said wants (ap (λ (y : Own). y .nickname) (x .its-own)) refl back
+  pub in-quiet : (clock : List ℕ) (a : Answer) (out beside : List ℕ) (asks : Bool) → asks ≡ alertsBy task → not asks ≡ true → Answers (waysIn w) t clock f h task a a out out beside beside
+  in-quiet clock = answers-quiet (waysIn w) t clock f h task (x .tells) (x .routes)
 
-pub ruleset carry-out-in-laws = (needs, in-whole, in-own, in-left, in-done)
+  module _ (b : Told) (said : waysBy b ≡ onlyFor (h .ingress) (waysIn w)) where
+    pub in-left : Left (b .rfc7179) f h task
+    in-left = answers-left (waysIn w) t [] f h task (x .tells) (x .routes) b said
 
-module _ (w : List ℕ) (h : Header) (task : Task) (asks : Bool) (is : asks ≡ alertsBy task) where
-  pub back-none : (t : Told) → not asks ≡ true → alertsBy task ≡ true → waysBy t ≡ onlyFor (h .ingress) (waysIn w)
-  back-none t n e = absurd (true≢false (sym e ∙ sym is ∙ not-true asks n))
+    pub in-answered : (clock : List ℕ) (a r : Answer) (out out1 beside beside1 : List ℕ) → AlertAnswered (waysBy b) clock f h task a r out out1 beside beside1
+        → Answers (waysIn w) t clock f h task a r out out1 beside beside1
+    in-answered clock a r out out1 beside beside1 = answers-so (waysIn w) t clock f h task (x .tells) (x .routes) a out beside b said r out1 beside1
 
-pub back-told : (w : List ℕ) (h : Header) (task : Task) (t : Told) → waysBy t ≡ onlyFor (h .ingress) (waysIn w) → alertsBy task ≡ true → waysBy t ≡ onlyFor (h .ingress) (waysIn w)
-back-told w h task t e _ = e
+pub ruleset carry-out-in-laws = (needs, in-task, answered)
 
-pub ruleset back-in-laws = (needs, back-none, back-told)
+pub ruleset answer-alert-in-laws = (needs, in-whole, in-own, in-quiet, in-left, in-answered)

@@ -116,4 +116,4 @@ module _ (store : List ℕ) (d : ℕ) (out : List ℕ) {ok : Bool} (is : ok ≡ 
 
 pub ruleset trill-way-out-laws = (needs, settings-no-way, settings-way)
 
-pub ruleset trill-way-out-prepared-laws = (needs, store-whole, store-no-way, store-way)
+pub ruleset way-out-prepared-laws = (needs, store-whole, store-no-way, store-way)

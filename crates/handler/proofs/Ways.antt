@@ -1,12 +1,13 @@
 -- The link header towards a next hop, and the next hop back: one law for each way out. By the VLAN, and by cases of the ingress. Assumes nothing.
 use mathlib.Core.Path.{_≡_, refl, sym, ap, _∙_}
-use mathlib.Core.List.{List}
+use mathlib.Core.List.{List, [], _∷_, _++_}
 use Prim.Native.Nat.{ℕ, _+_, _/_, _%_, _≤_}
 use native.Mathlib.Omega.{arith}
 use borrow.Author.Needs.{needs}
 use borrow.Author.Tests.{eq-eqb, ne-eqb}
+use lib.Dec.{eqb}
 use lib.ListN.{length}
-use Rattle.rules.specs.Octets.{put, octets48}
+use Rattle.rules.specs.Octets.{put, octets16, octets48}
 use Rattle.rules.specs.Settings.{Ways}
 use Rattle.rules.specs.Link as L
 use Rattle.rules.specs.Link.{link}
@@ -15,10 +16,12 @@ use Rattle.rules.specs.Channel.{returnPath}
 use Rattle.rules.specs.declared.NextHop.{NextHop}
 use Rattle.rules.specs.declared.Ruling.{Ruling}
 use Rattle.rules.specs.declared.Ruling.the-variants.{Found, Absent}
+use Rattle.rules.proofs.TestLaws.{by-test}
+use Rattle.rules.proofs.FrameLaws.{length-link}
 use Rattle.handler.specs.declared.way.Told.{Told}
 use Rattle.octets.specs.Copy.{putFitting}
-use Rattle.handler.specs.Shapes.{linkOctets, taggedOctets, linkSize, waysBy}
-use Rattle.handler.proofs.Stages.{copied}
+use Rattle.handler.specs.Shapes.{taggedOctets, linkSize, waysBy}
+use Rattle.handler.proofs.Stages.{copied, copied-after}
 
 module _ (vlan : ℕ) where
   pub size-plain : vlan ≡ 0 → 14 ≡ linkSize vlan
@@ -29,26 +32,38 @@ module _ (vlan : ℕ) where
 
 pub ruleset link-length-laws = (needs, size-plain, size-tagged)
 
-module _ (S : Ways) (r : NextHop) (mac : ℕ) (own : mac ≡ S .mac) (d d1 head : List ℕ) (p : d1 ≡ putFitting d 0 head) (room : linkSize (r .vlan) ≤ length d) where
-  module _ (e : r .vlan ≡ 0) (is : head ≡ linkOctets (r .mac) mac) where
-    pub link-plain : 14 ≡ length (link S r)
-    unfolding L.link L.outerTag
-    link-plain = rw e
+-- both MACs
+pub macs-written : (to own : ℕ) (d d1 d2 a b : List ℕ) → 14 ≤ length d → d1 ≡ putFitting d 0 a → a ≡ octets48 to → d2 ≡ putFitting d1 6 b → b ≡ octets48 own
+    → d2 ≡ put d 0 (octets48 to ++ octets48 own)
+macs-written to own d d1 d2 a b room p is q its =
+    copied-after d d1 d2 0 6 (octets48 to) (octets48 own) b (copied d d1 0 a (octets48 to) p is (omega arith)) q its refl (omega arith)
 
-    pub plain-written : d1 ≡ put d 0 (link S r)
-    unfolding L.link L.outerTag
-    plain-written = rw e (copied d d1 0 head (linkOctets (r .mac) (S .mac)) p (rw own at is) (rw e at room))
+pub ruleset write-macs-laws = (needs, macs-written)
 
-  module _ (n : r .vlan ≡ 0 → ⊥) (is : head ≡ taggedOctets (r .mac) mac (r .vlan)) where
-    pub link-tagged : 18 ≡ length (link S r)
-    unfolding L.link L.outerTag
-    link-tagged = rw (ne-eqb (r .vlan) 0 n)
+-- what stands behind them
+pub macs-room : (r : NextHop) (out : List ℕ) → linkSize (r .vlan) ≤ length out → 14 ≤ length out
+macs-room r out h = by-test (eqb (r .vlan) 0) (λ e. rw e at h) (λ e. let more : 18 ≤ length out = rw e at h in omega arith)
 
-    pub tagged-written : d1 ≡ put d 0 (link S r)
-    unfolding L.link L.outerTag
-    tagged-written = rw (ne-eqb (r .vlan) 0 n) (copied d d1 0 head (taggedOctets (r .mac) (S .mac) (r .vlan)) p (rw own at is) (rw (ne-eqb (r .vlan) 0 n) at room))
+module _ (S : Ways) (r : NextHop) (mac : ℕ) (own : mac ≡ S .mac) (d d1 d2 end : List ℕ) (p : d1 ≡ put d 0 (octets48 (r .mac) ++ octets48 mac)) (q : d2 ≡ putFitting d1 12 end)
+    (room : linkSize (r .vlan) ≤ length d) where
+  pub plain-written : r .vlan ≡ 0 → end ≡ octets16 0x22F3 → d2 ≡ put d 0 (link S r)
+  unfolding L.link L.outerTag
+  plain-written z e = rw (z, ← own) (copied-after d d1 d2 0 12 (octets48 (r .mac) ++ octets48 mac) (octets16 0x22F3) end p q e refl (rw z at room))
 
-pub ruleset write-link-laws = (needs, link-plain, plain-written, link-tagged, tagged-written)
+  pub tagged-written : (r .vlan ≡ 0 → ⊥) → end ≡ taggedOctets (r .vlan) → d2 ≡ put d 0 (link S r)
+  unfolding L.link L.outerTag
+  tagged-written n e =
+      rw (ne-eqb (r .vlan) 0 n, ← own)
+      (copied-after d d1 d2 0 12 (octets48 (r .mac) ++ octets48 mac) (taggedOctets (r .vlan)) end p q e refl (rw (ne-eqb (r .vlan) 0 n) at room))
+
+module _ (S : Ways) (r : NextHop) where
+  pub link-plain : r .vlan ≡ 0 → 14 ≡ length (link S r)
+  link-plain z = sym (length-link S r ∙ rw z)
+
+  pub link-tagged : (r .vlan ≡ 0 → ⊥) → 18 ≡ length (link S r)
+  link-tagged n = sym (length-link S r ∙ rw (ne-eqb (r .vlan) 0 n))
+
+pub ruleset write-link-laws = (needs, macs-room, link-plain, plain-written, link-tagged, tagged-written)
 
 -- the way back, to ourselves and to another
 module _ (t : Told) (ingress : ℕ) where

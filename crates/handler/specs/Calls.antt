@@ -2,41 +2,38 @@
 use Prim.Native.Nat.{ℕ}
 use mathlib.Core.Path.{_≡_}
 use mathlib.Core.List.{List}
-use mathlib.Core.Bool.{Bool, true, false}
-use mathlib.Core.Option.{none, some}
-use Rattle.rules.specs.Settings.{waysOf, settingsOf, settingsRead}
+use mathlib.Core.Bool.{true}
+use Rattle.rules.specs.Settings.{Ways, waysOf, settingsOf, settingsRead}
+use Rattle.rules.specs.Handling.{routed}
 use Rattle.rules.specs.declared.Header.{Header}
-use Rattle.handler.specs.declared.answers.Answer.{Answer}
-use Rattle.handler.specs.declared.way.Own.{Own}
-use Rattle.handler.specs.declared.way.Told.{Told}
 use Rattle.rules.specs.Campus.{known}
+use Rattle.handler.specs.declared.answers.Answer.{Answer}
+use Rattle.handler.specs.declared.way.Told.{Told}
 use Rattle.handler.specs.declared.handling.Task.{Task}
-use Rattle.handler.specs.declared.handling.Received.{Received}
-use Rattle.handler.specs.declared.handling.Received.the-variants.{Answered, Trill}
-use Rattle.handler.specs.Shapes.{droppedBy, ownOf, waysBy, onlyFor}
-use Rattle.handler.specs.Tasks.{wantedBy, alertsBy, Routes}
+use Rattle.handler.specs.Shapes.{ownOf, waysBy, onlyFor, Done}
+use Rattle.handler.specs.Tasks.{wantedBy, quietBy, Routes, Both}
 use Rattle.handler.specs.Store.{waysIn, Whole}
 
--- 1 for bad settings, else the answer that a frame had before its area was read
-abbrev pub answeredOr1 : Received → Answer
-answeredOr1 (Answered a) = a
-answeredOr1 (Trill h) = droppedBy 1 0
+-- what a switch has told that was asked for what a frame asks for
+pub record Tells (S : Ways) (h : Header) (t : Told) : Type 0 where
+  pub its-own : t .own ≡ ownOf S
+  pub told : waysBy t ≡ onlyFor (wantedBy (S .nickname) h) S
 
-unfoldable pub unlessBad : List ℕ → Received → Answer
-unlessBad s r = elim (settingsOf s) [ none ↦ droppedBy 1 0 | some T ↦ answeredOr1 r ]
-
--- what is told of the ingress, of good settings and where the task asks for it
-abbrev pub BackBy : List ℕ → Header → Task → Told → Type 0
-BackBy s h task b = alertsBy task ≡ true → waysBy b ≡ onlyFor (h .ingress) (waysOf (settingsRead s))
-
--- what good settings have told that were asked for what a frame asks for
-pub record ToldOf (s : List ℕ) (own : Own) (h : Header) (t : Told) : Type 0 where
-  pub its-own : own ≡ ownOf (waysOf (settingsRead s))
+pub record ToldOf (s : List ℕ) (h : Header) (t : Told) : Type 0 where
   pub good : known (settingsOf s) ≡ true
-  pub told : waysBy t ≡ onlyFor (wantedBy (own .nickname) h) (waysOf (settingsRead s))
+  pub tells : Tells (waysOf (settingsRead s)) h t
 
--- a frame's task at the switch of a good store
-pub record RoutedIn (w : List ℕ) (own : Own) (f : List ℕ) (h : Header) (task : Task) : Type 0 where
+-- a frame's task at the switch of good settings, and of a good store
+pub record RoutedBy (s : List ℕ) (t : Told) (f : List ℕ) (h : Header) (task : Task) : Type 0 where
+  pub good : known (settingsOf s) ≡ true
+  pub tells : Tells (waysOf (settingsRead s)) h t
+  pub routes : Routes (t .own .nickname) (t .rfc7179) f h task
+
+pub record RoutedIn (w : List ℕ) (t : Told) (f : List ℕ) (h : Header) (task : Task) : Type 0 where
   pub whole : Whole w
-  pub its-own : own ≡ ownOf (waysIn w)
-  pub routes : Routes (own .nickname) (waysIn w .rfc7179) f h task
+  pub tells : Tells (waysIn w) h t
+  pub routes : Routes (t .own .nickname) (t .rfc7179) f h task
+
+-- an answer without what is replied to an alert becomes that of the switch
+pub record Answers (S : Ways) (t : Told) (clock f : List ℕ) (h : Header) (task : Task) (a r : Answer) (out out′ beside beside′ : List ℕ) : Type 0 where
+  pub over : (before : List ℕ) → Done (quietBy (waysBy t) clock f h task) a before out → Both (routed S clock f h) r before out′ beside beside′

@@ -55,17 +55,22 @@ wroteBy number written via =
 abbrev pub deliveredBy : ℕ → ℕ → ℕ → Answer
 deliveredBy number start size = answerOf (A.delivered number start size)
 
--- with what another has written beside it
-abbrev pub besideBy : Answer → Answer → Answer
-besideBy a reply =
+-- a reply of so many octets, or the number that is answered without one
+abbrev pub repliedBy : ℕ → ℕ → ℕ → ℕ → Answer
+repliedBy refusal number written via = if eqb written 0 then droppedBy refusal 0 else wroteBy number written via
+
+-- with a reply of so many octets beside it
+abbrev pub besideBy : Answer → ℕ → ℕ → Answer
+besideBy a written via =
+    if eqb written 0 then a else
     record {
       number = a .number;
       written = a .written;
       start = a .start;
       length = a .length;
       neighbour = a .neighbour;
-      beside = reply .written;
-      «beside_neighbour» = reply .neighbour;
+      beside = written;
+      «beside_neighbour» = via;
     }
 
 abbrev pub ownOf : Ways → Own
@@ -74,6 +79,13 @@ ownOf S = record { nickname = S .nickname; mac = S .mac }
 -- what a handling is told, which asks for the next hop of one destination only
 abbrev pub waysBy : Told → Ways
 waysBy t = record { nickname = t .own .nickname; mac = t .own .mac; strip = t .strip; rfc7179 = t .rfc7179; hop = λ d. t .hop }
+
+abbrev pub viaOf : Ruling → ℕ
+viaOf Absent = 0
+viaOf (Found r) = r .neighbour
+
+abbrev pub neighbourOf : Told → ℕ
+neighbourOf t = viaOf (t .hop)
 
 -- the record that rules, and the flags, once one more field is read
 unfoldable pub ruledBy : ℕ → Ruling → Field → Ruling
@@ -136,12 +148,9 @@ abbrev pub keptFrom : Options → List ℕ
 keptFrom (options os) = octetsOf (keptOptions os)
 keptFrom (fault number place) = []
 
--- the octets of a link header, without and with a tag, how many they are, and those of a TRILL header
-abbrev pub linkOctets : ℕ → ℕ → List ℕ
-linkOctets to own = octets48 to ++ octets48 own ++ octets16 ethertypeTrill
-
-abbrev pub taggedOctets : ℕ → ℕ → ℕ → List ℕ
-taggedOctets to own vlan = octets48 to ++ octets48 own ++ (octets16 ethertypeTag ++ octets16 vlan) ++ octets16 ethertypeTrill
+-- a link header's outer tag and Ethertype, how long the header is, and the octets of a TRILL header
+abbrev pub taggedOctets : ℕ → List ℕ
+taggedOctets vlan = octets16 ethertypeTag ++ octets16 vlan ++ octets16 ethertypeTrill
 
 abbrev pub linkSize : ℕ → ℕ
 linkSize vlan = if eqb vlan 0 then 14 else 18

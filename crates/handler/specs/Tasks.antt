@@ -3,6 +3,7 @@ use Prim.Native.Nat.{ℕ, _≤_}
 use mathlib.Core.Path.{_≡_}
 use mathlib.Core.List.{List, []}
 use mathlib.Core.Bool.{Bool, true, false, not, _&&_, _||_}
+use lib.Dec.{eqb}
 use lib.ListN.{length}
 use Rattle.rules.specs.Octets.{if_then_else_, put}
 use Rattle.rules.specs.Settings.{Ways}
@@ -25,7 +26,7 @@ use Rattle.handler.specs.declared.handling.Task.{Task}
 use Rattle.handler.specs.declared.handling.Task.the-variants.{Answered, Forward, Error, Echo}
 use Rattle.handler.specs.declared.handling.Received.{Received}
 use Rattle.handler.specs.declared.handling.Received.the-variants as R
-use Rattle.handler.specs.Shapes.{answerOf, ownOf, judgedBy, Ready}
+use Rattle.handler.specs.Shapes.{answerOf, ownOf, judgedBy, Ready, Done}
 
 -- the area by the edition
 abbrev pub areaReadBy : Bool → List ℕ → O.AreaRead
@@ -68,9 +69,32 @@ doneBy T B clock f h (Forward alert) = transitBy T B clock f h alert
 doneBy T B clock f h (Error code) = faulted T f h code
 doneBy T B clock f h Echo = echoed T clock f h
 
+-- the same without what is replied to an alert: a fault is dropped while no reply tells of it
+abbrev pub alertRefusal : Alert → ℕ
+alertRefusal NoAlert = 0
+alertRefusal (AlertFault code) = 25
+alertRefusal AlertErr = 26
+alertRefusal AlertRequest = 0
+
+abbrev pub alertQuiet : Ways → NextHop → List ℕ → Header → Alert → A.Handled
+alertQuiet T r f h alert = if eqb (alertRefusal alert) 0 then onward T r f h [] 0 else A.dropped (alertRefusal alert)
+
+unfoldable pub transitQuiet : Ways → List ℕ → Header → Alert → A.Handled
+transitQuiet T f h alert = elim (T .hop (h .egress)) [ Absent ↦ A.dropped 21 | Found r ↦ alertQuiet T r f h alert ]
+
+abbrev pub quietBy : Ways → List ℕ → List ℕ → Header → Task → A.Handled
+quietBy T clock f h (Answered a) = answerBy a
+quietBy T clock f h (Forward alert) = transitQuiet T f h alert
+quietBy T clock f h (Error code) = faulted T f h code
+quietBy T clock f h Echo = echoed T clock f h
+
 -- the one destination that it asks for by itself, and whether an alert asks for the ingress too
 abbrev pub wantedBy : ℕ → Header → ℕ
 wantedBy nickname h = if weAreEgress nickname h then h .ingress else h .egress
+
+abbrev pub askedBy : ℕ → Received → ℕ
+askedBy nickname (R.Answered a) = 0
+askedBy nickname (R.Trill h) = wantedBy nickname h
 
 abbrev pub alertsBy : Task → Bool
 alertsBy (Answered a) = false
@@ -155,3 +179,15 @@ pub record Both (a : A.Handled) (r : Answer) (out out′ beside beside′ : List
   pub answer : r ≡ answerOf a
   pub after : out′ ≡ put out 0 (a .octets)
   pub after-beside : beside′ ≡ put beside 0 (a .beside)
+
+-- what is replied to an alert makes of the answer without it, at every switch, the one with it
+pub record FaultTold (B : Ways) (f : List ℕ) (h : Header) (code : ℕ) (a r : Answer) (out out′ : List ℕ) : Type 0 where
+  pub over : (T : Ways) (clock before : List ℕ) → Done (transitQuiet T f h (AlertFault code)) a before out
+      → Done (transitBy T B clock f h (AlertFault code)) r before out′
+
+pub record EchoAnswered (B : Ways) (clock f : List ℕ) (h : Header) (a r : Answer) (beside beside′ : List ℕ) : Type 0 where
+  pub over : (T : Ways) (before out : List ℕ) → Done (transitQuiet T f h AlertRequest) a before out
+      → Both (transitBy T B clock f h AlertRequest) r before out beside beside′
+
+pub record AlertAnswered (B : Ways) (clock f : List ℕ) (h : Header) (task : Task) (a r : Answer) (out out′ beside beside′ : List ℕ) : Type 0 where
+  pub over : (T : Ways) (before : List ℕ) → Done (quietBy T clock f h task) a before out → Both (doneBy T B clock f h task) r before out′ beside beside′

@@ -1,7 +1,7 @@
-// The answer of one handling, made in one of four ways.
+// The answer of one handling, made in one of five ways.
 ghost use mathlib.Core.Path.{_≡_};
 ghost use Prim.Native.Nat.{_≤_};
-ghost use Rattle.handler.specs.Shapes.{droppedBy, wroteBy, deliveredBy, besideBy};
+ghost use Rattle.handler.specs.Shapes.{droppedBy, wroteBy, deliveredBy, repliedBy, besideBy};
 
 // What the driver is answered. `neighbour` is the one used for what was written, 0 where nothing was; `beside` is the length of a reply made
 // beside a forwarded frame, with its neighbour (document 02, T-09).
@@ -68,17 +68,32 @@ pub fn delivered(number: u8, start: usize, length: usize) -> Answer
     }
 }
 
-// With what a second answer has written, beside it.
-pub fn with_beside(a: Answer, reply: Answer) -> Answer
-    ensures { λ r. ⌜ r ≡ besideBy a reply ⌝ }
+// A reply of so many octets, or the number that is answered without one.
+pub fn replied(refusal: u8, number: u8, written: usize, neighbour: u16) -> Answer
+    requires { ⌜ written ≤ 2048 ⌝ }
+    ensures { λ r. ⌜ r ≡ repliedBy refusal number written neighbour ⌝ }
 {
+    if written == 0 {
+        return dropped(refusal);
+    }
+    wrote(number, written, neighbour)
+}
+
+// With a reply of so many octets beside it.
+pub fn with_beside(a: Answer, written: usize, neighbour: u16) -> Answer
+    requires { ⌜ written ≤ 2048 ⌝ }
+    ensures { λ r. ⌜ r ≡ besideBy a written neighbour ⌝ }
+{
+    if written == 0 {
+        return a;
+    }
     Answer {
         number: a.number,
         written: a.written,
         start: a.start,
         length: a.length,
         neighbour: a.neighbour,
-        beside: reply.written,
-        beside_neighbour: reply.neighbour,
+        beside: written as u16,
+        beside_neighbour: neighbour,
     }
 }

@@ -29,9 +29,8 @@ ghost use Rattle.rules.specs.Extension.{areaSent};
 ghost use Rattle.rules.specs.Channel.{bodyOf, channelRead};
 ghost use Rattle.rules.specs.Handling as Rules;
 ghost use Rattle.rules.specs.declared.FrameRead.the-variants.{Trill};
-ghost use Rattle.handler.specs.Shapes.{Ready, Done, waysBy};
-ghost use Rattle.rules.specs.declared.Alert.the-variants.{AlertRequest};
-ghost use Rattle.handler.specs.Tasks.{ReadBy, stopsBy, alertBy, wantedBy, alertsBy, transitBy, besideOf, doneBy, Forwardable, Left, Comes, Routes, Receives, Receiving, Both};
+ghost use Rattle.handler.specs.Shapes.{Ready, Replied, Done, waysBy};
+ghost use Rattle.handler.specs.Tasks.{ReadBy, stopsBy, alertBy, alertRefusal, wantedBy, askedBy, alertsBy, transitQuiet, quietBy, FaultTold, EchoAnswered, AlertAnswered, Forwardable, Left, Comes, Routes, Receives, Receiving};
 
 // A frame as received: an answer with nothing written, or a TRILL frame of which none of 10 to 18 is given.
 pub enum Received {
@@ -275,6 +274,16 @@ pub fn wanted(nickname: u16, h: Header) -> u16
     h.egress
 }
 
+// The destination that settings are asked for, which a frame that is answered already has none of.
+pub fn asked(nickname: u16, received: Received) -> u16
+    ensures { λ r. ⌜ r ≡ askedBy nickname received ⌝ }
+{
+    match received {
+        Received::Answered(_) => 0,
+        Received::Trill(h) => wanted(nickname, h),
+    }
+}
+
 // Whether a reply beside, or in place of, a forwarded frame asks for the next hop of the ingress too.
 pub fn alerts(task: Task) -> bool
     ensures { λ r. ⌜ r ≡ alertsBy task ⌝ }
@@ -292,52 +301,32 @@ pub fn alerts(task: Task) -> bool
     }
 }
 
-// 21, then what the alert asks for, 29 and 50; `b` has the next hop of the ingress.
-fn transit(
-    t: Told,
-    b: Told,
-    clock: &[u8],
-    f: &[u8],
-    h: Header,
-    alert: Alert,
-    out: &mut [u8],
-    beside: &mut [u8],
-) -> Answer
-    requires { ⌜ Forwardable (t .rfc7179) (now f) h alert × (length (now clock) ≡ 6) × (2048 ≤ length (now out)) × (576 ≤ length (now beside)) ⌝ }
-    ensures { λ r. ⌜ Both (transitBy (waysBy t) (waysBy b) (now (clock .entry)) (now (f .entry)) h alert) r (now (out .entry)) (now (out .exit)) (now (beside .entry)) (now (beside .exit)) ⌝ }
+// 25 and 26, which an alert gives in place of 50 while no reply is made, else 0.
+fn alert_refusal(alert: Alert) -> u8
+    ensures { λ r. ⌜ r ≡ alertRefusal alert ⌝ }
+{
+    match alert {
+        Alert::NoAlert => 0,
+        Alert::AlertFault { code: _ } => 25,
+        Alert::AlertErr => 26,
+        Alert::AlertRequest => 0,
+    }
+}
+
+// 21, 25 and 26, 29 and 50, without what is replied to an alert.
+fn transit(t: Told, f: &[u8], h: Header, alert: Alert, out: &mut [u8]) -> Answer
+    requires { ⌜ Forwardable (t .rfc7179) (now f) h alert × (2048 ≤ length (now out)) ⌝ }
+    ensures { λ r. ⌜ Done (transitQuiet (waysBy t) (now (f .entry)) h alert) r (now (out .entry)) (now (out .exit)) ⌝ }
 {
     let hop = t.hop;
     let Ruling::Found(r) = hop else {
         return answers::dropped(21);
     };
-    match alert {
-        Alert::NoAlert => send(t, r, f, h, out),
-        Alert::AlertFault { code } => faulted(b, f, h, code, out),
-        Alert::AlertErr => answers::dropped(26),
-        Alert::AlertRequest => send_and_answer(t, b, r, clock, f, h, out, beside),
+    let refusal = alert_refusal(alert);
+    if refusal != 0 {
+        return answers::dropped(refusal);
     }
-}
-
-// 29, or 50 with an echo reply beside it.
-fn send_and_answer(
-    t: Told,
-    b: Told,
-    r: NextHop,
-    clock: &[u8],
-    f: &[u8],
-    h: Header,
-    out: &mut [u8],
-    beside: &mut [u8],
-) -> Answer
-    requires { ⌜ Forwardable (t .rfc7179) (now f) h AlertRequest × (length (now clock) ≡ 6) × (2048 ≤ length (now out)) × (576 ≤ length (now beside)) ⌝ }
-    ensures { λ a. ⌜ Both (besideOf (waysBy t) (waysBy b) r (now (clock .entry)) (now (f .entry)) h) a (now (out .entry)) (now (out .exit)) (now (beside .entry)) (now (beside .exit)) ⌝ }
-{
-    let a = send(t, r, f, h, out);
-    if a.number != 50 {
-        return a;
-    }
-    let reply = echoed(b, clock, f, h, beside);
-    answers::with_beside(a, reply)
+    send(t, r, f, h, out)
 }
 
 // 29 and 50.
@@ -406,46 +395,85 @@ fn strips(t: Told, h: Header) -> bool
     t.strip
 }
 
-// 53 and 25.
-fn faulted(t: Told, f: &[u8], h: Header, code: u8, out: &mut [u8]) -> Answer
+// The reply of 53 and how long it is, 0 for 25.
+fn faulted(t: Told, f: &[u8], h: Header, code: u8, out: &mut [u8]) -> usize
     requires { ⌜ Ready (now f) h × (576 ≤ length (now out)) ⌝ }
-    ensures { λ r. ⌜ Done (Rules.faulted (waysBy t) (now (f .entry)) h code) r (now (out .entry)) (now (out .exit)) ⌝ }
+    ensures { λ n. ⌜ Replied (Rules.faulted (waysBy t) (now (f .entry)) h code .octets) n (now (out .entry)) (now (out .exit)) ⌝ }
 {
     let start = header::inner_start(h);
     if channel::silenced(code, &f[start..]) {
-        return answers::dropped(25);
+        return 0;
     }
     let back = way::return_path(t, h.ingress);
     let Ruling::Found(r) = back else {
-        return answers::dropped(25);
+        return 0;
     };
-    answers::wrote(53, reply::error_reply(t, r, f, h, code, out), r.neighbour)
+    reply::error_reply(t, r, f, h, code, out)
 }
 
-// 54 and 28.
-fn echoed(t: Told, clock: &[u8], f: &[u8], h: Header, out: &mut [u8]) -> Answer
+// The reply of 54 and how long it is, 0 for 28.
+fn echoed(t: Told, clock: &[u8], f: &[u8], h: Header, out: &mut [u8]) -> usize
     requires { ⌜ (18 ≤ length (bodyOf (innerOf (now f) h))) × (length (bodyOf (innerOf (now f) h)) ≤ 530) × (length (now clock) ≡ 6) × Ready (now f) h × (576 ≤ length (now out)) ⌝ }
-    ensures { λ r. ⌜ Done (Rules.echoed (waysBy t) (now (clock .entry)) (now (f .entry)) h) r (now (out .entry)) (now (out .exit)) ⌝ }
+    ensures { λ n. ⌜ Replied (Rules.echoed (waysBy t) (now (clock .entry)) (now (f .entry)) h .octets) n (now (out .entry)) (now (out .exit)) ⌝ }
 {
     let start = header::inner_start(h) + 22;
     let body = &f[start..];
     if octets::octet(body, 4) != 2 {
-        return answers::dropped(28);
+        return 0;
     }
     let back = way::return_path(t, h.ingress);
     let Ruling::Found(r) = back else {
-        return answers::dropped(28);
+        return 0;
     };
-    answers::wrote(
-        54,
-        reply::echo_reply(t, r, h, clock, body, out),
-        r.neighbour,
-    )
+    reply::echo_reply(t, r, h, clock, body, out)
 }
 
-// What is done with a frame, once the next hops are told.
-pub fn carry_out(
-    t: Told,
+// What is done with a frame once the next hop is told, but for what is replied to an alert.
+pub fn carry_out(t: Told, clock: &[u8], f: &[u8], h: Header, task: Task, out: &mut [u8]) -> Answer
+    requires { ⌜ Left (t .rfc7179) (now f) h task × (length (now clock) ≡ 6) × (2048 ≤ length (now out)) ⌝ }
+    ensures { λ r. ⌜ Done (quietBy (waysBy t) (now (clock .entry)) (now (f .entry)) h task) r (now (out .entry)) (now (out .exit)) ⌝ }
+{
+    match task {
+        Task::Answered(a) => a,
+        Task::Forward(alert) => transit(t, f, h, alert, out),
+        Task::Error { code } => {
+            let n = faulted(t, f, h, code, out);
+            answers::replied(25, 53, n, way::neighbour(t))
+        }
+        Task::Echo => {
+            let n = echoed(t, clock, f, h, out);
+            answers::replied(28, 54, n, way::neighbour(t))
+        }
+    }
+}
+
+// 53 or 25 in place of 50, once there is a next hop; `b` is told of the ingress.
+fn tell_fault(a: Answer, b: Told, f: &[u8], h: Header, code: u8, out: &mut [u8]) -> Answer
+    requires { ⌜ Ready (now f) h × (576 ≤ length (now out)) ⌝ }
+    ensures { λ r. ⌜ FaultTold (waysBy b) (now (f .entry)) h code a r (now (out .entry)) (now (out .exit)) ⌝ }
+{
+    if a.number == 21 {
+        return a;
+    }
+    let n = faulted(b, f, h, code, out);
+    answers::replied(25, 53, n, way::neighbour(b))
+}
+
+// An echo reply beside 50.
+fn answer_echo(a: Answer, b: Told, clock: &[u8], f: &[u8], h: Header, beside: &mut [u8]) -> Answer
+    requires { ⌜ (18 ≤ length (bodyOf (innerOf (now f) h))) × (length (bodyOf (innerOf (now f) h)) ≤ 530) × (length (now clock) ≡ 6) × Ready (now f) h × (576 ≤ length (now beside)) ⌝ }
+    ensures { λ r. ⌜ EchoAnswered (waysBy b) (now (clock .entry)) (now (f .entry)) h a r (now (beside .entry)) (now (beside .exit)) ⌝ }
+{
+    if a.number != 50 {
+        return a;
+    }
+    let n = echoed(b, clock, f, h, beside);
+    answers::with_beside(a, n, way::neighbour(b))
+}
+
+// What is replied to an alert, once all else is done; `b` is told of the ingress.
+pub fn answer_alert(
+    a: Answer,
     b: Told,
     clock: &[u8],
     f: &[u8],
@@ -454,13 +482,18 @@ pub fn carry_out(
     out: &mut [u8],
     beside: &mut [u8],
 ) -> Answer
-    requires { ⌜ Left (t .rfc7179) (now f) h task × (length (now clock) ≡ 6) × (2048 ≤ length (now out)) × (576 ≤ length (now beside)) ⌝ }
-    ensures { λ r. ⌜ Both (doneBy (waysBy t) (waysBy b) (now (clock .entry)) (now (f .entry)) h task) r (now (out .entry)) (now (out .exit)) (now (beside .entry)) (now (beside .exit)) ⌝ }
+    requires { ⌜ Left (b .rfc7179) (now f) h task × (length (now clock) ≡ 6) × (2048 ≤ length (now out)) × (576 ≤ length (now beside)) ⌝ }
+    ensures { λ r. ⌜ AlertAnswered (waysBy b) (now (clock .entry)) (now (f .entry)) h task a r (now (out .entry)) (now (out .exit)) (now (beside .entry)) (now (beside .exit)) ⌝ }
 {
     match task {
-        Task::Answered(a) => a,
-        Task::Forward(alert) => transit(t, b, clock, f, h, alert, out, beside),
-        Task::Error { code } => faulted(t, f, h, code, out),
-        Task::Echo => echoed(t, clock, f, h, out),
+        Task::Answered(_) => a,
+        Task::Forward(alert) => match alert {
+            Alert::NoAlert => a,
+            Alert::AlertFault { code } => tell_fault(a, b, f, h, code, out),
+            Alert::AlertErr => a,
+            Alert::AlertRequest => answer_echo(a, b, clock, f, h, beside),
+        },
+        Task::Error { code: _ } => a,
+        Task::Echo => a,
     }
 }

@@ -18,22 +18,20 @@ use crate::handling::Received;
 use crate::handling::Task;
 use crate::way::Own;
 use crate::way::Told;
-use crate::way::WayOut;
 pub use answers::Answer;
 use rules::Header;
+pub use way::WayOut;
 ghost use mathlib.Core.Path.{_≡_};
 ghost use Prim.Native.Nat.{_≤_};
 ghost use lib.ListN.{length};
 ghost use Rattle.rules.specs.WayOut.{wayOut};
-ghost use mathlib.Core.Bool.{true};
-ghost use Rattle.rules.specs.Settings.{settingsOf, settingsRead, waysOf};
-ghost use Rattle.rules.specs.Campus.{known};
+ghost use Rattle.rules.specs.Settings.{settingsRead, waysOf};
 ghost use Rattle.rules.specs.Handling.{handled, routed, partOf};
 ghost use Rattle.handler.specs.Store.{handledIn, wayOutIn, waysIn, Whole, Prepared};
 ghost use Rattle.handler.specs.Extend.{Opens, Extends};
-ghost use Rattle.handler.specs.Shapes.{ownOf, onlyFor, waysBy, Ready, WayDone};
-ghost use Rattle.handler.specs.Tasks.{alertsBy, Both};
-ghost use Rattle.handler.specs.Calls.{unlessBad, BackBy, ToldOf, RoutedIn};
+ghost use Rattle.handler.specs.Shapes.{ownOf, Ready, WayDone};
+ghost use Rattle.handler.specs.Tasks.{Both};
+ghost use Rattle.handler.specs.Calls.{ToldOf, RoutedBy, RoutedIn, Answers};
 
 // The part of a frame that an answer's start and length name, or an empty part if it does not lie within the frame.
 pub fn part(frame: &[u8], start: usize, size: usize) -> &[u8]
@@ -60,21 +58,20 @@ pub extern "C" fn trill_handle(
 {
     let own = settings::own_of(settings);
     let received = handling::receive(own, clock, frame, out.len(), beside.len());
-    let Received::Trill(h) = received else {
-        return unless_bad(settings, own, received);
-    };
-    let j = judged::judge(settings, own, handling::wanted(own.nickname, h));
+    let j = judged::judge(settings, own, handling::asked(own.nickname, received));
     if !j.good {
         return answers::dropped(1);
     }
     let t = j.told;
-    handle_told(settings, own, t, clock, frame, h, out, beside)
+    match received {
+        Received::Answered(a) => a,
+        Received::Trill(h) => handle_told(settings, t, clock, frame, h, out, beside),
+    }
 }
 
 // A frame of which none of 10 to 18 is given, once good settings have told what it asks for.
 fn handle_told(
     settings: &[u8],
-    own: Own,
     t: Told,
     clock: &[u8],
     frame: &[u8],
@@ -82,39 +79,37 @@ fn handle_told(
     out: &mut [u8],
     beside: &mut [u8],
 ) -> Answer
-    requires { ⌜ ToldOf (now settings) own h t × Ready (now frame) h × (length (now clock) ≡ 6) × (2048 ≤ length (now out)) × (576 ≤ length (now beside)) ⌝ }
+    requires { ⌜ ToldOf (now settings) h t × Ready (now frame) h × (length (now clock) ≡ 6) × (2048 ≤ length (now out)) × (576 ≤ length (now beside)) ⌝ }
     ensures { λ r. ⌜ Both (routed (waysOf (settingsRead (now (settings .entry)))) (now (clock .entry)) (now (frame .entry)) h) r (now (out .entry)) (now (out .exit)) (now (beside .entry)) (now (beside .exit)) ⌝ }
 {
-    let task = handling::route(own.nickname, t.rfc7179, frame, h);
-    let b = back(settings, own, h, task, t);
-    handling::carry_out(t, b, clock, frame, h, task, out, beside)
+    let task = handling::route(t.own.nickname, t.rfc7179, frame, h);
+    let a = handling::carry_out(t, clock, frame, h, task, out);
+    answer_alert(settings, t, a, clock, frame, h, task, out, beside)
 }
 
-// The answer that a frame has before its area is read, unless the settings are bad.
-fn unless_bad(settings: &[u8], own: Own, received: Received) -> Answer
-    requires { ⌜ own ≡ ownOf (waysOf (settingsRead (now settings))) ⌝ }
-    ensures { λ r. ⌜ r ≡ unlessBad (now (settings .entry)) received ⌝ }
-{
-    let j = judged::judge(settings, own, 0);
-    if !j.good {
-        return answers::dropped(1);
-    }
-    let Received::Answered(a) = received else {
-        return answers::dropped(1);
-    };
-    a
-}
-
-// What is told that asks for the next hop of the ingress, where the task does.
-fn back(settings: &[u8], own: Own, h: Header, task: Task, t: Told) -> Told
-    requires { ⌜ (own ≡ ownOf (waysOf (settingsRead (now settings)))) × (known (settingsOf (now settings)) ≡ true) ⌝ }
-    ensures { λ r. ⌜ BackBy (now (settings .entry)) h task r ⌝ }
+// With what is replied to an alert that asks for a reply.
+fn answer_alert(
+    settings: &[u8],
+    t: Told,
+    a: Answer,
+    clock: &[u8],
+    frame: &[u8],
+    h: Header,
+    task: Task,
+    out: &mut [u8],
+    beside: &mut [u8],
+) -> Answer
+    requires { ⌜ RoutedBy (now settings) t (now frame) h task × (length (now clock) ≡ 6) × (2048 ≤ length (now out)) × (576 ≤ length (now beside)) ⌝ }
+    ensures { λ r. ⌜ Answers (waysOf (settingsRead (now (settings .entry)))) t (now (clock .entry)) (now (frame .entry)) h task a r
+        (now (out .entry)) (now (out .exit)) (now (beside .entry)) (now (beside .exit)) ⌝ }
 {
     if !handling::alerts(task) {
-        return t;
+        return a;
     }
+    let own = t.own;
     let j = judged::judge(settings, own, h.ingress);
-    j.told
+    let b = j.told;
+    handling::answer_alert(a, b, clock, frame, h, task, out, beside)
 }
 
 // Settings octets into a store of 164 words or more, once for all frames: 0, 1 for bad settings, 2 for too few words.
@@ -154,8 +149,8 @@ pub fn store_extend(store: &mut [u64], tag: u8, v: &[u8]) -> u32
     preparing::extend(store, tag, v)
 }
 
-#[no_mangle]
-pub extern "C" fn trill_handle_prepared(
+// The handling of a frame by a store.
+pub fn handle_prepared(
     frame: &[u8],
     store: &[u64],
     clock: &[u8],
@@ -192,13 +187,14 @@ fn handle_received(
     if let Task::Answered(a) = task {
         return a;
     }
-    carry_out_in(store, own, clock, frame, h, task, out, beside)
+    let t = store::told(store, own, handling::wanted(own.nickname, h));
+    carry_out_in(store, t, clock, frame, h, task, out, beside)
 }
 
 // Its task, by what the store tells.
 fn carry_out_in(
     store: &[u64],
-    own: Own,
+    t: Told,
     clock: &[u8],
     frame: &[u8],
     h: Header,
@@ -206,23 +202,34 @@ fn carry_out_in(
     out: &mut [u8],
     beside: &mut [u8],
 ) -> Answer
-    requires { ⌜ RoutedIn (now store) own (now frame) h task × (length (now clock) ≡ 6) × (2048 ≤ length (now out)) × (576 ≤ length (now beside)) ⌝ }
+    requires { ⌜ RoutedIn (now store) t (now frame) h task × (length (now clock) ≡ 6) × (2048 ≤ length (now out)) × (576 ≤ length (now beside)) ⌝ }
     ensures { λ r. ⌜ Both (routed (waysIn (now (store .entry))) (now (clock .entry)) (now (frame .entry)) h) r (now (out .entry)) (now (out .exit)) (now (beside .entry)) (now (beside .exit)) ⌝ }
 {
-    let t = store::told(store, own, handling::wanted(own.nickname, h));
-    let b = back_in(store, own, h, task, t);
-    handling::carry_out(t, b, clock, frame, h, task, out, beside)
+    let a = handling::carry_out(t, clock, frame, h, task, out);
+    answer_alert_in(store, t, a, clock, frame, h, task, out, beside)
 }
 
-// What the store tells that is asked for the next hop of the ingress, where the task does.
-fn back_in(store: &[u64], own: Own, h: Header, task: Task, t: Told) -> Told
-    requires { ⌜ Whole (now store) × (own ≡ ownOf (waysIn (now store))) ⌝ }
-    ensures { λ r. ⌜ (alertsBy task ≡ true → waysBy r ≡ onlyFor (h .ingress) (waysIn (now (store .entry)))) ⌝ }
+fn answer_alert_in(
+    store: &[u64],
+    t: Told,
+    a: Answer,
+    clock: &[u8],
+    frame: &[u8],
+    h: Header,
+    task: Task,
+    out: &mut [u8],
+    beside: &mut [u8],
+) -> Answer
+    requires { ⌜ RoutedIn (now store) t (now frame) h task × (length (now clock) ≡ 6) × (2048 ≤ length (now out)) × (576 ≤ length (now beside)) ⌝ }
+    ensures { λ r. ⌜ Answers (waysIn (now (store .entry))) t (now (clock .entry)) (now (frame .entry)) h task a r
+        (now (out .entry)) (now (out .exit)) (now (beside .entry)) (now (beside .exit)) ⌝ }
 {
     if !handling::alerts(task) {
-        return t;
+        return a;
     }
-    store::told(store, own, h.ingress)
+    let own = t.own;
+    let b = store::told(store, own, h.ingress);
+    handling::answer_alert(a, b, clock, frame, h, task, out, beside)
 }
 
 // T-11: the link header towards a destination; 1, 21 or 2 where there is none.
@@ -239,8 +246,7 @@ pub extern "C" fn trill_way_out(settings: &[u8], destination: u16, out: &mut [u8
     way::way_out(t, out)
 }
 
-#[no_mangle]
-pub extern "C" fn trill_way_out_prepared(store: &[u64], destination: u16, out: &mut [u8]) -> WayOut
+pub fn way_out_prepared(store: &[u64], destination: u16, out: &mut [u8]) -> WayOut
     ensures { λ r. ⌜ WayDone (wayOutIn (now (store .entry)) destination (length (now (out .entry)))) r (now (out .entry)) (now (out .exit)) ⌝ }
 {
     if !store::good(store) {

@@ -2,13 +2,14 @@
 use rules::NextHop;
 use rules::Ruling;
 ghost use mathlib.Core.Path.{_≡_};
+ghost use mathlib.Core.List.{_++_};
 ghost use Prim.Native.Nat.{_≤_};
 ghost use lib.ListN.{length};
-ghost use Rattle.rules.specs.Octets.{put};
+ghost use Rattle.rules.specs.Octets.{octets48, put};
 ghost use Rattle.rules.specs.Link.{link};
 ghost use Rattle.rules.specs.Channel.{returnPath};
 ghost use Rattle.rules.specs.WayOut.{wayOutBy};
-ghost use Rattle.handler.specs.Shapes.{linkOctets, taggedOctets, linkSize, waysBy, WayDone};
+ghost use Rattle.handler.specs.Shapes.{taggedOctets, linkSize, waysBy, neighbourOf, WayDone};
 
 // Own nickname and MAC.
 pub struct Own {
@@ -24,48 +25,18 @@ pub struct Told {
     pub hop: Ruling,
 }
 
-fn link_octets(to: u64, own: u64) -> [u8; 14]
-    ensures { λ r. ⌜ r ≡ linkOctets to own ⌝ }
+// How long the link header towards a next hop is.
+pub fn link_length(vlan: u16) -> usize
+    ensures { λ r. ⌜ r ≡ linkSize vlan ⌝ }
 {
-    let a = octets::six(to);
-    let b = octets::six(own);
-    [
-        a[0],
-        a[1],
-        a[2],
-        a[3],
-        a[4],
-        a[5],
-        b[0],
-        b[1],
-        b[2],
-        b[3],
-        b[4],
-        b[5],
-        0x22,
-        0xF3,
-    ]
+    if vlan == 0 { 14 } else { 18 }
 }
 
-// T-01: the same with an outer tag.
-fn tagged_octets(to: u64, own: u64, vlan: u16) -> [u8; 18]
-    ensures { λ r. ⌜ r ≡ taggedOctets to own vlan ⌝ }
+// T-01: outer tag and Ethertype.
+fn tagged_octets(vlan: u16) -> [u8; 6]
+    ensures { λ r. ⌜ r ≡ taggedOctets vlan ⌝ }
 {
-    let a = octets::six(to);
-    let b = octets::six(own);
     [
-        a[0],
-        a[1],
-        a[2],
-        a[3],
-        a[4],
-        a[5],
-        b[0],
-        b[1],
-        b[2],
-        b[3],
-        b[4],
-        b[5],
         0x81,
         0x00,
         octets::high(vlan),
@@ -75,11 +46,14 @@ fn tagged_octets(to: u64, own: u64, vlan: u16) -> [u8; 18]
     ]
 }
 
-// How long the link header towards a next hop is.
-pub fn link_length(vlan: u16) -> usize
-    ensures { λ r. ⌜ r ≡ linkSize vlan ⌝ }
+fn write_macs(to: u64, own: u64, out: &mut [u8])
+    requires { ⌜ 14 ≤ length (now out) ⌝ }
+    ensures { λ _. ⌜ now (out .exit) ≡ put (now (out .entry)) 0 (octets48 to ++ octets48 own) ⌝ }
 {
-    if vlan == 0 { 14 } else { 18 }
+    let destination = octets::six(to);
+    octets::copy(out, 0, &destination);
+    let source = octets::six(own);
+    octets::copy(out, 6, &source);
 }
 
 // Writes the link header towards a next hop and says how long it is.
@@ -87,13 +61,14 @@ pub fn write_link(t: Told, r: NextHop, out: &mut [u8]) -> usize
     requires { ⌜ linkSize (r .vlan) ≤ length (now out) ⌝ }
     ensures { λ n. ⌜ (n ≡ length (link (waysBy t) r)) × (now (out .exit) ≡ put (now (out .entry)) 0 (link (waysBy t) r)) ⌝ }
 {
+    write_macs(r.mac, t.own.mac, out);
     if r.vlan == 0 {
-        let head = link_octets(r.mac, t.own.mac);
-        octets::copy(out, 0, &head);
+        let ethertype = [0x22, 0xF3];
+        octets::copy(out, 12, &ethertype);
         return 14;
     }
-    let head = tagged_octets(r.mac, t.own.mac, r.vlan);
-    octets::copy(out, 0, &head);
+    let tagged = tagged_octets(r.vlan);
+    octets::copy(out, 12, &tagged);
     18
 }
 
@@ -105,6 +80,17 @@ pub fn return_path(t: Told, ingress: u16) -> Ruling
         return Ruling::Absent;
     }
     t.hop
+}
+
+// The neighbour of the next hop, 0 where there is none.
+pub fn neighbour(t: Told) -> u16
+    ensures { λ r. ⌜ r ≡ neighbourOf t ⌝ }
+{
+    let hop = t.hop;
+    let Ruling::Found(r) = hop else {
+        return 0;
+    };
+    r.neighbour
 }
 
 // What a caller who asks for the way out is answered.

@@ -132,7 +132,7 @@ fn handle_gathered(reader: &[u64], gathered: &[u8], out: &mut [u8], beside: &mut
 {
     let clock = octets::six(reader[0]);
     let frame = held(gathered, reader[1]);
-    handler::trill_handle_prepared(frame, &reader[4..], &clock, out, beside)
+    handler::handle_prepared(frame, &reader[4..], &clock, out, beside)
 }
 
 #[no_mangle]

@@ -7,10 +7,12 @@ pub handle-received-spec : {M : Type 1} → statement M
 handle-received-spec =
     tie.close
     (tie.spec
+    (λ c κs. search laws)
+    (λ c κs. search laws)
     (λ c. search laws)
     (λ c. search laws)
-    (λ c. search laws)
-    (λ c. search laws)
+    (λ c κs. search laws)
+    (λ c κs. search laws)
     (λ c κs. search laws)
     (λ c. search laws)
     (λ c. search laws)

@@ -1,4 +1,4 @@
--- `handle_told` meets its contract, by one law for each way out. Assumes nothing.
+-- `handle_told` meets its contract, the reply to an alert added to the answer without it. Assumes nothing.
 use Rattle.handler.proofs.ScanLaws.{handle-told-laws as laws}
 use Rattle.handler.proofs.handle_told.Statement.{statement}
 use Rattle.handler.proofs.handle_told.Tie as tie
@@ -7,9 +7,9 @@ pub handle-told-spec : {M : Type 1} → statement M
 handle-told-spec =
     tie.close
     (tie.spec
-    (λ c. search laws)
-    (λ c. search laws)
-    (λ c. search laws)
+    (λ c κs. search laws)
+    (λ c κs. search laws)
+    (λ c κs. search laws)
     (λ c. search laws)
     (λ c. search laws)
     (λ c. search laws))

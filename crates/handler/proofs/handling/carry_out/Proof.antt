@@ -1,5 +1,5 @@
 -- `handling::carry_out` meets its contract, by the cases of the task. Assumes nothing.
-use Rattle.handler.proofs.RouteLaws.{carry-laws as laws}
+use Rattle.handler.proofs.TaskLaws.{carry-laws as laws}
 use Rattle.handler.proofs.handling.carry_out.Statement.{statement}
 use Rattle.handler.proofs.handling.carry_out.Tie as tie
 
@@ -12,9 +12,12 @@ carry-out-spec =
     (λ c κs. search laws)
     (λ c. search laws)
     (λ c κs. search laws)
-    (λ c. search laws)
+    (λ c κs. search laws)
     (λ c κs. search laws)
     (λ c. search laws)
+    (λ c κs. search laws)
+    (λ c κs. search laws)
+    (λ c κs. search laws)
     (λ c. search laws)
     (λ c. search laws)
     (λ c. search laws)

@@ -1,5 +1,5 @@
 -- `handling::transit` meets its contract, by the next hop and the alert. Assumes nothing.
-use Rattle.handler.proofs.RouteLaws.{transit-laws as laws}
+use Rattle.handler.proofs.TaskLaws.{transit-laws as laws}
 use Rattle.handler.proofs.handling.transit.Statement.{statement}
 use Rattle.handler.proofs.handling.transit.Tie as tie
 
@@ -9,21 +9,11 @@ transit-spec =
     (tie.spec
     (λ c. search laws)
     (λ c. search laws)
-    (λ c. search laws)
-    (λ c. search laws)
-    (λ c. search laws)
-    (λ c. search laws)
-    (λ c. search laws)
-    (λ c. search laws)
-    (λ c. search laws)
-    (λ c. search laws)
-    (λ c. search laws)
     (λ c κs. search laws)
     (λ c. search laws)
+    (λ c κs. search laws)
+    (λ c κs. search laws)
     (λ c. search laws)
-    (λ c. search laws)
-    (λ c. search laws)
-    (λ c. search laws)
-    (λ c. search laws)
+    (λ c κs. search laws)
     (λ c. search laws)
     (λ c. search laws))
