@@ -18,7 +18,8 @@ use Rattle.rules.specs.Extension as E
 use Rattle.rules.specs.Extension.{flagsWord, criticalAlert, nonCriticalAlert, flagUnsummarized, summaryBare, extensionRead, extensionStops, areaRead, areaStops}
 use Rattle.rules.specs.Channel.{bodyOf, channelRead, returnPath}
 use Rattle.rules.specs.Handling as Rules
-use Rattle.rules.specs.Handling.{onward, untagged, toAllEgressRBridges, channelMessage, alertTo, alertOf, faulted, echoed, channelled, decapsulated, routed, handling, handledWith}
+use Rattle.rules.specs.Handling.{onward, untagged, toAllEgressRBridges, channelMessage, alertTo, alertOf, faulted, echoed, channelled, decapsulated, routed}
+use Rattle.rules.specs.Handling.{handling, handledWith}
 use Rattle.rules.specs.Answer as A
 use Rattle.rules.specs.declared.NextHop.{NextHop}
 use Rattle.rules.specs.declared.Header.{Header}
@@ -35,7 +36,8 @@ use Rattle.rules.proofs.OctetLaws.{put-none}
 use Rattle.rules.proofs.OptionLaws.{area-number}
 use Rattle.rules.proofs.FrameLaws.{frame-read, header-passed, link-length}
 use Rattle.rules.proofs.HandlingLaws.{onward-long, onward-sent, echo-ranged, channel-echo}
-use Rattle.rules.proofs.HandlingLaws.{inner-short, inner-untagged, inner-any, inner-delivered, inner-up, inner-channel, routed-faulty, routed-stopped, routed-egress, routed-transit}
+use Rattle.rules.proofs.HandlingLaws.{inner-short, inner-untagged, inner-any, inner-delivered, inner-up, inner-channel, routed-faulty, routed-stopped}
+use Rattle.rules.proofs.HandlingLaws.{routed-egress, routed-transit}
 use Rattle.rules.proofs.HandlingLaws.{handling-unread, handling-refused, handling-routed, clock-bad, room-short, beside-short, frame-long, frame-handled}
 use Rattle.handler.specs.declared.answers.Answer.{Answer}
 use Rattle.handler.specs.declared.way.Own.{Own}
@@ -48,7 +50,8 @@ use Rattle.handler.specs.declared.handling.Task.the-variants.{Answered, 
 use Rattle.handler.specs.declared.handling.Received.{Received}
 use Rattle.handler.specs.declared.handling.Received.the-variants as R
 use Rattle.handler.specs.Tasks as Tasks
-use Rattle.handler.specs.Tasks.{areaReadBy, ReadBy, stopsBy, alertBy, answerBy, alertedBy, transitBy, wantedBy, askedBy, Answerable, Left, Ends, Comes, Role, Routes, Receives, Lent, Receiving}
+use Rattle.handler.specs.Tasks.{areaReadBy, ReadBy, stopsBy, alertBy, answerBy, alertedBy, transitBy, wantedBy, askedBy, Answerable, Left, Ends, Comes}
+use Rattle.handler.specs.Tasks.{Role, Routes, Receives, Lent, Receiving}
 use Rattle.handler.specs.Shapes.{answerOf, droppedBy, besideBy, ownOf, onlyFor, waysBy, judgedBy, Ready, Done}
 use Rattle.handler.proofs.StageLaws.{ready, inner-held, area-held}
 
@@ -58,7 +61,8 @@ module _ (rfc7179 : Bool) (area : List ℕ) where
     pub read-draft : not rfc7179 ≡ true → judgedBy r ≡ draftRead area → ReadBy rfc7179 area r
     read-draft e is = rw (not-true rfc7179 e) is
 
-  module _ (two : not rfc7179 ≡ false) (w : ℕ) (word : w ≡ be32 area 0) (b : Bool) (is : b ≡ (flagUnsummarized w || (eqb (length area) 4 && summaryBare w))) where
+  module _ (two : not rfc7179 ≡ false) (w : ℕ) (word : w ≡ be32 area 0) (b : Bool)
+      (is : b ≡ (flagUnsummarized w || (eqb (length area) 4 && summaryBare w))) where
     pub read-refused : b ≡ true → ReadBy rfc7179 area (Faulty 38 0)
     unfolding extensionRead
     read-refused t = rw (not-false rfc7179 two, ← word, ← is, t)
@@ -153,7 +157,8 @@ module _ (rfc7179 : Bool) (area inner : List ℕ) where
       unfolding Tasks.alertBy
       alert-other n = rw (not-false rfc7179 two, ← word, ← s, not-false some e, ← m, not-true message n)
 
-      pub alert-so : not message ≡ false → (read : ChannelRead) → read ≡ channelRead inner → (critical : Bool) → critical ≡ criticalAlert w → (stops : Bool) → stops ≡ extensionStops true w
+      pub alert-so : not message ≡ false → (read : ChannelRead) → read ≡ channelRead inner → (critical : Bool) → critical ≡ criticalAlert w → (stops : Bool)
+          → stops ≡ extensionStops true w
           → (r : Alert) → r ≡ alertTo critical (not stops) read → r ≡ alertBy rfc7179 area inner
       unfolding Tasks.alertBy
       alert-so n read c critical k stops h r is = rw (not-false rfc7179 two, ← word, ← s, not-false some e, ← m, not-false message n, ← c, ← k, ← h) is
@@ -162,13 +167,15 @@ pub ruleset alert-of-laws = (needs, alert-draft, alert-none, alert-other, alert-
 
 -- a task of the egress that is an answer
 module _ {f : List ℕ} {h : Header} {stage : Ways → List ℕ → A.Handled} {r : Answer} where
-  comes-answered : (a : A.Handled) → a .octets ≡ [] → a .beside ≡ [] → ((S : Ways) (clock : List ℕ) → stage S clock ≡ a) → r ≡ answerOf a → Comes f h stage (Answered r)
+  comes-answered : (a : A.Handled) → a .octets ≡ [] → a .beside ≡ [] → ((S : Ways) (clock : List ℕ) → stage S clock ≡ a) → r ≡ answerOf a
+      → Comes f h stage (Answered r)
   comes-answered a nothing alone e is = record { same = λ S B clock. e S clock ∙ rw is (answers a nothing alone); ends = rw (is, nothing, alone) (refl, refl) }
     where
+      written : A.Handled → List ℕ → List ℕ → A.Handled
+      written a o y = record { number = a .number; octets = o; start = a .start; size = a .size; via = a .via; beside = y; besideVia = a .besideVia }
+
       answers : (a : A.Handled) → a .octets ≡ [] → a .beside ≡ [] → a ≡ answerBy (answerOf a)
-      answers a q b =
-          ap (λ (l : List ℕ). record { number = a .number; octets = l; start = a .start; size = a .size; via = a .via; beside = a .beside; besideVia = a .besideVia }) q
-          ∙ ap (λ (l : List ℕ). record { number = a .number; octets = []; start = a .start; size = a .size; via = a .via; beside = l; besideVia = a .besideVia }) b
+      answers a q b = ap (λ (o : List ℕ). written a o (a .beside)) q ∙ ap (λ (o : List ℕ). written a [] o) b
 
   comes-dropped : (n : ℕ) → ((S : Ways) (clock : List ℕ) → stage S clock ≡ A.dropped n) → r ≡ answerOf (A.dropped n) → Comes f h stage (Answered r)
   comes-dropped n = comes-answered (A.dropped n) refl refl
@@ -232,20 +239,25 @@ module _ (f : List ℕ) (h : Header) (inner : List ℕ) (held : inner ≡ innerO
       pub egress-any : (r : Answer) → r ≡ answerOf (A.dropped 24) → not all ≡ true → h .egress ≡ 0xFFC0 → Egress (Answered r)
       egress-any r is n e = comes-dropped 24 (λ S clock. inner-any S clock f h (rw held at a) (tagged b) e (to-all (not-true all n))) is
 
-      pub egress-delivered : (r : Answer) (start : ℕ) → start ≡ innerStart h → r ≡ answerOf (A.delivered 51 start (length inner)) → not all ≡ true → (h .egress ≡ 0xFFC0 → ⊥) → Egress (Answered r)
+      pub egress-delivered : (r : Answer) (start : ℕ) → start ≡ innerStart h → r ≡ answerOf (A.delivered 51 start (length inner)) → not all ≡ true
+          → (h .egress ≡ 0xFFC0 → ⊥) → Egress (Answered r)
       egress-delivered r start i is n e =
-          comes-answered (A.delivered 51 (innerStart h) (length (innerOf f h))) refl refl (λ S clock. inner-delivered S clock f h (rw held at a) (tagged b) e (to-all (not-true all n))) (rw (held, i) at is)
+          comes-answered (A.delivered 51 (innerStart h) (length (innerOf f h))) refl refl
+          (λ S clock. inner-delivered S clock f h (rw held at a) (tagged b) e (to-all (not-true all n))) (rw (held, i) at is)
 
       module _ (n : not all ≡ false) (word : ℕ) (w : word ≡ be16 inner 16) where
-        pub egress-up : (r : Answer) (start : ℕ) → start ≡ innerStart h → r ≡ answerOf (A.delivered 52 start (length inner)) → word ≡ 0x22F4 → Egress (Answered r)
+        pub egress-up : (r : Answer) (start : ℕ) → start ≡ innerStart h → r ≡ answerOf (A.delivered 52 start (length inner)) → word ≡ 0x22F4
+            → Egress (Answered r)
         egress-up r start i is e =
-            comes-answered (A.delivered 52 (innerStart h) (length (innerOf f h))) refl refl (λ S clock. inner-up S clock f h (rw held at a) (tagged b) (to-all (not-false all n)) (sym (rw held at w) ∙ e))
+            comes-answered (A.delivered 52 (innerStart h) (length (innerOf f h))) refl refl
+            (λ S clock. inner-up S clock f h (rw held at a) (tagged b) (to-all (not-false all n)) (sym (rw held at w) ∙ e))
             (rw (held, i) at is)
 
         pub egress-channel : (t : Task) → (word ≡ 0x22F4 → ⊥) → Comes f h (λ S clock. channelled S clock f h (channelRead (innerOf f h))) t → Egress t
         egress-channel t e d =
             record {
-              same = λ S B clock. inner-channel S clock f h (rw held at a) (tagged b) (to-all (not-false all n)) (λ x. e (rw held at w ∙ x)) ∙ d .same S B clock;
+              same =
+                  λ S B clock. inner-channel S clock f h (rw held at a) (tagged b) (to-all (not-false all n)) (λ x. e (rw held at w ∙ x)) ∙ d .same S B clock;
               ends = d .ends;
             }
 
@@ -267,7 +279,8 @@ route-place p n read e rfc7179 area a short = omega (arith, area-near rfc7179 ar
 pub part-short : (f : List ℕ) (n k : ℕ) → length f ≤ 2048 → length (take n (drop k f)) ≤ 2048
 part-short f n k short = omega (arith, length-take n (drop k f), length-drop k f)
 
-module _ (nickname : ℕ) (rfc7179 : Bool) (f : List ℕ) (h : Header) (area : List ℕ) (held : area ≡ areaOf f h) (read : AreaRead) (a : ReadBy rfc7179 area read) where
+module _ (nickname : ℕ) (rfc7179 : Bool) (f : List ℕ) (h : Header) (area : List ℕ) (held : area ≡ areaOf f h) (read : AreaRead)
+    (a : ReadBy rfc7179 area read) where
   judged : {j : O.AreaRead} → judgedBy read ≡ j → (S : Ways) → rfc7179 ≡ S .rfc7179 → areaRead S (areaOf f h) ≡ j
   unfolding areaRead
   judged e S o = rw (← o, ← held) (sym a ∙ e)
@@ -319,7 +332,8 @@ module _ (nickname : ℕ) (rfc7179 : Bool) (f : List ℕ) (h : Header) (area : L
 
       answers-request : (inner : List ℕ) → inner ≡ innerOf f h → (alert : Alert) → alert ≡ alertBy rfc7179 area inner → Answerable f h alert
       unfolding Tasks.alertBy alertTo
-      answers-request inner within alert is = rw is (go (rfc7179 && (criticalAlert (flagsWord area) || nonCriticalAlert (flagsWord area)) && channelMessage inner) (channelRead inner) refl)
+      answers-request inner within alert is =
+          rw is (go (rfc7179 && (criticalAlert (flagsWord area) || nonCriticalAlert (flagsWord area)) && channelMessage inner) (channelRead inner) refl)
         where
           to : (critical answered : Bool) (c : ChannelRead) → channelRead inner ≡ c → Answerable f h (alertTo critical answered c)
           to true answered (Fault code) q = Prim.tt
@@ -337,7 +351,8 @@ module _ (nickname : ℕ) (rfc7179 : Bool) (f : List ℕ) (h : Header) (area : L
           go true c q = to (criticalAlert (flagsWord area)) (not (stopsBy rfc7179 true area)) c q
           go false c q = Prim.tt
 
-      pub route-transit : Ready f h → egress ≡ false → (inner : List ℕ) → inner ≡ innerOf f h → (alert : Alert) → alert ≡ alertBy rfc7179 area inner → Routes nickname rfc7179 f h (Forward alert)
+      pub route-transit : Ready f h → egress ≡ false → (inner : List ℕ) → inner ≡ innerOf f h → (alert : Alert) → alert ≡ alertBy rfc7179 area inner
+          → Routes nickname rfc7179 f h (Forward alert)
       unfolding Tasks.transitBy Rules.transit Rules.alerted
       route-transit ready y inner within alert is =
           record {
@@ -400,7 +415,8 @@ pub ruleset read-laws = (needs, frame-unread, frame-trill)
 
 -- 1, 2, 37 and 3
 module _ (own : Own) (clock f : List ℕ) (room besideRoom : ℕ) where
-  answered-so : (n : ℕ) (r : Answer) → r ≡ answerOf (A.dropped n) → ((S : Ways) → handledWith S clock room besideRoom f ≡ A.dropped n) → Receiving own clock f room besideRoom (R.Answered r)
+  answered-so : (n : ℕ) (r : Answer) → r ≡ answerOf (A.dropped n) → ((S : Ways) → handledWith S clock room besideRoom f ≡ A.dropped n)
+      → Receiving own clock f room besideRoom (R.Answered r)
   answered-so n r is w = record { same = λ S o. w S ∙ rw is; got = rw is (refl, refl); lent = Prim.tt }
 
   module _ (r : Answer) where
@@ -418,7 +434,8 @@ module _ (own : Own) (clock f : List ℕ) (room besideRoom : ℕ) where
         pub received-long : r ≡ answerOf (A.dropped 3) → 576 ≤ besideRoom → 2048 < length f → Receiving own clock f room besideRoom (R.Answered r)
         received-long is c d = answered-so 3 r is (λ S. frame-long S clock room besideRoom f a b c d)
 
-  pub received-read : (r : Received) → Receives own f r → length clock ≡ 6 → 2048 ≤ room → 576 ≤ besideRoom → length f ≤ 2048 → Receiving own clock f room besideRoom r
+  pub received-read : (r : Received) → Receives own f r → length clock ≡ 6 → 2048 ≤ room → 576 ≤ besideRoom → length f ≤ 2048
+      → Receiving own clock f room besideRoom r
   received-read r d a b c short = record { same = λ S o. frame-handled S clock room besideRoom f a b c short ∙ d .same S clock o; got = d .got; lent = lends r }
     where
       lends : (r : Received) → Lent clock room besideRoom r
@@ -428,7 +445,8 @@ module _ (own : Own) (clock f : List ℕ) (room besideRoom : ℕ) where
 pub ruleset receive-laws = (needs, received-clock, received-room, received-beside, received-long, received-read)
 
 -- what a frame that was received has with it
-module _ {own : Own} {clock f : List ℕ} {room besideRoom : ℕ} {received : Received} (x : Receiving own clock f room besideRoom received) {h : Header} (e : received ≡ R.Trill h) where
+module _ {own : Own} {clock f : List ℕ} {room besideRoom : ℕ} {received : Received} (x : Receiving own clock f room besideRoom received) {h : Header}
+    (e : received ≡ R.Trill h) where
   pub lent-ready : Ready f h
   lent-ready = rw e at (x .got)
 

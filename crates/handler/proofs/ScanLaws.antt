@@ -71,7 +71,12 @@ module _ (s : List ℕ) (from d : ℕ) (keys seen : List ℕ) (n : ℕ) (best : 
   scan-256 = seen-count (l .judging .kept)
 
   pub scan-end : length s ≤ at → Scanned s from d (record { good = true; flags = flags; best = best })
-  scan-end h = record { verdict = J.ends (l .judging) h; ruled = λ t. fold-end (ruledBy d) Absent s from at best (l .ruled) h; flagged = λ t. fold-end flaggedBy noFlags s from at flags (l .flagged) h }
+  scan-end h =
+      record {
+        verdict = J.ends (l .judging) h;
+        ruled = λ t. fold-end (ruledBy d) Absent s from at best (l .ruled) h;
+        flagged = λ t. fold-end flaggedBy noFlags s from at flags (l .flagged) h;
+      }
 
   module _ (h : at < length s) (read : FieldRead) (q : read ≡ fieldAt s at) where
     pub scan-cut : (r : Scan) → r .good ≡ false → read ≡ Cut → Scanned s from d r
@@ -112,7 +117,8 @@ module _ (s : List ℕ) (from d : ℕ) (keys seen : List ℕ) (n : ℕ) (best : 
         pub scan-tag : not ok ≡ false → flagTag tag ≡ true
         scan-tag x = flag-tag tag v (sym is ∙ not-false ok x)
 
-pub ruleset scan-laws = (needs, taken, scan-begin, scan-kept, scan-64, scan-256, scan-end, scan-cut, scan-hop-bad, scan-hop, scan-past, scan-flag-bad, scan-flag, scan-tag)
+pub ruleset scan-laws =
+    (needs, taken, scan-begin, scan-kept, scan-64, scan-256, scan-end, scan-cut, scan-hop-bad, scan-hop, scan-past, scan-flag-bad, scan-flag, scan-tag)
 
 -- the record unless it is withdrawn
 module _ (best : Ruling) where
@@ -143,14 +149,16 @@ module _ (s : List ℕ) (d : ℕ) (read : FieldRead) (q : read ≡ fieldAt s 0) 
     pub judged-shut : (r : Judged) → r .good ≡ false → not o ≡ true → JudgedBy s d r
     judged-shut r b x = bad-judged s d r b (J.settings-bad s (sym q ∙ t) (sym (rw held at is) ∙ not-true o x))
 
-    pub judged-scan : (own : Own) (scan : Scan) (hop : Ruling) → not o ≡ false → Scanned s next d scan → hop ≡ unlessWithdrawn (scan .best) → own ≡ ownOf (waysOf (settingsRead s))
+    pub judged-scan : (own : Own) (scan : Scan) (hop : Ruling) → not o ≡ false → Scanned s next d scan → hop ≡ unlessWithdrawn (scan .best)
+        → own ≡ ownOf (waysOf (settingsRead s))
         → JudgedBy s d (record { good = scan .good; told = record { own = own; strip = scan .flags .strip; rfc7179 = scan .flags .rfc7179; hop = hop } })
     judged-scan own scan hop x y z w =
         record {
           judged = J.settings-so s (sym q ∙ t) (scan .good) (sym (rw held at is) ∙ not-false o x) (y .verdict);
           tells = λ g.
               let said = flags-read s (sym q ∙ t) (scan .flags) (y .flagged g) in
-              tells (waysOf (settingsRead s)) d own (scan .flags .strip) (scan .flags .rfc7179) hop w (ap (λ (x : Flags). x .strip) said) (ap (λ (x : Flags). x .rfc7179) said)
+              tells (waysOf (settingsRead s)) d own (scan .flags .strip) (scan .flags .rfc7179) hop w (ap (λ (x : Flags). x .strip) said)
+              (ap (λ (x : Flags). x .rfc7179) said)
               (z ∙ ap unlessWithdrawn (sym (rules s (sym q ∙ t) d (scan .best) (y .ruled g))) ∙ sym (next-hop (settingsRead s) d));
         }
 
@@ -231,7 +239,8 @@ module _ (s : List ℕ) (t : Told) (f : List ℕ) (h : Header) (task : Task) (x 
     pub by-left : Left (j .told .rfc7179) f h task
     by-left = answers-left (waysOf (settingsRead s)) t [] f h task (x .tells) (x .routes) (j .told) (is .tells (is .judged ∙ x .good))
 
-    pub by-answered : (clock : List ℕ) (a r : Answer) (out out1 beside beside1 : List ℕ) → AlertAnswered (waysBy (j .told)) clock f h task a r out out1 beside beside1
+    pub by-answered : (clock : List ℕ) (a r : Answer) (out out1 beside beside1 : List ℕ)
+        → AlertAnswered (waysBy (j .told)) clock f h task a r out out1 beside beside1
         → Answers (waysOf (settingsRead s)) t clock f h task a r out out1 beside beside1
     by-answered clock a r out out1 beside beside1 =
         answers-so (waysOf (settingsRead s)) t clock f h task (x .tells) (x .routes) a out beside (j .told) (is .tells (is .judged ∙ x .good)) r out1 beside1

@@ -103,10 +103,12 @@ module _ (S : Ways) (r : NextHop) (f : List ℕ) (h : Header) (out area : List �
       ends-short : (end : ℕ) → end ≡ at + length (restWith area f h) → end ≤ 2048
       ends-short end ended = omega (arith, length-link S r)
 
-      onward-done : (a : Answer) (end : ℕ) (out2 : List ℕ) → a ≡ wroteBy 50 end (r .neighbour) → end ≡ at + length (restWith area f h) → out2 ≡ put out1 at (restWith area f h)
+      onward-done : (a : Answer) (end : ℕ) (out2 : List ℕ) → a ≡ wroteBy 50 end (r .neighbour) → end ≡ at + length (restWith area f h)
+          → out2 ≡ put out1 at (restWith area f h)
           → 2048 ≤ length out → Done (onward S r f h [] 0) a out out2
       onward-done a end out2 is ended p roomy =
-          sent S r out out1 at long linked 50 (restWith area f h) (onward-sent S f h r [] 0 (omega (arith, forwards-long)) ∙ rw (← forwards)) is ended p (omega (arith, ends-short end ended))
+          sent S r out out1 at long linked 50 (restWith area f h) (onward-sent S f h r [] 0 (omega (arith, forwards-long)) ∙ rw (← forwards)) is ended p
+          (omega (arith, ends-short end ended))
 
       onward-fits : Ready f h → length area ≤ 124 → length out1 ≡ length out → 2048 ≤ length out → Fits area f h out1 at
       onward-fits ready few same roomy =
@@ -126,7 +128,8 @@ module _ {f : List ℕ} {h : Header} (ready : Ready f h) where
   whole-long : length f - h .place ≡ length (restWith (areaOf f h) f h)
   whole-long = omega (arith, rest-long f h (areaOf f h), area-words, ready .area-whole)
 
-module _ (S : Ways) (r : NextHop) (f : List ℕ) (h : Header) (out : List ℕ) (goes : areaSent S (areaOf f h) ≡ areaOf f h) (ready : Ready f h) (k : ℕ) (links : k ≡ linkSize (r .vlan)) where
+module _ (S : Ways) (r : NextHop) (f : List ℕ) (h : Header) (out : List ℕ) (goes : areaSent S (areaOf f h) ≡ areaOf f h) (ready : Ready f h) (k : ℕ)
+    (links : k ≡ linkSize (r .vlan)) where
   pub whole-over : (a : Answer) → a ≡ answerOf (A.dropped 29) → 2048 < k + (length f - h .place) → Done (onward S r f h [] 0) a out out
   whole-over = onward-over S r f h out (areaOf f h) goes k (length f - h .place) links (whole-long ready)
 
@@ -139,7 +142,8 @@ module _ (S : Ways) (r : NextHop) (f : List ℕ) (h : Header) (out : List ℕ) (
     whole-done = onward-done S r f h out (areaOf f h) goes k (length f - h .place) links (whole-long ready) n at out1 long linked
 
     pub whole-fits : length out1 ≡ length out → 2048 ≤ length out → Fits (areaOf f h) f h out1 at
-    whole-fits = onward-fits S r f h out (areaOf f h) goes k (length f - h .place) links (whole-long ready) n at out1 long linked ready (omega (arith, area-words ready))
+    whole-fits =
+        onward-fits S r f h out (areaOf f h) goes k (length f - h .place) links (whole-long ready) n at out1 long linked ready (omega (arith, area-words ready))
 
 pub whole-add : {f : List ℕ} {h : Header} → Ready f h → (r : NextHop) (k : ℕ) → k ≡ linkSize (r .vlan) → k + (length f - h .place) < 18446744073709551616
 whole-add ready r k e = by-test (eqb (r .vlan) 0) (λ t. omega (arith, rw t at e, ready .short)) (λ t. omega (arith, rw t at e, ready .short))
@@ -147,14 +151,16 @@ whole-add ready r k e = by-test (eqb (r .vlan) 0) (λ t. omega (arith, rw t at e
 pub ruleset send-whole-laws = (needs, ready, link-room, whole-add, whole-over, whole-short, whole-done, whole-fits)
 
 -- with another area
-module _ (S : Ways) (r : NextHop) (f : List ℕ) (h : Header) (out area : List ℕ) (goes : areaSent S (areaOf f h) ≡ area) (inner k : ℕ) (start : inner ≡ innerStart h) (links : k ≡ linkSize (r .vlan)) where
+module _ (S : Ways) (r : NextHop) (f : List ℕ) (h : Header) (out area : List ℕ) (goes : areaSent S (areaOf f h) ≡ area) (inner k : ℕ)
+    (start : inner ≡ innerStart h) (links : k ≡ linkSize (r .vlan)) where
   with-long : 6 + length area + (length f - inner) ≡ length (restWith area f h)
   with-long = omega (arith, rest-long f h area)
 
   pub with-over : (a : Answer) → a ≡ answerOf (A.dropped 29) → 2048 < k + (6 + length area + (length f - inner)) → Done (onward S r f h [] 0) a out out
   with-over = onward-over S r f h out area goes k (6 + length area + (length f - inner)) links with-long
 
-  module _ (n : k + (6 + length area + (length f - inner)) ≤ 2048) (at : ℕ) (out1 : List ℕ) (long : at ≡ length (link S r)) (linked : out1 ≡ put out 0 (link S r)) where
+  module _ (n : k + (6 + length area + (length f - inner)) ≤ 2048) (at : ℕ) (out1 : List ℕ) (long : at ≡ length (link S r))
+      (linked : out1 ≡ put out 0 (link S r)) where
     pub with-short : (end : ℕ) → end ≡ at + length (restWith area f h) → end ≤ 2048
     with-short = ends-short S r f h out area goes k (6 + length area + (length f - inner)) links with-long n at out1 long linked
 
@@ -178,7 +184,8 @@ pub ruleset send-with-laws = (needs, ready, link-room, with-size, with-sum, with
 pub aside-room : {f : List ℕ} {h : Header} → Ready f h → (lent : List ℕ) → lent ≡ areaOf f h → 0 + length lent ≤ 124
 aside-room is lent held = rw held (omega (arith, area-words is))
 
-module _ {f : List ℕ} {h : Header} (is : Ready f h) (n : ℕ) (lent : List ℕ) (left : n ≡ length (stripped lent)) (held : lent ≡ areaOf f h) (well : draftRead (areaOf f h) ≡ WellFormed) where
+module _ {f : List ℕ} {h : Header} (is : Ready f h) (n : ℕ) (lent : List ℕ) (left : n ≡ length (stripped lent)) (held : lent ≡ areaOf f h)
+    (well : draftRead (areaOf f h) ≡ WellFormed) where
   kept-within : n ≤ 124
   kept-within = omega (arith, rw held at left, stripped-shorter (areaOf f h) well, area-words is)
 
@@ -192,7 +199,8 @@ module _ {f : List ℕ} {h : Header} (is : Ready f h) (n : ℕ) (lent : List ℕ
     pub kept-few : length (take n aside) ≤ 124
     kept-few = omega (arith, kept-count, kept-within)
 
-pub kept-sent : (S : Ways) (f : List ℕ) (h : Header) (n : ℕ) (aside1 aside lent : List ℕ) → aside1 ≡ put aside 0 (stripped lent) → n ≡ length (stripped lent) → lent ≡ areaOf f h
+pub kept-sent : (S : Ways) (f : List ℕ) (h : Header) (n : ℕ) (aside1 aside lent : List ℕ) → aside1 ≡ put aside 0 (stripped lent) → n ≡ length (stripped lent)
+    → lent ≡ areaOf f h
     → areaSent S (areaOf f h) ≡ stripped (areaOf f h) → areaSent S (areaOf f h) ≡ take n aside1
 kept-sent S f h n aside1 aside lent wrote left held goes =
     let is : stripped lent ≡ stripped (areaOf f h) = rw held in
@@ -208,13 +216,15 @@ lent-some f h lent held enough = rw held enough
 pub ruleset send-stripped-laws = (needs, ready, area-held, aside-room, kept-there, kept-count, kept-few, kept-sent, lent-well, lent-some)
 
 -- which area is sent
-pub strips-some : (f : List ℕ) (h : Header) → Ready f h → (strip flag : Bool) → strip ≡ (leb 2 (opLength (h .word)) && flag) → strip ≡ true → 4 ≤ length (areaOf f h)
+pub strips-some : (f : List ℕ) (h : Header) → Ready f h → (strip flag : Bool) → strip ≡ (leb 2 (opLength (h .word)) && flag) → strip ≡ true
+    → 4 ≤ length (areaOf f h)
 strips-some f h is strip flag so t =
     by-test (leb 2 (opLength (h .word)))
     (λ e. omega (arith, area-words is, leb-true 2 (opLength (h .word)) e))
     (λ e. let z : true ≡ false = sym t ∙ so ∙ (rw e) in absurd (true≢false z))
 
-module _ (S : Ways) (f : List ℕ) (h : Header) (ready : Ready f h) (strip : Bool) (flag : strip ≡ (leb 2 (opLength (h .word)) && (S .strip && not (S .rfc7179)))) where
+module _ (S : Ways) (f : List ℕ) (h : Header) (ready : Ready f h) (strip : Bool)
+    (flag : strip ≡ (leb 2 (opLength (h .word)) && (S .strip && not (S .rfc7179)))) where
   pub sends-stripped : strip ≡ true → areaSent S (areaOf f h) ≡ stripped (areaOf f h)
   unfolding areaSent
   sends-stripped t =
@@ -225,7 +235,9 @@ module _ (S : Ways) (f : List ℕ) (h : Header) (ready : Ready f h) (strip : Boo
   sends-whole t =
       by-test (leb 2 (opLength (h .word)))
       (λ e. let off : (S .strip && not (S .rfc7179)) ≡ false = sym (sym t ∙ flag ∙ (rw e)) in rw off)
-      (λ e. by-test (S .strip && not (S .rfc7179)) (λ u. rw (u, stripped-word (areaOf f h) (omega (arith, area-words ready, leb-false 2 (opLength (h .word)) e)))) (λ u. rw u))
+      (λ e.
+      let word : length (areaOf f h) ≤ 4 = omega (arith, area-words ready, leb-false 2 (opLength (h .word)) e) in
+      by-test (S .strip && not (S .rfc7179)) (λ u. rw (u, stripped-word (areaOf f h) word)) (λ u. rw u))
 
 -- it is stripped in edition 1 alone
 pub strips-well : (f : List ℕ) (h : Header) (strip flag rfc7179 : Bool) → strip ≡ (leb 2 (opLength (h .word)) && (flag && not rfc7179)) → strip ≡ true
@@ -256,7 +268,8 @@ unreplied : {a : A.Handled} (n : ℕ) (out : List ℕ) → a ≡ A.dropped n →
 unreplied n out e = rw e (record { long = refl; few = omega arith; after = sym (put-none out 0) })
 
 -- 25 and 53
-module _ (S : Ways) (f : List ℕ) (h : Header) (code : ℕ) (inner : List ℕ) (held : inner ≡ innerOf f h) (quiet : Bool) (q : quiet ≡ silenced code inner) (out : List ℕ) where
+module _ (S : Ways) (f : List ℕ) (h : Header) (code : ℕ) (inner : List ℕ) (held : inner ≡ innerOf f h) (quiet : Bool) (q : quiet ≡ silenced code inner)
+    (out : List ℕ) where
   said : {b : Bool} → quiet ≡ b → silenced code (innerOf f h) ≡ b
   said t = sym (rw held at q) ∙ t
 
@@ -280,7 +293,8 @@ echo-enough f h body held b = rw held b
 pub echo-most : (f : List ℕ) (h : Header) (body : List ℕ) → body ≡ bodyOf (innerOf f h) → length (bodyOf (innerOf f h)) ≤ 530 → length body ≤ 530
 echo-most f h body held b = rw held b
 
-module _ (S : Ways) (f : List ℕ) (h : Header) (clock body : List ℕ) (held : body ≡ bodyOf (innerOf f h)) (mode : ℕ) (m : mode ≡ octet body 4) (out : List ℕ) where
+module _ (S : Ways) (f : List ℕ) (h : Header) (clock body : List ℕ) (held : body ≡ bodyOf (innerOf f h)) (mode : ℕ) (m : mode ≡ octet body 4)
+    (out : List ℕ) where
   pub echo-other : (mode ≡ 2 → ⊥) → Replied (echoed S clock f h .octets) 0 out out
   echo-other o = unreplied 28 out (echoed-mode S f h clock (λ e. o (rw held at m ∙ e)))
 

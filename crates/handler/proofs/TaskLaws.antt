@@ -36,20 +36,32 @@ use Rattle.handler.specs.declared.way.Told.{Told}
 use Rattle.handler.specs.declared.handling.Task.{Task}
 use Rattle.handler.specs.declared.handling.Task.the-variants.{Answered, Forward, Error, Echo}
 use Rattle.handler.specs.Tasks as Tasks
-use Rattle.handler.specs.Tasks.{answerBy, alertRefusal, alertQuiet, transitQuiet, quietBy, alertedBy, transitBy, doneBy, wantedBy, alertsBy, Forwardable, Left, Role, Routes, FaultTold, EchoAnswered, AlertAnswered, Both}
+use Rattle.handler.specs.Tasks.{answerBy, alertRefusal, alertQuiet, transitQuiet, quietBy, alertedBy, transitBy, doneBy, wantedBy, alertsBy, Forwardable}
+use Rattle.handler.specs.Tasks.{Left, Role, Routes, FaultTold, EchoAnswered, AlertAnswered, Both}
 use Rattle.handler.specs.Calls.{Tells, Answers}
 use Rattle.handler.specs.Shapes.{answerOf, droppedBy, wroteBy, repliedBy, besideBy, viaOf, neighbourOf, ownOf, onlyFor, waysBy, Ready, Replied, Done}
 use Rattle.handler.proofs.StageLaws.{done-dropped, reply-few}
 
 -- an answer that writes nothing, from its numbers and back
 pub kept : (a : Answer) → a .written ≡ 0 → a .beside ≡ 0 → a ≡ answerOf (answerBy a)
-kept a z y =
-    ap (λ (w : ℕ). record { number = a .number; written = w; start = a .start; length = a .length; neighbour = a .neighbour; beside = a .beside; «beside_neighbour» = a .«beside_neighbour» }) z
-    ∙ ap (λ (w : ℕ). record { number = a .number; written = 0; start = a .start; length = a .length; neighbour = a .neighbour; beside = w; «beside_neighbour» = a .«beside_neighbour» }) y
+kept a z y = ap (λ (w : ℕ). numbers w (a .beside)) z ∙ ap (λ (w : ℕ). numbers 0 w) y
+  where
+    numbers : ℕ → ℕ → Answer
+    numbers w b =
+        record {
+          number = a .number;
+          written = w;
+          start = a .start;
+          length = a .length;
+          neighbour = a .neighbour;
+          beside = b;
+          «beside_neighbour» = a .«beside_neighbour»;
+        }
 
 -- what a reply comes to: no reply, or one to the next hop back
 module _ (S : Ways) (f : List ℕ) (h : Header) (P : A.Handled → Type 0) where
-  by-fault : (code : ℕ) → P (A.dropped 25) → ((hop : NextHop) → returnPath S (h .ingress) ≡ Found hop → P (A.wrote 53 (errorReply S hop f h code) (hop .neighbour))) → P (faulted S f h code)
+  by-fault : (code : ℕ) → P (A.dropped 25)
+      → ((hop : NextHop) → returnPath S (h .ingress) ≡ Found hop → P (A.wrote 53 (errorReply S hop f h code) (hop .neighbour))) → P (faulted S f h code)
   by-fault code none some =
       by-test (silenced code (innerOf f h)) (λ t. rw (faulted-silent S f h code t) none) (λ t. go t (returnPath S (h .ingress)) refl)
     where
@@ -58,7 +70,8 @@ module _ (S : Ways) (f : List ℕ) (h : Header) (P : A.Handled → Type 0) where
       go t (Found hop) q = rw (faulted-over S f h code t hop q) (some hop q)
 
   by-echo : (clock : List ℕ) → P (A.dropped 28)
-      → ((hop : NextHop) → returnPath S (h .ingress) ≡ Found hop → P (A.wrote 54 (echoReply S hop h clock (bodyOf (innerOf f h))) (hop .neighbour))) → P (echoed S clock f h)
+      → ((hop : NextHop) → returnPath S (h .ingress) ≡ Found hop → P (A.wrote 54 (echoReply S hop h clock (bodyOf (innerOf f h))) (hop .neighbour)))
+      → P (echoed S clock f h)
   by-echo clock none some =
       by-test (eqb (replyMode (bodyOf (innerOf f h))) 2) (λ t. go (eqb-true (replyMode (bodyOf (innerOf f h))) 2 t) (returnPath S (h .ingress)) refl)
       (λ t. rw (echoed-mode S f h clock (eqb-false (replyMode (bodyOf (innerOf f h))) 2 t)) none)
@@ -76,7 +89,8 @@ echoed-alone S clock f h = by-echo S f h (λ a. a .beside ≡ []) clock refl (λ
 
 -- a reply has octets, and goes to the next hop that is told
 some-octets : (S : Ways) (r : NextHop) (rest : List ℕ) → eqb (length (link S r ++ rest)) 0 ≡ false
-some-octets S r rest = rw length-append (ne-eqb (length (link S r) + length rest) 0 (λ e. absurd (omega (arith, link-written S r .long, link-length (link S r)))))
+some-octets S r rest =
+    rw length-append (ne-eqb (length (link S r) + length rest) 0 (λ e. absurd (omega (arith, link-written S r .long, link-length (link S r)))))
 
 told-back : (t : Told) (ingress : ℕ) (hop : NextHop) → returnPath (waysBy t) ingress ≡ Found hop → hop .neighbour ≡ neighbourOf t
 unfolding returnPath
@@ -93,7 +107,8 @@ module _ (t : Told) (f : List ℕ) (h : Header) (n : ℕ) where
 
   fault-answer : (code : ℕ) → n ≡ length (faulted (waysBy t) f h code .octets) → repliedBy 25 53 n (neighbourOf t) ≡ answerOf (faulted (waysBy t) f h code)
   fault-answer code =
-      by-fault (waysBy t) f h (λ a. n ≡ length (a .octets) → repliedBy 25 53 n (neighbourOf t) ≡ answerOf a) code (λ e. rw e) (λ hop q e. rw (e, some-error code hop, told-back t (h .ingress) hop q))
+      by-fault (waysBy t) f h (λ a. n ≡ length (a .octets) → repliedBy 25 53 n (neighbourOf t) ≡ answerOf a) code (λ e. rw e)
+      (λ hop q e. rw (e, some-error code hop, told-back t (h .ingress) hop q))
 
   some-echo : (clock : List ℕ) (hop : NextHop) → eqb (length (echoReply (waysBy t) hop h clock (bodyOf (innerOf f h)))) 0 ≡ false
   unfolding echoReply
@@ -101,7 +116,8 @@ module _ (t : Told) (f : List ℕ) (h : Header) (n : ℕ) where
 
   echo-answer : (clock : List ℕ) → n ≡ length (echoed (waysBy t) clock f h .octets) → repliedBy 28 54 n (neighbourOf t) ≡ answerOf (echoed (waysBy t) clock f h)
   echo-answer clock =
-      by-echo (waysBy t) f h (λ a. n ≡ length (a .octets) → repliedBy 28 54 n (neighbourOf t) ≡ answerOf a) clock (λ e. rw e) (λ hop q e. rw (e, some-echo clock hop, told-back t (h .ingress) hop q))
+      by-echo (waysBy t) f h (λ a. n ≡ length (a .octets) → repliedBy 28 54 n (neighbourOf t) ≡ answerOf a) clock (λ e. rw e)
+      (λ hop q e. rw (e, some-echo clock hop, told-back t (h .ingress) hop q))
 
 -- 21, the alert's 25 and 26, and 50
 module _ (T : Ways) (f : List ℕ) (h : Header) (alert : Alert) (out : List ℕ) (R : Ruling) (asks : R ≡ T .hop (h .egress)) where
@@ -133,7 +149,8 @@ module _ (t : Told) (clock f : List ℕ) (h : Header) (task : Task) (out : List 
   carry-answer a e left = rw e (record { answer = kept a (rw e at left .0) (rw e at left .1); after = sym (put-none out 0); alone = refl })
 
   module _ (r : Answer) (out1 : List ℕ) where
-    pub carry-forward : (alert : Alert) → task ≡ Forward alert → Done (transitQuiet (waysBy t) f h alert) r out out1 → Done (quietBy (waysBy t) clock f h task) r out out1
+    pub carry-forward : (alert : Alert) → task ≡ Forward alert → Done (transitQuiet (waysBy t) f h alert) r out out1
+        → Done (quietBy (waysBy t) clock f h task) r out out1
     carry-forward alert e d = rw e d
 
     module _ (n via : ℕ) (v : via ≡ neighbourOf t) where
@@ -166,7 +183,8 @@ module _ (rfc7179 : Bool) (f : List ℕ) (h : Header) (task : Task) (left : Left
 pub reply-room : (out : List ℕ) → 2048 ≤ length out → 576 ≤ length out
 reply-room out h = omega arith
 
-pub ruleset carry-laws = (needs, carry-answer, carry-forward, carry-error, carry-echo, left-forward, left-error, left-echo, left-18, left-530, reply-room, reply-few)
+pub ruleset carry-laws =
+    (needs, carry-answer, carry-forward, carry-error, carry-echo, left-forward, left-error, left-echo, left-18, left-530, reply-room, reply-few)
 
 -- with nothing beside it
 both-of : {a : A.Handled} {r : Answer} {out out1 : List ℕ} (beside : List ℕ) → Done a r out out1 → Both a r out out1 beside beside
@@ -325,10 +343,12 @@ module _ (B : Ways) (clock f : List ℕ) (h : Header) (task : Task) (a : Answer)
     pub alert-err : alert ≡ AlertErr → AlertAnswered B clock f h task a a out out beside beside
     alert-err q = unanswered (ap alertsBy (e ∙ ap Forward q))
 
-    pub alert-fault : (code : ℕ) → alert ≡ AlertFault code → (r : Answer) (out1 : List ℕ) → FaultTold B f h code a r out out1 → AlertAnswered B clock f h task a r out out1 beside beside
+    pub alert-fault : (code : ℕ) → alert ≡ AlertFault code → (r : Answer) (out1 : List ℕ) → FaultTold B f h code a r out out1
+        → AlertAnswered B clock f h task a r out out1 beside beside
     alert-fault code q r out1 x = rw (e, q) (record { over = λ T before d. both-of beside (x .over T clock before d) })
 
-    pub alert-request : alert ≡ AlertRequest → (r : Answer) (beside1 : List ℕ) → EchoAnswered B clock f h a r beside beside1 → AlertAnswered B clock f h task a r out out beside beside1
+    pub alert-request : alert ≡ AlertRequest → (r : Answer) (beside1 : List ℕ) → EchoAnswered B clock f h a r beside beside1
+        → AlertAnswered B clock f h task a r out out beside beside1
     alert-request q r beside1 x = rw (e, q) (record { over = λ T before d. x .over T before out d })
 
 module _ (rfc7179 : Bool) (f : List ℕ) (h : Header) (task : Task) (left : Left rfc7179 f h task) (alert : Alert) (e : task ≡ Forward alert) where
@@ -341,7 +361,8 @@ module _ (rfc7179 : Bool) (f : List ℕ) (h : Header) (task : Task) (left : Left
   pub alert-530 : alert ≡ AlertRequest → length (bodyOf (innerOf f h)) ≤ 530
   alert-530 q = rw (e, q) at left .answerable .1
 
-pub ruleset answer-alert-laws = (needs, alert-answered, alert-error, alert-echo, alert-none, alert-err, alert-fault, alert-request, alert-ready, alert-18, alert-530, reply-room)
+pub ruleset answer-alert-laws =
+    (needs, alert-answered, alert-error, alert-echo, alert-none, alert-err, alert-fault, alert-request, alert-ready, alert-18, alert-530, reply-room)
 
 -- the answers of a reply
 module _ (written : ℕ) (r : Answer) where
@@ -356,15 +377,26 @@ module _ (written : ℕ) (r : Answer) where
   beside-none via z = rw z
 
 pub beside-some : (a : Answer) (written via : ℕ) → (written ≡ 0 → ⊥)
-    → _≡_ {A = Answer} (record { number = a .number; written = a .written; start = a .start; length = a .length; neighbour = a .neighbour; beside = written; «beside_neighbour» = via }) (besideBy a written via)
+    → _≡_ {A = Answer}
+    (record {
+      number = a .number;
+      written = a .written;
+      start = a .start;
+      length = a .length;
+      neighbour = a .neighbour;
+      beside = written;
+      «beside_neighbour» = via;
+    })
+    (besideBy a written via)
 beside-some a written via z = rw (ne-eqb written 0 z)
 
 pub ruleset answer-laws = (needs, replied-none, replied-some, beside-none, beside-some)
 
 -- the destinations that a task asks for are all that it asks
-asks-two : (S : Ways) (clock f : List ℕ) (h : Header) (d : ℕ) (task : Task) (B : Ways) → Role (S .nickname) h task → d ≡ wantedBy (S .nickname) h → (alertsBy task ≡ true → B ≡ onlyFor (h .ingress) S)
+asks-two : (S : Ways) (clock f : List ℕ) (h : Header) (d : ℕ) (task : Task) (B : Ways) → Role (S .nickname) h task → d ≡ wantedBy (S .nickname) h
+    → (alertsBy task ≡ true → B ≡ onlyFor (h .ingress) S)
     → doneBy S S clock f h task ≡ doneBy (onlyFor d S) B clock f h task
-unfolding Tasks.transitBy Rules.onward Rules.faulted Rules.echoed Rattle.rules.specs.Channel.returnPath Rules.forwarded Rules.forwardedRest E.areaSent Rattle.rules.specs.Link.link Rattle.rules.specs.Channel.errorReply Rattle.rules.specs.Channel.echoReply Rattle.rules.specs.Channel.replyRest Rattle.rules.specs.Channel.replyInner
+unfolding Tasks.transitBy onward faulted echoed returnPath forwarded Rules.forwardedRest E.areaSent link errorReply echoReply replyRest Ch.replyInner
 asks-two S clock f h d (Answered a) B role e back = refl
 asks-two S clock f h d (Forward NoAlert) B role e back = rw (e, role)
 asks-two S clock f h d (Forward (AlertFault code)) B role e back = rw (back refl, e, role)
@@ -384,7 +416,8 @@ tells S d own strip rfc7179 hop o s t p =
 pub ruleset told-laws = (needs, tells)
 
 -- a frame that was received, its task carried out, at a switch that has told of the destination it asks for
-module _ (S : Ways) (t : Told) (clock f : List ℕ) (h : Header) (task : Task) (tells : Tells S h t) (routes : Routes (t .own .nickname) (t .rfc7179) f h task) where
+module _ (S : Ways) (t : Told) (clock f : List ℕ) (h : Header) (task : Task) (tells : Tells S h t)
+    (routes : Routes (t .own .nickname) (t .rfc7179) f h task) where
   named : t .own .nickname ≡ S .nickname
   named = ap (λ (y : Own). y .nickname) (tells .its-own)
 
@@ -401,10 +434,12 @@ module _ (S : Ways) (t : Told) (clock f : List ℕ) (h : Header) (task : Task) (
         let none : alertsBy task ≡ false = sym is ∙ not-true asks n in
         record {
           over = λ before d.
-              rw (routed-so (waysBy t) (λ e. absurd (true≢false (sym e ∙ none)))) (both-of beside (rw (same-quiet (waysBy t) (waysBy t) clock f h task none) at d));
+              rw (routed-so (waysBy t) (λ e. absurd (true≢false (sym e ∙ none))))
+              (both-of beside (rw (same-quiet (waysBy t) (waysBy t) clock f h task none) at d));
         }
 
-    pub answers-so : (b : Told) → waysBy b ≡ onlyFor (h .ingress) S → (r : Answer) (out1 beside1 : List ℕ) → AlertAnswered (waysBy b) clock f h task a r out out1 beside beside1
+    pub answers-so : (b : Told) → waysBy b ≡ onlyFor (h .ingress) S → (r : Answer) (out1 beside1 : List ℕ)
+        → AlertAnswered (waysBy b) clock f h task a r out out1 beside beside1
         → Answers S t clock f h task a r out out1 beside beside1
     answers-so b back r out1 beside1 y = record { over = λ before d. rw (routed-so (waysBy b) (λ e. back)) (y .over (waysBy t) before d) }
 
