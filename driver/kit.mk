@@ -14,7 +14,7 @@ SANITIZERS ?= -fsanitize=address,undefined -fno-sanitize-recover=all
 COMPILE = $(CC) -std=c11 -D_POSIX_C_SOURCE=200809L $(WARNINGS) -I. -Icommon -Ifront -MMD -MP $(CPPFLAGS) $(CFLAGS)
 
 LIBRARY := build/libstaffripple.a
-ARCHIVES := handler prepared counters reader campus
+ARCHIVES := stores handler prepared counters reader campus
 
 # The programs and their objects.
 PROGRAMS := staffripple trill-replay
@@ -39,7 +39,7 @@ all: $(LIBRARY) $(PROGRAMS:%=build/%)
 
 # rt proves what it builds. What is unchanged is not proved again: build/libNAME.sum is the sum of the sources that build/libNAME.a was
 # proved from. The sources' times do not matter, since a checkout changes them.
-crates = $(1) $(shell sed -n 's/^$(1)://p' ../crates.txt)
+crates = $(sort $(1) $(foreach below,$(shell sed -n 's/^$(1)://p' ../crates.txt),$(call crates,$(below))))
 sources = find ../crates.txt $(wildcard $(addprefix ../crates/,$(crates))) -name must-fail -prune -o -type f -print
 sum = $(shell $(sources) | LC_ALL=C sort | xargs sha256sum | sha256sum)
 

@@ -23,7 +23,7 @@ use Rattle.rules.proofs.FrameLaws.{none-given}
 use Rattle.rules.proofs.OctetLaws.{length-part}
 use Rattle.rules.proofs.FieldLaws.{field-read, fields-end, fields-cut, fields-on}
 use Rattle.rules.proofs.DescriptionLaws.{described-end, described-none, described-on, described-refused}
-use Rattle.handler.proofs.Taken.{taken}
+use Rattle.rules.proofs.Taken.{taken}
 use Rattle.campus.specs.declared.reading.Reading.{Reading}
 use Rattle.campus.specs.Places.{between, clockAt, entryValue, describedBy, codeAfter, clockedBy, countedBy}
 use Rattle.campus.specs.Stores.{endOf, spanOf, Stores, Kept, soFar, Took, wordsFor, Accepts, ReadDone}

@@ -26,7 +26,7 @@ use Rattle.octets.specs.Copy.{putFitting}
 use Rattle.octets.proofs.Ends.{put-fits}
 use Rattle.handler.specs.declared.answers.Answer.{Answer}
 use Rattle.handler.specs.Tasks.{Both}
-use Rattle.handler.specs.Store.{waysIn, storeGood, handledIn}
+use Rattle.stores.specs.Store.{waysIn, storeGood, handledIn}
 use Rattle.handler.proofs.StoreLaws.{good-whole}
 use Rattle.campus.specs.declared.received.HopEgress.{HopEgress}
 use Rattle.campus.specs.declared.switches.Named.{Named}

@@ -15,11 +15,10 @@ use Rattle.rules.specs.Settings as S
 use Rattle.rules.specs.Settings.{Settings, switchOf, withField, opens, switchGood, nicknameValid, macGood, nextHop, waysOf}
 use Rattle.rules.specs.Campus.{switchNamed, known}
 use Rattle.rules.proofs.TestLaws.{by-test, and-true}
-use Rattle.handler.specs.Shapes.{unlessWithdrawn}
-use Rattle.handler.specs.Store.{nicknameIn, countIn, waysIn, Stands}
-use Rattle.handler.specs.Extend.{withSwitch, extending, extended}
-use Rattle.handler.proofs.LookupLaws.{next-hop}
-use Rattle.handler.proofs.ExtendLaws.{Ample, extended-stands, extended-long, switch-stands, says, is-good, stands-too}
+use Rattle.stores.specs.Store.{nicknameIn, countIn, unlessWithdrawn, waysIn, Stands}
+use Rattle.stores.specs.Extend.{withSwitch, extending, extended}
+use Rattle.stores.proofs.LookupLaws.{next-hop}
+use Rattle.stores.proofs.ExtendLaws.{Ample, extended-stands, extended-long, switch-stands, says, is-good, stands-too}
 use Rattle.campus.specs.declared.switches.Named.{Named}
 use Rattle.campus.specs.declared.switches.Named.the-variants.{At, Nowhere}
 use Rattle.campus.specs.Stores.{storeAt, settingsIn, settingsAt, switchesIn, numberIn, foundBy, endOf, Placed, spanOf, Store, Stores, SoundAt, Sound}

@@ -16,7 +16,7 @@ use Rattle.rules.specs.Campus.{someEdition2}
 use Rattle.handler.proofs.StoreLaws.{good-whole}
 use Rattle.campus.specs.declared.switches.Named.{Named}
 use Rattle.campus.specs.declared.switches.Named.the-variants.{At, Nowhere}
-use Rattle.handler.specs.Extend.{Opens, Extends}
+use Rattle.stores.specs.Extend.{Opens, Extends}
 use Rattle.campus.specs.Stores.{storeAt, settingsAt, switchesIn, numberIn, foundBy, endOf, Placed, Sound, Kept, PartOpens, PartExtends}
 
 -- looking for a nickname, from the latest back

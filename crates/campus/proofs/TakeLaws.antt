@@ -16,9 +16,9 @@ use Rattle.rules.specs.Settings as S
 use Rattle.rules.specs.Settings.{Settings, switchOf, withField, opens, switchGood, hopGood, hopOf, serialMet, stripGood}
 use Rattle.rules.specs.Campus.{Described, switchNamed, known, placeGood, valueGood, nicknameNew, roomGood, serialNew, entryKnown, fieldRefusal, onLatest, withNext}
 use Rattle.rules.proofs.TestLaws.{by-test, and-yes, and-no}
-use Rattle.handler.specs.Keys.{flagTag, flagValue}
-use Rattle.handler.specs.Extend.{opensIn, withSwitch, extending, extended}
-use Rattle.handler.proofs.ExtendLaws.{recordBy, flagBy, record-judged, flag-judged, extended-long, switch-long}
+use Rattle.octets.specs.Flags.{flagTag, flagValue, flagBy}
+use Rattle.stores.specs.Extend.{opensIn, withSwitch, extending, extended}
+use Rattle.stores.proofs.ExtendLaws.{recordBy, record-judged, flag-judged, extended-long, switch-long}
 use Rattle.campus.specs.declared.switches.Named.{Named}
 use Rattle.campus.specs.declared.switches.Named.the-variants.{At, Nowhere}
 use Rattle.campus.specs.Places.{placeBy, countedBy}

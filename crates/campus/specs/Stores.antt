@@ -10,8 +10,8 @@ use Rattle.rules.specs.Octets.{if_then_else_}
 use Rattle.rules.specs.Fields.{field, lengthGood}
 use Rattle.rules.specs.Settings.{Settings, nicknameValid, waysOf}
 use Rattle.rules.specs.Campus.{Described, known, fieldRefusal, withNext, refused, accepted, described}
-use Rattle.handler.specs.Store.{nicknameIn, countIn, hopsFrom, waysIn, storeGood, Stands}
-use Rattle.handler.specs.Extend.{opensIn, withSwitch, extending, extended}
+use Rattle.stores.specs.Store.{nicknameIn, countIn, hopsFrom, waysIn, storeGood, Stands}
+use Rattle.stores.specs.Extend.{opensIn, withSwitch, extending, extended}
 use Rattle.campus.specs.Places.{describedBy, countedBy}
 use Rattle.campus.specs.declared.switches.Named.{Named}
 use Rattle.campus.specs.declared.switches.Named.the-variants.{At, Nowhere}

@@ -4,7 +4,7 @@ ghost use mathlib.Core.Path.{_≡_};
 ghost use mathlib.Core.List.{_++_};
 ghost use Prim.Native.Nat.{_+_, _≤_, _<_};
 ghost use lib.ListN.{length, take, drop, getD};
-ghost use Rattle.handler.specs.Extend.{Opens, Extends};
+ghost use Rattle.stores.specs.Extend.{Opens, Extends};
 ghost use Rattle.rules.specs.Campus.{someEdition2};
 ghost use Rattle.campus.specs.Stores.{switchesIn, numberIn, endOf, Placed, Sound, Kept, PartOpens, PartExtends};
 
@@ -46,14 +46,14 @@ pub fn open(w: &mut [u64], at: usize, v: &[u8]) -> bool
     requires { ⌜ at ≤ length (now w) ⌝ }
     ensures { λ r. ⌜ PartOpens (now (w .entry)) at (now (v .entry)) r (now (w .exit)) ⌝ }
 {
-    handler::store_open(&mut w[at..], v)
+    stores::store_open(&mut w[at..], v)
 }
 
 pub fn extend(w: &mut [u64], at: usize, tag: u8, v: &[u8]) -> u32
     requires { ⌜ at ≤ length (now w) ⌝ }
     ensures { λ r. ⌜ PartExtends (now (w .entry)) at tag (now (v .entry)) r (now (w .exit)) ⌝ }
 {
-    handler::store_extend(&mut w[at..], tag, v)
+    stores::store_extend(&mut w[at..], tag, v)
 }
 
 // Whether one of the first n switches has edition 2.

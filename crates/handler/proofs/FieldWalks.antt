@@ -20,10 +20,11 @@ use Rattle.rules.specs.declared.FieldRead.the-variants.{Taken, Cut}
 use Rattle.rules.proofs.TestLaws.{by-test}
 use Rattle.rules.proofs.FieldLaws.{field-read, fields-end, fields-cut, fields-on}
 use Rattle.handler.specs.Shapes.{ownOf, ruledBy, noFlags, flaggedBy, FoldedFrom}
-use Rattle.handler.specs.Keys.{flagTag}
+use Rattle.octets.specs.Flags.{flagTag}
 use Rattle.handler.specs.declared.judged.Flags.{Flags}
-use Rattle.handler.proofs.Taken.{its}
-use Rattle.handler.proofs.JudgeLaws.{with-hop, with-other, first}
+use Rattle.rules.proofs.Taken.{its}
+use Rattle.rules.proofs.FirstLaws.{opened-field, first, switch-fold}
+use Rattle.handler.proofs.JudgeLaws.{with-hop, with-other}
 
 -- the record that rules once one more is seen
 module _ (d : ℕ) (r : NextHop) where
@@ -119,10 +120,6 @@ opened-cut : opened cut ≡ switchOf []
 unfolding opened
 opened-cut = refl
 
-pub opened-field : (tag : ℕ) (v : List ℕ) → opened (field tag v) ≡ switchOf v
-unfolding opened
-opened-field tag v = refl
-
 module _ (s : List ℕ) where
   read-none : fields s ≡ [] → settingsRead s ≡ switchOf []
   unfolding settingsRead
@@ -156,12 +153,6 @@ abbrev pub flagsOf : Settings → Flags
 flagsOf S = record { strip = S .strip; rfc7179 = S .rfc7179 }
 
 module _ (S : Settings) where
-  own-with : (f : Field) → ownOf (waysOf (withField S f)) ≡ ownOf (waysOf S)
-  unfolding withField
-  own-with cut = refl
-  own-with (field tag v) =
-      by-test (eqb tag 2) (λ e. rw e) (λ e. by-test (eqb tag 3) (λ f. rw (e, f)) (λ f. by-test (eqb tag 6) (λ g. rw (e, f, g)) (λ g. rw (e, f, g))))
-
   flags-with : (f : Field) → flagsOf (withField S f) ≡ flaggedBy (flagsOf S) f
   unfolding withField flaggedBy
   flags-with cut = refl
@@ -192,9 +183,8 @@ ruling-with d S (field tag v) =
     rw (with-other S tag v other) (ruled-other d (ruling (S .hops) d) tag v other))
 
 -- and what all do
-pub own-fold : (S : Settings) (fs : List Field) → ownOf (waysOf (foldl withField S fs)) ≡ ownOf (waysOf S)
-own-fold S [] = refl
-own-fold S (f ∷ fs) = own-fold (withField S f) fs ∙ own-with S f
+own-fold : (S : Settings) (fs : List Field) → ownOf (waysOf (foldl withField S fs)) ≡ ownOf (waysOf S)
+own-fold = switch-fold (λ n m. record { nickname = n; mac = m })
 
 flags-fold : (S : Settings) (fs : List Field) → flagsOf (foldl withField S fs) ≡ foldl flaggedBy (flagsOf S) fs
 flags-fold S [] = refl

@@ -2,30 +2,31 @@
 -- rest of the fields decides as the whole does. By one law of fields and of settings for each step. Assumes nothing.
 use mathlib.Core.Path.{_≡_, refl, sym, _∙_}
 use mathlib.Core.List.{List, [], _∷_, _++_}
-use mathlib.Core.Bool.{Bool, true, false, not, _&&_, _||_, or-assoc}
-use mathlib.Core.Option.{Option, none, some}
+use mathlib.Core.Bool.{Bool, true, false, _&&_, _||_, or-assoc}
+use mathlib.Core.Option.{Option, some}
 use Prim.Native.Nat.{ℕ, suc, _+_, _-_, _<_, _≤_}
 use native.Mathlib.Omega.{arith}
 use borrow.Author.Needs.{needs}
-use borrow.Author.Tests.{ltb-true, ltb-false, eqb-true, eqb-false, ne-eqb, le-leb, lt-leb, not-true, not-false}
-use lib.Dec.{ltb, eqb}
+use borrow.Author.Tests.{eqb-true, eqb-false, eq-eqb, ne-eqb, le-leb, lt-leb}
+use lib.Dec.{eqb}
 use lib.ListN.{length, take, replicate, length-replicate, length-append}
 use lib.Seq.{length-take-le}
 use Rattle.rules.specs.Octets.{part}
-use Rattle.rules.specs.Fields.{Field, field, cut, fieldAt, fieldsFrom, fields, hopSize, lengthGood}
+use Rattle.rules.specs.Fields.{field, cut, fieldAt, fieldsFrom, lengthGood}
 use Rattle.rules.specs.Settings.{Settings, hopOf, serialMet, withField, opens, opened, continues, settingsFrom, settingsOf}
 use Rattle.rules.specs.Campus.{known}
 use Rattle.rules.specs.declared.NextHop.{NextHop}
 use Rattle.rules.specs.declared.FieldRead.{FieldRead}
 use Rattle.rules.specs.declared.FieldRead.the-variants.{Taken, Cut}
-use Rattle.rules.proofs.TestLaws.{by-test, and-no, or-no}
-use Rattle.rules.proofs.OctetLaws.{length-part}
+use Rattle.rules.proofs.TestLaws.{by-test, or-no}
 use Rattle.rules.proofs.FieldLaws.{field-read, fields-end, fields-cut, fields-on}
 use Rattle.rules.proofs.SettingsLaws.{from-on, from-bad}
-use Rattle.handler.specs.Keys.{keyOf, keyMet, Kept, hopTaken, flagTaken, fieldTaken, withKey, keysWith, Taking, Verdict}
-use Rattle.handler.proofs.Taken.{taken}
-use Rattle.handler.proofs.FlagLaws.{flag-continues}
-use Rattle.handler.proofs.KeyLaws.{met-snoc, key-same, keys-hop, keys-other, refused, unchanged, hop-long, taking-hop, field-flag}
+use Rattle.octets.specs.Flags.{flagBy}
+use Rattle.handler.specs.Keys.{keyOf, keyMet, Kept, hopTaken, fieldTaken, withKey, keysWith, Taking, Verdict}
+use Rattle.rules.proofs.Taken.{taken}
+use Rattle.rules.proofs.FirstLaws.{continues-cut, first, settings-open}
+use Rattle.octets.proofs.FlagLaws.{flag-continues}
+use Rattle.handler.proofs.KeyLaws.{met-snoc, key-same, keys-hop, keys-other, refused, unchanged, taking-hop, field-flag}
 
 serial-snoc : (r q : NextHop) (hops : List NextHop)
     → serialMet r (hops ++ (q ∷ [])) ≡ (serialMet r hops || (eqb (q .destination) (r .destination) && eqb (q .serial) (r .serial)))
@@ -81,10 +82,6 @@ module _ (T : Settings) (v met : List ℕ) (n : ℕ) where
       by-test (eqb tag 2)
       (λ e. rw (eqb-true tag 2 e) (continues-hop (a .count ∙ c) (a .alike (hopOf v) (omega arith))))
       (λ e. sym (field-flag met n tag v (eqb-false tag 2 e) ∙ flag-continues T tag v (eqb-false tag 2 e)))
-
-pub continues-cut : (T : Settings) → continues T cut ≡ false
-unfolding continues
-continues-cut T = refl
 
 from-end : (T : Settings) → settingsFrom T [] ≡ some T
 unfolding settingsFrom
@@ -194,15 +191,15 @@ module _ {s : List ℕ} {from : ℕ} {keys seen : List ℕ} {n at : ℕ} (j : Ju
 
       -- a flag
       module _ (other : tag ≡ 2 → ⊥) where
-        as-flag : {b : Bool} → flagTaken tag v ≡ b → fieldTaken (take n keys) n tag v ≡ b
+        as-flag : {b : Bool} → eqb (flagBy tag v) 0 ≡ b → fieldTaken (take n keys) n tag v ≡ b
         as-flag e = field-flag (take n keys) n tag v other ∙ e
 
-        module _ {good : Bool} (is : good ≡ flagTaken tag v) where
-          pub flag-stops : not good ≡ true → Verdict s from false
-          flag-stops n = stops (refused {keys = keys} {seen = seen} (as-flag (sym is ∙ not-true good n))) (omega arith)
+        module _ {code : ℕ} (is : code ≡ flagBy tag v) where
+          pub flag-stops : (code ≡ 0 → ⊥) → Verdict s from false
+          flag-stops n = stops (refused {keys = keys} {seen = seen} (as-flag (rw (← is) (ne-eqb code 0 n)))) (omega arith)
 
-          pub flag-on : not good ≡ false → Judging s from keys seen n next
-          flag-on b = goes-on (unchanged (j .kept) (as-flag (sym is ∙ not-false good b)) (keys-other (take n keys) tag v other)) (j .kept .few)
+          pub flag-on : code ≡ 0 → Judging s from keys seen n next
+          flag-on z = goes-on (unchanged (j .kept) (as-flag (rw (← is) (eq-eqb code 0 z))) (keys-other (take n keys) tag v other)) (j .kept .few)
 
 -- what is lent of the keys is whole
 pub keys-count : {keys seen : List ℕ} {n : ℕ} → Kept keys seen n → 64 ≡ length keys
@@ -214,49 +211,15 @@ seen-count k = sym (k .seen-long)
 pub ruleset fields-good-laws = (needs, taken, begins, ends, cut-off, hop-stops, hop-on, flag-stops, flag-on, keys-count, seen-count)
 
 -- the first field
-module _ (s : List ℕ) (f : Field) (fs : List Field) (is : fields s ≡ f ∷ fs) where
-  pub settings-shut : opens f ≡ false → settingsOf s ≡ none
-  unfolding settingsOf
-  settings-shut o = rw (settingsOf, is, o)
-
-  pub settings-open : opens f ≡ true → settingsOf s ≡ settingsFrom (opened f) fs
-  unfolding settingsOf
-  settings-open o = rw (settingsOf, is, o)
-
-pub settings-none : (s : List ℕ) → fields s ≡ [] → settingsOf s ≡ none
-unfolding settingsOf
-settings-none s is = rw (settingsOf, is)
-
-pub opens-cut : opens cut ≡ false
-unfolding opens
-opens-cut = refl
-
 opened-none : (tag : ℕ) (v : List ℕ) → opened (field tag v) .hops ≡ []
 unfolding opened
 opened-none tag v = refl
 
-pub settings-cut : (s : List ℕ) → fieldAt s 0 ≡ Cut → false ≡ known (settingsOf s)
-unfolding fields
-settings-cut s e =
-    by-test (ltb 0 (length s))
-    (λ t. rw (settings-shut s cut [] (fields-cut (length s) s 0 (ltb-true 0 (length s) t) e) opens-cut))
-    (λ t. rw (settings-none s (fields-end (length s) s 0 (ltb-false 0 (length s) t))))
-
 module _ (s : List ℕ) {tag size next : ℕ} (e : fieldAt s 0 ≡ Taken tag size next) where
-  pub first : fields s ≡ field tag (part s 3 (next - 3)) ∷ fieldsFrom (length s) s next
-  unfolding fields
-  first =
-      let i = field-read s 0 tag size next e in
-      let the-size : next - 3 ≡ size = omega arith in
-      rw the-size (fields-on (length s) s 0 tag size next (omega arith) e)
-
-  pub settings-bad : opens (field tag (part s 3 (next - 3))) ≡ false → false ≡ known (settingsOf s)
-  settings-bad o = rw (settings-shut s (field tag (part s 3 (next - 3))) (fieldsFrom (length s) s next) first o)
-
   pub settings-so : (r : Bool) → opens (field tag (part s 3 (next - 3))) ≡ true → Verdict s next r → r ≡ known (settingsOf s)
   settings-so r o d =
       let f = field tag (part s 3 (next - 3)) in
       let i = field-read s 0 tag size next e in
       let less : suc (length s - 1) ≡ length s = omega arith in
-      rw (settings-open s f (fieldsFrom (length s) s next) first o)
+      rw (settings-open s f (fieldsFrom (length s) s next) (first s e) o)
       (rw less at (d (opened f) (length s - 1) (opened-none tag (part s 3 (next - 3))) (omega arith)))

@@ -8,14 +8,14 @@ use native.Mathlib.Omega.{arith}
 use native.Mathlib.Numerals.{add-one}
 use borrow.Author.Needs.{needs}
 use borrow.Author.Tests.{eqb-true, eqb-false, eq-eqb, ne-eqb, lt-ltb, le-leb, not-true, not-false}
-use lib.Dec.{ltb, leb, eqb}
+use lib.Dec.{ltb, eqb}
 use lib.ListN.{length, getD, take, set, length-set}
 use lib.Seq.{slice, slice-cons, slice-empty, getD-set-same, getD-set-other, take-suc-set}
-use Rattle.rules.specs.Octets.{octet}
 use Rattle.rules.specs.Fields.{hopSize}
-use Rattle.rules.specs.Settings.{hopGood, hopOf, hopsMost, stripGood}
+use Rattle.rules.specs.Settings.{hopGood, hopOf, hopsMost}
 use Rattle.rules.proofs.TestLaws.{by-test, and-true, and-no, or-no, or-yes}
-use Rattle.handler.specs.Keys.{keyOf, mixOf, slotBy, markBy, markedBy, coversBy, keyMet, Marked, Kept, hopTaken, flagTag, flagValue, flagTaken, fieldTaken, withKey, keysWith, Taking}
+use Rattle.octets.specs.Flags.{flagBy}
+use Rattle.handler.specs.Keys.{keyOf, mixOf, slotBy, markBy, markedBy, coversBy, keyMet, Marked, Kept, hopTaken, fieldTaken, withKey, keysWith, Taking}
 
 -- the scan: what it has found, or finds from place i on, is whether the key is met
 module _ (key : ℕ) (keys : List ℕ) (n i : ℕ) (found : Bool) (was : (found || keyMet key (slice i n keys)) ≡ keyMet key (take n keys)) where
@@ -206,53 +206,6 @@ module _ (keys : List ℕ) (n tag : ℕ) (v : List ℕ) where
       → Taking (fieldTaken keys n tag v) (keysWith keys tag v) r keys′ seen′
   taking-hop e t = rw (field-hop e, keys-hop keys tag v e) t
 
-  pub field-flag : (tag ≡ 2 → ⊥) → fieldTaken keys n tag v ≡ flagTaken tag v
+  pub field-flag : (tag ≡ 2 → ⊥) → fieldTaken keys n tag v ≡ eqb (flagBy tag v) 0
   unfolding fieldTaken
   field-flag h = rw (ne-eqb tag 2 h)
-
--- a flag
-pub flag-three : (tag : ℕ) → tag ≡ 3 → true ≡ flagTag tag
-unfolding flagTag
-flag-three tag e = rw e
-
-pub flag-six : (tag : ℕ) → (tag ≡ 3 → ⊥) → eqb tag 6 ≡ flagTag tag
-unfolding flagTag
-flag-six tag n = rw (ne-eqb tag 3 n)
-
-pub ruleset flag-tag-laws = (needs, flag-three, flag-six)
-
-module _ (tag : ℕ) (v : List ℕ) (o : ℕ) (is : o ≡ octet v 0) where
-  pub value-strip : tag ≡ 3 → leb o 1 ≡ flagValue tag v
-  unfolding flagValue
-  value-strip e = rw (e, is)
-
-  module _ (n : tag ≡ 3 → ⊥) where
-    pub value-one : o ≡ 1 → true ≡ flagValue tag v
-    unfolding flagValue
-    value-one e = rw (ne-eqb tag 3 n, ← is, e)
-
-    pub value-two : (o ≡ 1 → ⊥) → eqb o 2 ≡ flagValue tag v
-    unfolding flagValue
-    value-two e = rw (ne-eqb tag 3 n, ← is, ne-eqb o 1 e)
-
-pub ruleset flag-value-laws = (needs, value-strip, value-one, value-two)
-
-module _ (tag : ℕ) (v : List ℕ) (is : Bool) (t : is ≡ flagTag tag) where
-  pub flag-other : not is ≡ true → false ≡ flagTaken tag v
-  unfolding flagTaken
-  flag-other n = rw (← t, not-true is n)
-
-  module _ (n : not is ≡ false) where
-    pub flag-long : (length v ≡ 1 → ⊥) → false ≡ flagTaken tag v
-    unfolding flagTaken
-    flag-long h = rw (← t, not-false is n, ne-eqb (length v) 1 h)
-
-    pub flag-so : length v ≡ 1 → (ok : Bool) → ok ≡ flagValue tag v → ok ≡ flagTaken tag v
-    unfolding flagTaken
-    flag-so h ok g = rw (← t, not-false is n, eq-eqb (length v) 1 h) g
-
-pub ruleset flag-good-laws = (needs, flag-other, flag-long, flag-so)
-
-pub flag-tag : (tag : ℕ) (v : List ℕ) → flagTaken tag v ≡ true → flagTag tag ≡ true
-unfolding flagTaken
-flag-tag tag v t = and-true (flagTag tag) (eqb (length v) 1 && flagValue tag v) t .0

@@ -8,8 +8,6 @@ pub mod Ways
 pub mod Replies
 pub mod Rests
 pub mod Bodies
-pub mod Taken
-pub mod FlagLaws
 pub mod KeyLaws
 pub mod JudgeLaws
 pub mod FieldWalks
@@ -19,9 +17,4 @@ pub mod RouteLaws
 pub mod TaskLaws
 pub mod StoreLaws
 pub mod WayOutLaws
-pub mod RulingLaws
-pub mod LookupLaws
-pub mod InsertLaws
-pub mod ExtendLaws
-pub mod PrepareLaws
 pub mod ScanLaws

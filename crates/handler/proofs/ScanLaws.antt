@@ -35,16 +35,19 @@ use Rattle.handler.specs.declared.judged.Flags.{Flags}
 use Rattle.rules.specs.declared.Header.{Header}
 use Rattle.handler.specs.declared.judged.Scan.{Scan}
 use Rattle.handler.specs.declared.judged.Judged.{Judged}
-use Rattle.handler.specs.Keys.{hopTaken, withKey, flagTag, flagTaken, Taking, Kept, Verdict, Scanned, JudgedBy}
-use Rattle.handler.specs.Shapes.{answerOf, droppedBy, ownOf, onlyFor, waysBy, ruledBy, noFlags, flaggedBy, unlessWithdrawn, Ready, Done}
+use Rattle.handler.specs.Keys.{hopTaken, withKey, Taking, Kept, Verdict, Scanned, JudgedBy}
+use Rattle.handler.specs.Shapes.{answerOf, droppedBy, ownOf, onlyFor, waysBy, ruledBy, noFlags, flaggedBy, Ready, Done}
 use Rattle.handler.specs.Tasks.{answerBy, quietBy, wantedBy, askedBy, alertsBy, Left, Routes, receivedBy, Receiving, AlertAnswered, Both}
 use Rattle.handler.specs.Calls.{ToldOf, RoutedBy, Answers}
-use Rattle.handler.proofs.Taken.{taken, taken-first}
-use Rattle.handler.proofs.KeyLaws.{flag-tag}
+use Rattle.rules.proofs.Taken.{taken, taken-first}
+use Rattle.rules.proofs.FirstLaws.{settings-cut, settings-bad as not-opened}
+use Rattle.octets.specs.Flags.{flagTag, flagBy}
+use Rattle.octets.proofs.FlagLaws.{flag-is}
+use Rattle.stores.specs.Store.{unlessWithdrawn}
 use Rattle.handler.proofs.JudgeLaws as J
 use Rattle.handler.proofs.JudgeLaws.{Judging, keys-count, seen-count}
 use Rattle.handler.proofs.FieldWalks.{Folding, fold-begin, fold-end, fold-on, newer-other, ruled-hop, ruled-other, flagged-hop, rules, flags-read}
-use Rattle.handler.proofs.LookupLaws.{next-hop}
+use Rattle.stores.proofs.LookupLaws.{next-hop}
 use Rattle.handler.proofs.RouteLaws.{received-lent}
 use Rattle.handler.proofs.TaskLaws.{kept, tells, answers-quiet, answers-so, answers-left, answered, left-so}
 
@@ -102,11 +105,11 @@ module _ (s : List ℕ) (from d : ℕ) (keys seen : List ℕ) (n : ℕ) (best : 
         pub scan-past : (word : ℕ) → word ≡ be16 v 0 → (word ≡ d → ⊥) → m ≤ 64 → Scanning s from d keys′ seen′ m best flags next
         scan-past word w e = scan-hop best (newer-other d (hopOf v) best (λ x. e (w ∙ x)))
 
-      module _ (other : tag ≡ 2 → ⊥) (ok : Bool) (is : ok ≡ flagTaken tag v) where
-        pub scan-flag-bad : (r : Scan) → r .good ≡ false → not ok ≡ true → Scanned s from d r
+      module _ (other : tag ≡ 2 → ⊥) (code : ℕ) (is : code ≡ flagBy tag v) where
+        pub scan-flag-bad : (r : Scan) → r .good ≡ false → (code ≡ 0 → ⊥) → Scanned s from d r
         scan-flag-bad r b x = bad-scanned s from d r b (J.flag-stops (l .judging) h q t other is x)
 
-        pub scan-flag : (flags′ : Flags) → flags′ ≡ flaggedBy flags (field tag v) → not ok ≡ false → Scanning s from d keys seen n best flags′ next
+        pub scan-flag : (flags′ : Flags) → flags′ ≡ flaggedBy flags (field tag v) → code ≡ 0 → Scanning s from d keys seen n best flags′ next
         scan-flag flags′ e x =
             record {
               judging = J.flag-on (l .judging) h q t other is x;
@@ -114,8 +117,8 @@ module _ (s : List ℕ) (from d : ℕ) (keys seen : List ℕ) (n : ℕ) (best : 
               flagged = fold-on flaggedBy noFlags s from at flags (l .flagged) h read q tag size next t flags′ e;
             }
 
-        pub scan-tag : not ok ≡ false → flagTag tag ≡ true
-        scan-tag x = flag-tag tag v (sym is ∙ not-false ok x)
+        pub scan-tag : code ≡ 0 → flagTag tag ≡ true
+        scan-tag x = flag-is tag v (sym is ∙ x)
 
 pub ruleset scan-laws =
     (needs, taken, scan-begin, scan-kept, scan-64, scan-256, scan-end, scan-cut, scan-hop-bad, scan-hop, scan-past, scan-flag-bad, scan-flag, scan-tag)
@@ -143,11 +146,11 @@ bad-judged s d r b k = record { judged = b ∙ k; tells = λ t. absurd (false≢
 
 module _ (s : List ℕ) (d : ℕ) (read : FieldRead) (q : read ≡ fieldAt s 0) where
   pub judged-cut : (r : Judged) → r .good ≡ false → read ≡ Cut → JudgedBy s d r
-  judged-cut r b c = bad-judged s d r b (J.settings-cut s (sym q ∙ c))
+  judged-cut r b c = bad-judged s d r b (settings-cut s (sym q ∙ c))
 
   module _ (tag size next : ℕ) (t : read ≡ Taken tag size next) (v : List ℕ) (held : v ≡ part s 3 (next - 3)) (o : Bool) (is : o ≡ opens (field tag v)) where
     pub judged-shut : (r : Judged) → r .good ≡ false → not o ≡ true → JudgedBy s d r
-    judged-shut r b x = bad-judged s d r b (J.settings-bad s (sym q ∙ t) (sym (rw held at is) ∙ not-true o x))
+    judged-shut r b x = bad-judged s d r b (not-opened s (sym q ∙ t) (sym (rw held at is) ∙ not-true o x))
 
     pub judged-scan : (own : Own) (scan : Scan) (hop : Ruling) → not o ≡ false → Scanned s next d scan → hop ≡ unlessWithdrawn (scan .best)
         → own ≡ ownOf (waysOf (settingsRead s))

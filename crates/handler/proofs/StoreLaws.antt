@@ -29,7 +29,9 @@ use Rattle.handler.specs.Calls.{RoutedIn, Answers}
 use Rattle.handler.specs.Tasks.{answerBy, quietBy, wantedBy, alertsBy, Left, Routes, receivedBy, Receiving, AlertAnswered, Both}
 use Rattle.handler.proofs.RouteLaws.{received-lent}
 use Rattle.handler.proofs.TaskLaws.{kept, tells, answers-quiet, answers-so, answers-left, answered}
-use Rattle.handler.specs.Store.{nicknameIn, countIn, valueAt, destAt, hopOf, hopAt, stepped, searched, lastAt, hintAt, placeIn, hopFor, waysIn, storeGood, handledIn, Whole, destOf}
+use Rattle.stores.proofs.PlaceLaws.{step-past, step-up, step-stay, place-hinted, place-searched, for-past, for-other}
+use Rattle.stores.specs.Store.{nicknameIn, countIn, valueAt, destOf, destAt, hopOf, hopAt, stepped, searched, lastAt, hintAt, placeIn, hopFor}
+use Rattle.stores.specs.Store.{waysIn, storeGood, handledIn, Whole}
 
 -- which words are good
 module _ (w : List ℕ) where
@@ -65,28 +67,19 @@ good-whole w e =
     let b = and-true (nicknameValid (nicknameIn w)) (leb (countIn w) 64 && leb (4 + 2 * countIn w) (length w)) (a .1) in
     let c = and-true (leb (countIn w) 64) (leb (4 + 2 * countIn w) (length w)) (b .1) in
     let n = and-true (leb 1 (nicknameIn w)) (leb (nicknameIn w) 0xFFBF) (b .0) in
-    record { named = omega (arith, leb-true (nicknameIn w) 0xFFBF (n .1)); few = leb-true (countIn w) 64 (c .0); long = leb-true (4 + 2 * countIn w) (length w) (c .1) }
+    record {
+      named = omega (arith, leb-true (nicknameIn w) 0xFFBF (n .1));
+      few = leb-true (countIn w) 64 (c .0);
+      long = leb-true (4 + 2 * countIn w) (length w) (c .1);
+    }
 
 pub ruleset store-good-laws = (needs, good-short, good-nobody, good-above, good-many, good-so)
 
 -- the search
-module _ (w : List ℕ) (n d at half : ℕ) where
-  pub step-past : n ≤ at + half → at ≡ stepped w n d at half
-  unfolding stepped
-  step-past h = simp (le-ltb (at + half) n h)
-
-  module _ (a : at + half < n) (key : ℕ) (is : key ≡ destAt w (at + half)) where
-    pub step-up : key ≤ d → at + half ≡ stepped w n d at half
-    unfolding stepped
-    step-up h = simp (lt-ltb (at + half) n a, le-leb (destAt w (at + half)) d (rw is at h))
-
-    pub step-stay : d < key → at ≡ stepped w n d at half
-    unfolding stepped
-    step-stay h = simp (lt-ltb (at + half) n a, lt-leb (destAt w (at + half)) d (rw is at h))
-
 pub ruleset step-laws = (needs, step-past, step-up, step-stay)
 
-pub six-steps : (w : List ℕ) (n d a b c e f r : ℕ) → r ≡ stepped w n d f 1 → f ≡ stepped w n d e 2 → e ≡ stepped w n d c 4 → c ≡ stepped w n d b 8 → b ≡ stepped w n d a 16 → a ≡ stepped w n d 0 32 → r ≡ searched w n d
+pub six-steps : (w : List ℕ) (n d a b c e f r : ℕ) → r ≡ stepped w n d f 1 → f ≡ stepped w n d e 2 → e ≡ stepped w n d c 4 → c ≡ stepped w n d b 8
+    → b ≡ stepped w n d a 16 → a ≡ stepped w n d 0 32 → r ≡ searched w n d
 six-steps w n d a b c e f r s t u v x y = rw (s, t, u, v, x, y)
 
 pub ruleset search-laws = (needs, six-steps)
@@ -125,51 +118,36 @@ module _ (w : List ℕ) (d : ℕ) where
 
 pub ruleset hint-at-laws = (needs, hint-none, hint-so)
 
-module _ (w : List ℕ) (n d i : ℕ) (e : i ≡ hintAt w d) (last : Bool) (is : last ≡ lastAt w n d i) where
-  pub place-hinted : last ≡ true → i ≡ placeIn w n d
-  unfolding placeIn
-  place-hinted t = rw (placeIn, ← e, ← is, t)
-
-  pub place-searched : last ≡ false → (r : ℕ) → r ≡ searched w n d → r ≡ placeIn w n d
-  unfolding placeIn
-  place-searched t r s = rw (placeIn, ← e, ← is, t) s
-
 pub ruleset place-in-laws = (needs, place-hinted, place-searched)
 
 -- the record there
-module _ (w : List ℕ) (n d i : ℕ) where
-  pub for-past : n ≤ i → Absent ≡ hopFor w n d i
+module _ (w : List ℕ) (n d i : ℕ) (a : i < n) (key : ℕ) (is : key ≡ destAt w i) (b : key ≡ d)
+    (r : NextHop) (e : r ≡ hopOf (getD w (4 + 2 * i) 0) (getD w (5 + 2 * i) 0)) where
+  gone : r .neighbour ≡ valueAt w i % 65536
+  gone = ap (λ (x : NextHop). x .neighbour) e
+
+  pub for-withdrawn : r .neighbour ≡ 0 → Absent ≡ hopFor w n d i
   unfolding hopFor
-  for-past h = rw (le-ltb i n h)
+  for-withdrawn h = rw (lt-ltb i n a, ← is, eq-eqb key d b, ← gone, h)
 
-  module _ (a : i < n) (key : ℕ) (is : key ≡ destAt w i) where
-    pub for-other : (key ≡ d → ⊥) → Absent ≡ hopFor w n d i
-    unfolding hopFor
-    for-other h = rw (lt-ltb i n a, ← is, ne-eqb key d h)
-
-    module _ (b : key ≡ d) (r : NextHop) (e : r ≡ hopOf (getD w (4 + 2 * i) 0) (getD w (5 + 2 * i) 0)) where
-      gone : r .neighbour ≡ valueAt w i % 65536
-      gone = ap (λ (x : NextHop). x .neighbour) e
-
-      pub for-withdrawn : r .neighbour ≡ 0 → Absent ≡ hopFor w n d i
-      unfolding hopFor
-      for-withdrawn h = rw (lt-ltb i n a, ← is, eq-eqb key d b, ← gone, h)
-
-      pub for-found : (r .neighbour ≡ 0 → ⊥) → Found r ≡ hopFor w n d i
-      unfolding hopFor hopAt
-      for-found h =
-          let there : (ltb i n && (eqb (destAt w i) d && not (eqb (valueAt w i % 65536) 0))) ≡ true = rw (lt-ltb i n a, ← is, eq-eqb key d b, ne-eqb (valueAt w i % 65536) 0 (λ z. h (gone ∙ z))) in
-          rw there (ap Found e)
+  pub for-found : (r .neighbour ≡ 0 → ⊥) → Found r ≡ hopFor w n d i
+  unfolding hopFor hopAt
+  for-found h =
+      let there : (ltb i n && (eqb (destAt w i) d && not (eqb (valueAt w i % 65536) 0))) ≡ true =
+      rw (lt-ltb i n a, ← is, eq-eqb key d b, ne-eqb (valueAt w i % 65536) 0 (λ z. h (gone ∙ z))) in
+      rw there (ap Found e)
 
 pub hop-made : (key value dest : ℕ) → dest ≡ destOf key
-    → _≡_ {A = NextHop} (record { destination = dest; neighbour = value % 65536; mac = value / 65536; serial = key / 65536 % 4294967296; vlan = key % 65536 }) (hopOf key value)
+    → _≡_ {A = NextHop} (record { destination = dest; neighbour = value % 65536; mac = value / 65536; serial = key / 65536 % 4294967296; vlan = key % 65536 })
+    (hopOf key value)
 hop-made key value dest e = rw e
 
 pub ruleset hop-of-laws = (needs, hop-made)
 
 pub ruleset hop-for-laws = (needs, for-past, for-other, for-withdrawn, for-found)
 
-pub next-so : (w : List ℕ) (n d i : ℕ) (r : Ruling) → r ≡ hopFor w n d i → i ≡ placeIn w n d → n ≡ countIn w → r ≡ hopFor w (countIn w) d (placeIn w (countIn w) d)
+pub next-so : (w : List ℕ) (n d i : ℕ) (r : Ruling) → r ≡ hopFor w n d i → i ≡ placeIn w n d → n ≡ countIn w
+    → r ≡ hopFor w (countIn w) d (placeIn w (countIn w) d)
 next-so w n d i r e p c = e ∙ rw (p, c)
 
 module _ {w : List ℕ} (whole : Whole w) where

@@ -26,8 +26,8 @@ use Rattle.handler.specs.declared.way.Told.{Told}
 use Rattle.handler.specs.declared.way.WayOut.{WayOut}
 use Rattle.handler.specs.Shapes.{linkSize, waysBy, onlyFor, WayDone}
 use Rattle.handler.specs.Keys.{JudgedBy}
-use Rattle.handler.specs.Store as St
-use Rattle.handler.specs.Store.{storeGood, waysIn, wayOutIn, Whole}
+use Rattle.stores.specs.Store as St
+use Rattle.stores.specs.Store.{storeGood, waysIn, wayOutIn, Whole}
 use Rattle.handler.proofs.StoreLaws.{good-whole}
 
 -- T-11, by what is told of one destination

@@ -12,7 +12,7 @@ use Rattle.handler.specs.declared.way.Told.{Told}
 use Rattle.handler.specs.declared.handling.Task.{Task}
 use Rattle.handler.specs.Shapes.{ownOf, waysBy, onlyFor, Done}
 use Rattle.handler.specs.Tasks.{wantedBy, quietBy, Routes, Both}
-use Rattle.handler.specs.Store.{waysIn, Whole}
+use Rattle.stores.specs.Store.{waysIn, Whole}
 
 -- what a switch has told that was asked for what a frame asks for
 pub record Tells (S : Ways) (h : Header) (t : Told) : Type 0 where

@@ -7,10 +7,11 @@ use lib.ListN.{length, getD, take}
 use lib.Dec.{ltb, leb, eqb}
 use Rattle.rules.specs.Octets.{if_then_else_}
 use Rattle.rules.specs.Fields.{fieldsFrom, hopSize}
-use Rattle.rules.specs.Settings.{Settings, hopGood, hopOf, hopsMost, stripGood, editionGood, settingsFrom, settingsOf, settingsRead, waysOf}
+use Rattle.rules.specs.Settings.{Settings, hopGood, hopOf, hopsMost, settingsFrom, settingsOf, settingsRead, waysOf}
 use Rattle.rules.specs.Campus.{known}
 use Rattle.rules.specs.declared.NextHop.{NextHop}
 use Rattle.rules.specs.declared.Ruling.the-variants.{Absent}
+use Rattle.octets.specs.Flags.{flagBy}
 use Rattle.handler.specs.declared.judged.Scan.{Scan}
 use Rattle.handler.specs.declared.judged.Judged.{Judged}
 use Rattle.handler.specs.Shapes.{ruledBy, noFlags, flaggedBy, FoldedFrom, waysBy, onlyFor}
@@ -54,18 +55,8 @@ pub record Kept (keys seen : List ℕ) (n : ℕ) : Type 0 where
 unfoldable pub hopTaken : List ℕ → ℕ → List ℕ → Bool
 hopTaken keys n v = hopSize (length v) && (hopGood (hopOf v) && ltb n hopsMost && not (keyMet (keyOf (hopOf v)) keys))
 
--- a strip flag or an edition, and whether its value is good
-unfoldable pub flagTag : ℕ → Bool
-flagTag tag = eqb tag 3 || eqb tag 6
-
-unfoldable pub flagValue : ℕ → List ℕ → Bool
-flagValue tag v = if eqb tag 3 then stripGood v else editionGood v
-
-unfoldable pub flagTaken : ℕ → List ℕ → Bool
-flagTaken tag v = flagTag tag && (eqb (length v) 1 && flagValue tag v)
-
 unfoldable pub fieldTaken : List ℕ → ℕ → ℕ → List ℕ → Bool
-fieldTaken keys n tag v = if eqb tag 2 then hopTaken keys n v else flagTaken tag v
+fieldTaken keys n tag v = if eqb tag 2 then hopTaken keys n v else eqb (flagBy tag v) 0
 
 -- the keys met once one more record, or field, is taken
 abbrev pub withKey : List ℕ → List ℕ → List ℕ

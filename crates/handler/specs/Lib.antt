@@ -3,7 +3,4 @@ pub mod Shapes
 pub mod Tasks
 pub mod Keys
 pub mod Treatment
-pub mod Store
-pub mod Insert
-pub mod Extend
 pub mod Calls

@@ -5,7 +5,7 @@ use mathlib.Core.List.{List, [], _++_, foldl}
 use mathlib.Core.Bool.{Bool, false, not, _&&_, _||_}
 use lib.ListN.{length, drop}
 use lib.Dec.{eqb}
-use Rattle.rules.specs.Octets.{if_then_else_, octet, be16, octets16, octets48, part, put}
+use Rattle.rules.specs.Octets.{if_then_else_, octet, octets16, octets48, part, put}
 use Rattle.rules.specs.Fields.{Field, field, cut, fieldsFrom}
 use Rattle.rules.specs.Settings.{Ways, newer, hopOf}
 use Rattle.rules.specs.Link.{ethertypeTag, ethertypeTrill}
@@ -101,11 +101,6 @@ flaggedBy flags (field tag v) =
     if eqb tag 3 then record { strip = not (eqb (octet v 0) 0); rfc7179 = flags .rfc7179 } else
     if eqb tag 6 then record { strip = flags .strip; rfc7179 = eqb (octet v 0) 2 }
     else flags
-
--- "if it is a withdrawal, there is no next hop"
-unfoldable pub unlessWithdrawn : Ruling → Ruling
-unlessWithdrawn Absent = Absent
-unlessWithdrawn (Found r) = if eqb (r .neighbour) 0 then Absent else Found r
 
 -- what the fields from a place on give, folded with any fuel that is enough for them
 abbrev pub FoldedFrom : {A : Type 0} → (A → Field → A) → A → List ℕ → ℕ → A → Type 0

@@ -10,23 +10,13 @@ ghost use Prim.Native.Nat.{_<_, _≤_};
 ghost use lib.ListN.{length, take};
 ghost use Rattle.rules.specs.Fields.{field};
 ghost use Rattle.rules.specs.Settings as S;
-ghost use Rattle.handler.specs.Keys.{keyOf, mixOf, slotBy, markBy, coversBy, markedBy, keyMet, Kept, hopTaken, withKey, flagTag, flagValue, flagTaken, Taking, Scanned, JudgedBy};
-ghost use Rattle.handler.specs.Shapes.{ownOf, unlessWithdrawn, flaggedBy};
-
-pub fn opens(tag: u8, v: &[u8]) -> bool
-    ensures { λ r. ⌜ r ≡ S.opens (field tag (now (v .entry))) ⌝ }
-{
-    if tag != 1 {
-        return false;
-    }
-    if v.len() != 8 {
-        return false;
-    }
-    octets::switch_good(v)
-}
+ghost use Rattle.handler.specs.Keys.{keyOf, mixOf, slotBy, markBy, coversBy, markedBy, keyMet, Kept, hopTaken, withKey, Taking, Scanned, JudgedBy};
+ghost use Rattle.octets.specs.Flags.{flagTag};
+ghost use Rattle.stores.specs.Store.{unlessWithdrawn};
+ghost use Rattle.handler.specs.Shapes.{ownOf, flaggedBy};
 
 // Destination above serial.
-pub fn key_of(v: &[u8]) -> u64
+fn key_of(v: &[u8]) -> u64
     ensures { λ r. ⌜ r ≡ keyOf (S.hopOf (now (v .entry))) ⌝ }
 {
     (octets::be16(v, 0) as u64) << 32 | octets::be32(v, 10) as u64
@@ -127,41 +117,6 @@ pub struct Flags {
     pub rfc7179: bool,
 }
 
-// A strip flag or an edition.
-pub fn flag_tag(tag: u8) -> bool
-    ensures { λ r. ⌜ r ≡ flagTag tag ⌝ }
-{
-    if tag == 3 {
-        return true;
-    }
-    tag == 6
-}
-
-pub fn flag_value(tag: u8, v: &[u8]) -> bool
-    ensures { λ r. ⌜ r ≡ flagValue tag (now (v .entry)) ⌝ }
-{
-    let o = octets::octet(v, 0);
-    if tag == 3 {
-        return o <= 1;
-    }
-    if o == 1 {
-        return true;
-    }
-    o == 2
-}
-
-fn flag_good(tag: u8, v: &[u8]) -> bool
-    ensures { λ r. ⌜ r ≡ flagTaken tag (now (v .entry)) ⌝ }
-{
-    if !flag_tag(tag) {
-        return false;
-    }
-    if v.len() != 1 {
-        return false;
-    }
-    flag_value(tag, v)
-}
-
 // The flags once one more is seen.
 fn flagged(flags: Flags, tag: u8, v: &[u8]) -> Flags
     requires { ⌜ flagTag tag ≡ true ⌝ }
@@ -223,7 +178,7 @@ fn scan_from(s: &[u8], from: usize, d: u16) -> Scan
                 at = next;
             }
         } else {
-            if !flag_good(tag, v) {
+            if octets::flag_code(tag, v) != 0 {
                 return bad_scan();
             }
             flags = flagged(flags, tag, v);
@@ -292,7 +247,7 @@ pub fn judge(s: &[u8], own: Own, d: u16) -> Judged
     else {
         return bad(own);
     };
-    if !opens(tag, &s[3..next]) {
+    if !octets::opens(tag, &s[3..next]) {
         return bad(own);
     }
     let r = scan_from(s, next, d);

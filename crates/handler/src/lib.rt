@@ -7,7 +7,6 @@ mod handling;
 mod header;
 mod judged;
 mod options;
-mod preparing;
 mod reply;
 mod settings;
 mod store;
@@ -27,8 +26,7 @@ ghost use lib.ListN.{length};
 ghost use Rattle.rules.specs.WayOut.{wayOut};
 ghost use Rattle.rules.specs.Settings.{settingsRead, waysOf};
 ghost use Rattle.rules.specs.Handling.{handled, routed, partOf};
-ghost use Rattle.handler.specs.Store.{handledIn, wayOutIn, waysIn, Whole, Prepared};
-ghost use Rattle.handler.specs.Extend.{Opens, Extends};
+ghost use Rattle.stores.specs.Store.{handledIn, wayOutIn, waysIn, Whole};
 ghost use Rattle.handler.specs.Shapes.{ownOf, Ready, WayDone};
 ghost use Rattle.handler.specs.Tasks.{Both};
 ghost use Rattle.handler.specs.Calls.{ToldOf, RoutedBy, RoutedIn, Answers};
@@ -110,43 +108,6 @@ fn answer_alert(
     let j = judged::judge(settings, own, h.ingress);
     let b = j.told;
     handling::answer_alert(a, b, clock, frame, h, task, out, beside)
-}
-
-// Settings octets into a store of 164 words or more, once for all frames: 0, 1 for bad settings, 2 for too few words.
-#[no_mangle]
-pub extern "C" fn trill_prepare(settings: &[u8], store: &mut [u64]) -> u32
-    ensures { λ r. ⌜ Prepared (now (settings .entry)) (now (store .entry)) (now (store .exit)) r ⌝ }
-{
-    let mut w = [0u64; 164];
-    if !preparing::prepare(settings, &mut w) {
-        return 1;
-    }
-    if store.len() < 164 {
-        return 2;
-    }
-    preparing::copy(store, &w);
-    0
-}
-
-// A store made field by field: for the switch of a tag 1 value, as yet without records. False for fewer than 4 words or no good switch.
-pub fn store_open(store: &mut [u64], v: &[u8]) -> bool
-    ensures { λ r. ⌜ Opens (now (store .entry)) (now (v .entry)) r (now (store .exit)) ⌝ }
-{
-    if store.len() < 4 {
-        return false;
-    }
-    if !judged::opens(1, v) {
-        return false;
-    }
-    preparing::open(store, v);
-    true
-}
-
-// One more field into a store: 0, or the code of a description that refuses it.
-pub fn store_extend(store: &mut [u64], tag: u8, v: &[u8]) -> u32
-    ensures { λ r. ⌜ Extends (now (store .entry)) tag (now (v .entry)) r (now (store .exit)) ⌝ }
-{
-    preparing::extend(store, tag, v)
 }
 
 // The handling of a frame by a store.

@@ -9,7 +9,7 @@ ghost use mathlib.Core.Path.{_≡_};
 ghost use Prim.Native.Nat.{_+_, _*_, _/_, _%_, _^_, _≤_, _<_};
 ghost use lib.ListN.{length, getD};
 ghost use Rattle.handler.specs.Shapes.{ownOf, waysBy, onlyFor};
-ghost use Rattle.handler.specs.Store.{destOf, destAt, hopOf, stepped, searched, lastAt, hintAt, placeIn, hopFor, waysIn, storeGood, Whole};
+ghost use Rattle.stores.specs.Store.{destOf, destAt, hopOf, stepped, searched, lastAt, hintAt, placeIn, hopFor, waysIn, storeGood, Whole};
 
 // Words of any kind: a valid nickname, and no more records than 64 and than there are words for.
 pub fn good(w: &[u64]) -> bool

@@ -5,10 +5,11 @@ mod values;
 
 pub use link::read_frame;
 use rules::FieldRead;
+pub use values::flag_code;
 pub use values::hop_good;
 pub use values::hop_of;
 pub use values::hop_size;
-pub use values::switch_good;
+pub use values::opens;
 ghost use mathlib.Core.Path.{_≡_};
 ghost use Prim.Native.Nat.{_*_, _+_, _/_, _%_, _≤_};
 ghost use lib.ListN.{length};

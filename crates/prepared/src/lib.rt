@@ -3,7 +3,7 @@
 use handler::Answer;
 use handler::WayOut;
 ghost use lib.ListN.{length};
-ghost use Rattle.handler.specs.Store.{handledIn, wayOutIn};
+ghost use Rattle.stores.specs.Store.{handledIn, wayOutIn};
 ghost use Rattle.handler.specs.Shapes.{WayDone};
 ghost use Rattle.handler.specs.Tasks.{Both};
 

@@ -21,8 +21,8 @@ use Rattle.octets.specs.Copy.{putFitting}
 use Rattle.octets.proofs.Ends.{put-fits}
 use Rattle.handler.specs.Shapes.{answerOf}
 use Rattle.handler.specs.Tasks.{Both}
-use Rattle.handler.specs.Store as St
-use Rattle.handler.specs.Store.{storeWords, preparing, Prepared, handledIn}
+use Rattle.stores.specs.Store as St
+use Rattle.stores.specs.Store.{storeWords, preparing, Prepared, handledIn}
 use Rattle.handler.specs.declared.answers.Answer.{Answer}
 use Rattle.reader.specs.Bursts.{settingsBad, startRefusal, Started, Burst, saying, burst, BurstDone, gatheredHandled}
 use Rattle.reader.specs.Bursts.{marking, mark, MarkDone}

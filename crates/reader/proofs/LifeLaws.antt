@@ -17,7 +17,7 @@ use Rattle.rules.specs.Handling.{handled, outputAfter, besideAfter}
 use Rattle.rules.proofs.TestLaws.{by-test}
 use Rattle.rules.proofs.HandlingLaws.{settings-good, frame-long}
 use Rattle.rules.proofs.OctetLaws.{length-put}
-use Rattle.handler.specs.Store.{storeWords, preparing, handledIn}
+use Rattle.stores.specs.Store.{storeWords, preparing, handledIn}
 use Rattle.reader.specs.Bursts.{settingsBad, startRefusal, Started, Burst, burst, gatheredHandled, Mark, mark}
 use Rattle.reader.specs.Life.{joined, Fed, fed, earlyAt, said, answerOfWhole, Later, later-burst, later-mark, laters, Life, fedIn, markIn, Claim}
 use Rattle.reader.proofs.CallLaws.{prepared-bad, burst-ended, burst-early, burst-over, burst-on, mark-ended, mark-early, mark-whole}

@@ -11,7 +11,7 @@ use Rattle.rules.specs.Answer.{Handled, dropped}
 use Rattle.rules.specs.Handling.{frameMost}
 use Rattle.rules.specs.Settings.{settingsOf}
 use Rattle.handler.specs.Tasks.{Both}
-use Rattle.handler.specs.Store.{Prepared, preparing, handledIn}
+use Rattle.stores.specs.Store.{Prepared, preparing, handledIn}
 use Rattle.handler.specs.declared.answers.Answer.{Answer}
 
 -- clock, number of octets gathered, early answer, end mark, and a store of 164 words

@@ -7,7 +7,7 @@ ghost use lib.ListN.{length, take, drop};
 ghost use Prim.Native.Nat.{_≤_};
 ghost use Rattle.rules.specs.Answer.{dropped as droppedOf};
 ghost use Rattle.handler.specs.Shapes.{answerOf};
-ghost use Rattle.handler.specs.Store.{Prepared};
+ghost use Rattle.stores.specs.Store.{Prepared};
 ghost use Rattle.handler.specs.Tasks.{Both};
 ghost use Rattle.reader.specs.Bursts.{storeIn, startRefusal, Started, burst, BurstDone, gatheredHandled, mark, MarkDone};
 
@@ -35,7 +35,7 @@ fn prepare_store(settings: &[u8], reader: &mut [u64]) -> u32
     requires { ⌜ 4 ≤ length (now reader) ⌝ }
     ensures { λ r. ⌜ Prepared (now (settings .entry)) (storeIn (now (reader .entry))) (storeIn (now (reader .exit))) r ⌝ }
 {
-    handler::trill_prepare(settings, &mut reader[4..])
+    stores::trill_prepare(settings, &mut reader[4..])
 }
 
 // The words before the store: nothing is gathered, and no mark was met.

@@ -3,6 +3,8 @@ pub mod OctetLaws
 pub mod FieldLaws
 pub mod OptionLaws
 pub mod SettingsLaws
+pub mod Taken
+pub mod FirstLaws
 pub mod HeaderLaws
 pub mod FrameLaws
 pub mod ReplyLaws

@@ -1,0 +1,76 @@
+-- Settings octets by their first field: bad where it is cut or does not open a switch, else decided by the fields behind it, and no later field
+-- changes the switch. By computation, and by induction on the fields. Assumes nothing.
+use mathlib.Core.Path.{_≡_, refl, _∙_}
+use mathlib.Core.List.{List, [], _∷_, foldl}
+use mathlib.Core.Bool.{true, false}
+use mathlib.Core.Option.{none}
+use Prim.Native.Nat.{ℕ, _-_}
+use native.Mathlib.Omega.{arith}
+use borrow.Author.Tests.{ltb-true, ltb-false}
+use lib.Dec.{ltb, eqb}
+use lib.ListN.{length}
+use Rattle.rules.specs.Octets.{part}
+use Rattle.rules.specs.Fields.{Field, field, cut, fieldAt, fieldsFrom, fields}
+use Rattle.rules.specs.Settings.{Settings, switchOf, withField, opens, opened, continues, settingsFrom, settingsOf}
+use Rattle.rules.specs.Campus.{known}
+use Rattle.rules.specs.declared.FieldRead.the-variants.{Taken, Cut}
+use Rattle.rules.proofs.TestLaws.{by-test}
+use Rattle.rules.proofs.FieldLaws.{field-read, fields-end, fields-cut, fields-on}
+
+pub continues-cut : (T : Settings) → continues T cut ≡ false
+unfolding continues
+continues-cut T = refl
+
+pub opened-field : (tag : ℕ) (v : List ℕ) → opened (field tag v) ≡ switchOf v
+unfolding opened
+opened-field tag v = refl
+
+-- the first field
+module _ (s : List ℕ) (f : Field) (fs : List Field) (is : fields s ≡ f ∷ fs) where
+  pub settings-shut : opens f ≡ false → settingsOf s ≡ none
+  unfolding settingsOf
+  settings-shut o = rw (settingsOf, is, o)
+
+  pub settings-open : opens f ≡ true → settingsOf s ≡ settingsFrom (opened f) fs
+  unfolding settingsOf
+  settings-open o = rw (settingsOf, is, o)
+
+settings-none : (s : List ℕ) → fields s ≡ [] → settingsOf s ≡ none
+unfolding settingsOf
+settings-none s is = rw (settingsOf, is)
+
+opens-cut : opens cut ≡ false
+unfolding opens
+opens-cut = refl
+
+pub settings-cut : (s : List ℕ) → fieldAt s 0 ≡ Cut → false ≡ known (settingsOf s)
+unfolding fields
+settings-cut s e =
+    by-test (ltb 0 (length s))
+    (λ t. rw (settings-shut s cut [] (fields-cut (length s) s 0 (ltb-true 0 (length s) t) e) opens-cut))
+    (λ t. rw (settings-none s (fields-end (length s) s 0 (ltb-false 0 (length s) t))))
+
+module _ (s : List ℕ) {tag size next : ℕ} (e : fieldAt s 0 ≡ Taken tag size next) where
+  pub first : fields s ≡ field tag (part s 3 (next - 3)) ∷ fieldsFrom (length s) s next
+  unfolding fields
+  first =
+      let i = field-read s 0 tag size next e in
+      let the-size : next - 3 ≡ size = omega arith in
+      rw the-size (fields-on (length s) s 0 tag size next (omega arith) e)
+
+  pub settings-bad : opens (field tag (part s 3 (next - 3))) ≡ false → false ≡ known (settingsOf s)
+  settings-bad o = rw (settings-shut s (field tag (part s 3 (next - 3))) (fieldsFrom (length s) s next) first o)
+
+-- whatever is made of the nickname and the MAC, no later field changes it
+module _ {A : Type 0} (own : ℕ → ℕ → A) where
+  switch-with : (S : Settings) (f : Field) → own (withField S f .nickname) (withField S f .mac) ≡ own (S .nickname) (S .mac)
+  unfolding withField
+  switch-with S cut = refl
+  switch-with S (field tag v) =
+      by-test (eqb tag 2)
+      (λ e. rw e)
+      (λ e. by-test (eqb tag 3) (λ f. rw (e, f)) (λ f. by-test (eqb tag 6) (λ g. rw (e, f, g)) (λ g. rw (e, f, g))))
+
+  pub switch-fold : (S : Settings) (fs : List Field) → own (foldl withField S fs .nickname) (foldl withField S fs .mac) ≡ own (S .nickname) (S .mac)
+  switch-fold S [] = refl
+  switch-fold S (f ∷ fs) = switch-fold (withField S f) fs ∙ switch-with S f

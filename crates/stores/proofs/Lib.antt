@@ -1,0 +1,6 @@
+pub mod PlaceLaws
+pub mod RulingLaws
+pub mod LookupLaws
+pub mod InsertLaws
+pub mod ExtendLaws
+pub mod PrepareLaws

@@ -1,0 +1,44 @@
+-- Where a search or a hint leads, and that there is no record for others: one law for each test of the definitions. By computation. Assumes nothing.
+use Prim.Native.Nat.{ℕ, _+_, _≤_, _<_}
+use mathlib.Core.Path.{_≡_}
+use mathlib.Core.List.{List}
+use mathlib.Core.Bool.{Bool, true, false}
+use borrow.Author.Tests.{lt-ltb, le-ltb, le-leb, lt-leb, ne-eqb}
+use Rattle.rules.specs.declared.Ruling.the-variants.{Absent}
+use Rattle.stores.specs.Store.{destAt, stepped, searched, lastAt, hintAt, placeIn, hopFor}
+
+-- the search
+module _ (w : List ℕ) (n d at half : ℕ) where
+  pub step-past : n ≤ at + half → at ≡ stepped w n d at half
+  unfolding stepped
+  step-past h = simp (le-ltb (at + half) n h)
+
+  module _ (a : at + half < n) (key : ℕ) (is : key ≡ destAt w (at + half)) where
+    pub step-up : key ≤ d → at + half ≡ stepped w n d at half
+    unfolding stepped
+    step-up h = simp (lt-ltb (at + half) n a, le-leb (destAt w (at + half)) d (rw is at h))
+
+    pub step-stay : d < key → at ≡ stepped w n d at half
+    unfolding stepped
+    step-stay h = simp (lt-ltb (at + half) n a, lt-leb (destAt w (at + half)) d (rw is at h))
+
+-- the place that a hint or the search comes to
+module _ (w : List ℕ) (n d i : ℕ) (e : i ≡ hintAt w d) (last : Bool) (is : last ≡ lastAt w n d i) where
+  pub place-hinted : last ≡ true → i ≡ placeIn w n d
+  unfolding placeIn
+  place-hinted t = rw (placeIn, ← e, ← is, t)
+
+  pub place-searched : last ≡ false → (r : ℕ) → r ≡ searched w n d → r ≡ placeIn w n d
+  unfolding placeIn
+  place-searched t r s = rw (placeIn, ← e, ← is, t) s
+
+-- the record there
+module _ (w : List ℕ) (n d i : ℕ) where
+  pub for-past : n ≤ i → Absent ≡ hopFor w n d i
+  unfolding hopFor
+  for-past h = rw (le-ltb i n h)
+
+  module _ (a : i < n) (key : ℕ) (is : key ≡ destAt w i) where
+    pub for-other : (key ≡ d → ⊥) → Absent ≡ hopFor w n d i
+    unfolding hopFor
+    for-other h = rw (lt-ltb i n a, ← is, ne-eqb key d h)

@@ -1,0 +1,36 @@
+-- `preparing::fill_from` meets its contract. The invariant: the words stand for what was read, and the fields from `at` on decide as all do. Assumes nothing.
+use Prim.Native.Nat.{_-_}
+use lib.ListN.{length}
+use Rattle.stores.proofs.PrepareLaws.{Filling, fill-from-laws as laws}
+use Rattle.stores.proofs.preparing.fill_from.Statement.{statement}
+use Rattle.stores.proofs.preparing.fill_from.Tie as tie
+
+abbrev Inv-loop : tie.InvT-loop
+Inv-loop s from w₀ at₀ w at = Filling s from w₀ w at
+
+abbrev μ-loop : tie.MeasureT-loop
+μ-loop s from w₀ at₀ w at = length s - at
+
+pub fill-from-spec : {M : Type 1} → statement M
+fill-from-spec =
+    tie.close
+    (tie.spec
+    Inv-loop
+    μ-loop
+    (λ c. search laws)
+    (λ c κs. search laws)
+    (λ c. search laws)
+    (λ c. search laws)
+    (λ c. search laws)
+    (λ c. search laws)
+    (λ c. search laws)
+    (λ c. search laws)
+    (λ c. search laws)
+    (λ c. search laws)
+    (λ c κs. search laws)
+    (λ c. search laws)
+    (λ c. search laws)
+    (λ c. search laws)
+    (λ c. search laws)
+    (λ c. search laws)
+    (λ c. search laws))

@@ -1,0 +1,273 @@
+// Settings octets into a store: the fields judged and written in one pass, each record put in its place.
+use rules::FieldRead;
+ghost use mathlib.Core.Path.{_≡_};
+ghost use mathlib.Core.Bool.{not};
+ghost use Prim.Native.Nat.{_+_, _*_, _/_, _≤_, _<_};
+ghost use lib.ListN.{length};
+ghost use Rattle.rules.specs.Octets.{put, octet};
+ghost use Rattle.rules.specs.Settings as S;
+ghost use Rattle.stores.specs.Store.{countIn, Roomy, Filled, Fills, Hinted};
+ghost use Rattle.stores.specs.Insert.{storeKey, storeValue, placeFor, metAt, metIn, putIn, insertedIn, Shifted};
+ghost use Rattle.stores.specs.Extend.{withSwitch, countBy, metBy, addedTo, flagWord, FlagIn, Extends};
+
+// From behind: records in order take one comparison each.
+fn place_for(w: &[u64], n: usize, rank: u64) -> usize
+    requires { ⌜ 4 + 2 * n ≤ length (now w) ⌝ }
+    ensures { λ r. ⌜ r ≡ placeFor (now (w .entry)) rank n ⌝ }
+{
+    let mut i = n;
+    while 0 < i {
+        if w[2 + 2 * i] >> 16 < rank {
+            return i;
+        }
+        i -= 1;
+    }
+    0
+}
+
+// Moves the words between two places two up.
+fn shift(w: &mut [u64], from: usize, to: usize)
+    requires { ⌜ (from ≤ to) × (to + 2 ≤ length (now w)) ⌝ }
+    ensures { λ _. ⌜ Shifted (now (w .entry)) from to (now (w .exit)) ⌝ }
+{
+    let mut i = to;
+    while from < i {
+        w[i + 1] = w[i - 1];
+        i -= 1;
+    }
+}
+
+fn met(w: &[u64], n: usize, rank: u64, p: usize) -> bool
+    requires { ⌜ 4 + 2 * n ≤ length (now w) ⌝ }
+    ensures { λ r. ⌜ r ≡ metAt (now (w .entry)) n rank p ⌝ }
+{
+    if n <= p {
+        return false;
+    }
+    w[4 + 2 * p] >> 16 == rank
+}
+
+// Whether the record could be put in: not where one of its destination has its serial.
+fn insert(w: &mut [u64], n: usize, key: u64, value: u64) -> bool
+    requires { ⌜ 6 + 2 * n ≤ length (now w) ⌝ }
+    ensures { λ r. ⌜ (r ≡ not (metIn (now (w .entry)) n (key / 65536))) × (now (w .exit) ≡ insertedIn (now (w .entry)) n key value) ⌝ }
+{
+    let p = place_for(w, n, key >> 16);
+    if met(w, n, key >> 16, p) {
+        return false;
+    }
+    put_at(w, n, key, value, p);
+    true
+}
+
+// At a place among the first n records.
+fn put_at(w: &mut [u64], n: usize, key: u64, value: u64, p: usize)
+    requires { ⌜ (p ≤ n) × (6 + 2 * n ≤ length (now w)) ⌝ }
+    ensures { λ _. ⌜ now (w .exit) ≡ putIn (now (w .entry)) n key value p ⌝ }
+{
+    shift(w, 4 + 2 * p, 4 + 2 * n);
+    w[4 + 2 * p] = key;
+    w[5 + 2 * p] = value;
+}
+
+fn key_of(v: &[u8]) -> u64
+    ensures { λ r. ⌜ r ≡ storeKey (S.hopOf (now (v .entry))) ⌝ }
+{
+    (octets::be16(v, 0) as u64) << 48
+        | (octets::be32(v, 10) as u64) << 16
+        | octets::be16(v, 14) as u64
+}
+
+fn value_of(v: &[u8]) -> u64
+    ensures { λ r. ⌜ r ≡ storeValue (S.hopOf (now (v .entry))) ⌝ }
+{
+    octets::be48(v, 4) << 16 | octets::be16(v, 2) as u64
+}
+
+// The number of records, or 64 where there is no room for one more.
+fn count(w: &[u64]) -> usize
+    ensures { λ r. ⌜ r ≡ countBy (now (w .entry)) ⌝ }
+{
+    if w.len() < 4 {
+        return 64;
+    }
+    if 64 <= w[3] {
+        return 64;
+    }
+    let n = w[3] as usize;
+    if w.len() < 6 + 2 * n {
+        return 64;
+    }
+    n
+}
+
+// The record put in and counted, unless its serial was met.
+fn add(w: &mut [u64], n: usize, v: &[u8]) -> bool
+    requires { ⌜ (n ≡ countIn (now w)) × (n < 64) × (6 + 2 * n ≤ length (now w)) ⌝ }
+    ensures { λ r. ⌜ (r ≡ not (metBy (now (w .entry)) (now (v .entry)))) × (now (w .exit) ≡ addedTo (now (w .entry)) (now (v .entry))) ⌝ }
+{
+    if !insert(w, n, key_of(v), value_of(v)) {
+        return false;
+    }
+    w[3] = n as u64 + 1;
+    true
+}
+
+// One more record.
+fn admit(w: &mut [u64], v: &[u8]) -> u32
+    ensures { λ r. ⌜ Extends (now (w .entry)) 2 (now (v .entry)) r (now (w .exit)) ⌝ }
+{
+    if !octets::hop_size(v.len()) {
+        return 42;
+    }
+    if !octets::hop_good(v) {
+        return 44;
+    }
+    let n = count(w);
+    if n == 64 {
+        return 46;
+    }
+    if !add(w, n, v) {
+        return 47;
+    }
+    0
+}
+
+// The word of the flags with one set anew: the strip flag, or above it the edition less 1.
+fn flag_word(x: u64, tag: u8, v: &[u8]) -> u64
+    ensures { λ r. ⌜ r ≡ flagWord x tag (octet (now (v .entry)) 0) ⌝ }
+{
+    let o = octets::octet(v, 0);
+    if tag == 3 {
+        return x / 2 % 2 * 2 + o as u64;
+    }
+    if o == 2 {
+        return 2 + x % 2;
+    }
+    x % 2
+}
+
+// A strip flag or an edition.
+fn flag(w: &mut [u64], tag: u8, v: &[u8]) -> u32
+    ensures { λ r. ⌜ FlagIn (now (w .entry)) tag (now (v .entry)) r (now (w .exit)) ⌝ }
+{
+    let code = octets::flag_code(tag, v);
+    if code != 0 {
+        return code;
+    }
+    if w.len() < 4 {
+        return 46;
+    }
+    w[2] = flag_word(w[2], tag, v);
+    0
+}
+
+// One more field of settings.
+pub fn extend(w: &mut [u64], tag: u8, v: &[u8]) -> u32
+    ensures { λ r. ⌜ Extends (now (w .entry)) tag (now (v .entry)) r (now (w .exit)) ⌝ }
+{
+    if tag == 2 {
+        return admit(w, v);
+    }
+    flag(w, tag, v)
+}
+
+fn fill_from(s: &[u8], from: usize, w: &mut [u64]) -> bool
+    requires { ⌜ (from ≤ length (now s)) × Roomy (now w) ⌝ }
+    ensures { λ r. ⌜ Fills (now (s .entry)) from (now (w .entry)) r (now (w .exit)) ⌝ }
+{
+    let mut at = from;
+    while at < s.len() {
+        let FieldRead::Taken {
+            tag,
+            length: _,
+            next,
+        } = octets::field_at(s, at)
+        else {
+            return false;
+        };
+        if extend(w, tag, &s[at + 3..next]) != 0 {
+            return false;
+        }
+        at = next;
+    }
+    true
+}
+
+// The switch, with no record and no flag yet.
+pub fn open(w: &mut [u64], v: &[u8])
+    requires { ⌜ 4 ≤ length (now w) ⌝ }
+    ensures { λ _. ⌜ now (w .exit) ≡ withSwitch (now (w .entry)) (now (v .entry)) ⌝ }
+{
+    w[0] = octets::be16(v, 0) as u64;
+    w[1] = octets::be48(v, 2) << 16 | 0x22F3;
+    w[2] = 0;
+    w[3] = 0;
+}
+
+// A word with one of its eight hints set.
+fn hinted(word: u64, shift: u32, hint: u64) -> u64
+    requires { ⌜ (shift < 64) × (hint < 64) ⌝ }
+{
+    word & !(255 << shift) | hint << shift
+}
+
+// The hint of a destination is its last record.
+fn hint_all(w: &mut [u64])
+    requires { ⌜ Roomy (now w) ⌝ }
+    ensures { λ _. ⌜ Hinted (now (w .entry)) (now (w .exit)) ⌝ }
+{
+    let n = w[3];
+    let mut i = 0;
+    while i < n {
+        let d = w[4 + 2 * i as usize] >> 48;
+        let k = 132 + (d % 256 / 8) as usize;
+        w[k] = hinted(w[k], (d % 8 * 8) as u32, i);
+        i += 1;
+    }
+}
+
+// Whether the settings are good; then the words stand for them.
+pub fn prepare(s: &[u8], w: &mut [u64]) -> bool
+    requires { ⌜ length (now w) ≡ 164 ⌝ }
+    ensures { λ r. ⌜ Filled (now (w .exit)) (S.settingsOf (now (s .entry))) r × (length (now (w .exit)) ≡ 164) ⌝ }
+{
+    let FieldRead::Taken {
+        tag,
+        length: _,
+        next,
+    } = octets::field_at(s, 0)
+    else {
+        return false;
+    };
+    let v = &s[3..next];
+    if !octets::opens(tag, v) {
+        return false;
+    }
+    open(w, v);
+    fill(s, next, w)
+}
+
+// The fields from a place on, and the hints.
+fn fill(s: &[u8], from: usize, w: &mut [u64]) -> bool
+    requires { ⌜ (from ≤ length (now s)) × Roomy (now w) ⌝ }
+    ensures { λ r. ⌜ Fills (now (s .entry)) from (now (w .entry)) r (now (w .exit)) ⌝ }
+{
+    if !fill_from(s, from, w) {
+        return false;
+    }
+    hint_all(w);
+    true
+}
+
+// Writes the words at the start of a store.
+pub fn copy(store: &mut [u64], w: &[u64])
+    requires { ⌜ length (now w) ≤ length (now store) ⌝ }
+    ensures { λ _. ⌜ now (store .exit) ≡ put (now (store .entry)) 0 (now (w .entry)) ⌝ }
+{
+    let mut i = 0;
+    while i < w.len() {
+        store[i] = w[i];
+        i += 1;
+    }
+}
