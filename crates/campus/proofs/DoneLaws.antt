@@ -1,13 +1,13 @@
 -- From what was read to the run, and from the run to the outcome, by the laws of descriptions, runs and the demand. Assumes nothing.
 use mathlib.Core.Path.{_≡_, refl, sym, ap, _∙_}
-use mathlib.Core.List.{List, [], _∷_, _++_, append-nil, List·Memᴰ, List·Memᴰ·not-nil, List·Memᴰ·cases-cons}
+use mathlib.Core.List.{List, [], _∷_, append-nil, List·Memᴰ, List·Memᴰ·not-nil, List·Memᴰ·cases-cons}
 use mathlib.Core.Logic.{_⊎_, inl, inr}
 use mathlib.Core.Bool.{Bool, true, false}
 use mathlib.Core.Option.{Option, none, some}
 use Prim.Native.Nat.{ℕ, zero, suc, _+_, _-_, _*_, _<_, _≤_, min}
 use native.Mathlib.Omega.{arith}
 use borrow.Author.Needs.{needs}
-use borrow.Author.Tests.{eq-eqb, ne-eqb, le-leb, lt-leb}
+use borrow.Author.Tests.{ne-eqb, le-leb, leb-true}
 use lib.Dec.{eqb, leb}
 use lib.ListN.{length, take, drop, replicate, length-take, length-drop, length-replicate}
 use lib.Seq.{take-all}
@@ -15,7 +15,7 @@ use Rattle.rules.specs.Octets.{if_then_else_, be16, part, put}
 use Rattle.rules.specs.Settings.{Settings, Ways, waysOf}
 use Rattle.rules.specs.Campus.{Described, switchNamed, original, runFrom, handlingsMost, plainRun, State, clockOf, traceOctets, someEdition2, traceNeeded}
 use Rattle.rules.specs.Demand.{repliesIn, singleRun}
-use Rattle.rules.specs.Campus.{refused, accepted, described, Outcome, refusal, campus, traceAfter}
+use Rattle.rules.specs.Campus.{accepted, described, Outcome, refusal, campus, traceAfter}
 use Rattle.rules.proofs.TestLaws.{by-test}
 use Rattle.rules.proofs.OctetLaws.{put-none, put-front}
 use Rattle.rules.proofs.DescriptionLaws.{Accepted, accepted-good}
@@ -27,9 +27,9 @@ use Rattle.campus.specs.declared.switches.Named.{Named}
 use Rattle.campus.specs.declared.switches.Named.the-variants.{At, Nowhere}
 use Rattle.campus.specs.declared.reading.Reading.{Reading}
 use Rattle.campus.specs.Places.{between, clockAt, clockFrom, entryValue, describedBy}
-use Rattle.campus.specs.Stores.{settingsAt, switchesIn, numberIn, Placed, SoundAt, Sound, wordsFor, Accepts, ReadDone}
-use Rattle.campus.specs.Steps.{neededBy, Ran, runOf, LoopReady, RunReady, EntryReady, statesOf}
-use Rattle.campus.specs.Queue.{FewReplies}
+use Rattle.campus.specs.Stores.{settingsAt, switchesIn, numberIn, Placed, SoundAt, Sound, wordsFor, ReadDone}
+use Rattle.campus.specs.Steps.{neededBy, Ran, runOf, RunReady, EntryReady, statesOf}
+use Rattle.campus.specs.Queue.{LoopReady}
 use Rattle.campus.specs.Done.{CampusDone}
 use Rattle.campus.proofs.StoresLaws.{stores-sound, NamedAs, named-so}
 use Rattle.rules.proofs.AlikeLaws.{Same, run-alike}
@@ -65,7 +65,8 @@ module _ (s : List ℕ) (clock : ℕ) where
     pub clock-sum : (bound : ℕ) → length s < bound → clock + 6 < bound
     clock-sum bound fits = omega (arith, clock-within)
 
-    pub clock-copied : (c : List ℕ) → c ≡ putFitting (0 ∷ 0 ∷ 0 ∷ 0 ∷ 0 ∷ 0 ∷ []) 0 (take (clock + 6 - clock) (drop clock s)) → c ≡ clockFrom s clock
+    pub clock-copied : (c : List ℕ) → c ≡ putFitting (0 ∷ 0 ∷ 0 ∷ 0 ∷ 0 ∷ 0 ∷ []) 0 (take (clock + 6 - clock) (drop clock s))
+        → c ≡ clockFrom s clock
     clock-copied c e =
         let zeros : List ℕ = 0 ∷ 0 ∷ 0 ∷ 0 ∷ 0 ∷ 0 ∷ [] in
         let q : clock + 6 - clock ≡ 6 = omega arith in
@@ -119,7 +120,8 @@ module _ (s w starts : List ℕ) (n clock place : ℕ) (trace : List ℕ) (ready
     pub run-unknown : found ≡ Nowhere → Ran (statesOf s) trace trace 0
     run-unknown e = go (switchNamed l (be16 v 0)) refl (rw e at told)
       where
-        go : (o : Option Settings) → switchNamed l (be16 v 0) ≡ o → NamedAs w starts n Nowhere (switchNamed l (be16 v 0)) → Ran (statesOf s) trace trace 0
+        go : (o : Option Settings) → switchNamed l (be16 v 0) ≡ o → NamedAs w starts n Nowhere (switchNamed l (be16 v 0))
+            → Ran (statesOf s) trace trace 0
         go none q t =
             let p = states-so s d (ready .read .is) ∙ plain-none d (entry-is ∙ q) in
             record { counted = ap length (sym p); traced = sym (put-none trace 0) ∙ ap (put trace 0) (sym (ap traceOctets p ∙ trace-none)) }
@@ -128,7 +130,8 @@ module _ (s w starts : List ℕ) (n clock place : ℕ) (trace : List ℕ) (ready
     pub entry-ready : (first : ℕ) → found ≡ At first → EntryReady s w starts n clock place first v trace
     entry-ready first e = go (switchNamed l (be16 v 0)) refl (rw e at told)
       where
-        go : (o : Option Settings) → switchNamed l (be16 v 0) ≡ o → NamedAs w starts n (At first) (switchNamed l (be16 v 0)) → EntryReady s w starts n clock place first v trace
+        go : (o : Option Settings) → switchNamed l (be16 v 0) ≡ o → NamedAs w starts n (At first) (switchNamed l (be16 v 0))
+            → EntryReady s w starts n clock place first v trace
         go none q t = absurd (rw q at t)
         go (some T) q t =
             let u : (first < n) × (waysOf T ≡ waysOf (settingsAt w starts first)) = rw q at t in
@@ -142,18 +145,22 @@ module _ (s w starts : List ℕ) (n clock place : ℕ) (trace : List ℕ) (ready
               named = rw eb at (named-some w starts n b found ef first e);
             }
 
-pub run-value : (s w starts : List ℕ) (n clock place : ℕ) (trace : List ℕ) → RunReady s w starts n clock place trace → (bound : ℕ) → length s < bound → place + 3 < bound
+pub run-value : (s w starts : List ℕ) (n clock place : ℕ) (trace : List ℕ) → RunReady s w starts n clock place trace → (bound : ℕ)
+    → length s < bound
+    → place + 3 < bound
 run-value s w starts n clock place trace ready bound h = omega (arith, ready .read .placed)
 
 pub ruleset run-laws = (needs, run-placed, run-unknown, entry-ready, run-value)
 
 -- every nickname has two octets
-all-small : (w starts : List ℕ) (n : ℕ) → ((i : ℕ) → i < n → SoundAt w starts i) → (S : Settings) → List·Memᴰ S (switchesIn w starts n) → S .nickname < 65536
+all-small : (w starts : List ℕ) (n : ℕ) → ((i : ℕ) → i < n → SoundAt w starts i) → (S : Settings) → List·Memᴰ S (switchesIn w starts n)
+    → S .nickname < 65536
 unfolding switchesIn
 all-small w starts zero each S j = absurd (List·Memᴰ·not-nil j)
 all-small w starts (suc n) each S j = go (List·Memᴰ·cases-cons j) (all-small w starts n (λ i h. each i (omega arith)) S)
   where
-    go : (S ≡ settingsAt w starts n) ⊎ List·Memᴰ S (switchesIn w starts n) → (List·Memᴰ S (switchesIn w starts n) → S .nickname < 65536) → S .nickname < 65536
+    go : (S ≡ settingsAt w starts n) ⊎ List·Memᴰ S (switchesIn w starts n) → (List·Memᴰ S (switchesIn w starts n) → S .nickname < 65536)
+        → S .nickname < 65536
     go (inl e) ih =
         let x = each n (omega arith) in
         rw e (omega (arith, nickname-is w starts n x, nickname-small w starts n x))
@@ -189,7 +196,8 @@ module _ (s w starts : List ℕ) (n clock place first : ℕ) (v trace : List ℕ
     same : Same (plainRun e) (runOf w starts n first clock′ frame)
     same =
         rw plain
-        (run-alike m (switchesIn w starts n) (named-alike m (switchesIn w starts n) alike) clock′ handlingsMost 1 (settingsAt w starts first .nickname) original frame [])
+        (run-alike m (switchesIn w starts n) (named-alike m (switchesIn w starts n) alike) clock′
+        handlingsMost 1 (settingsAt w starts first .nickname) original frame [])
 
     sound : Sound w starts n
     sound = run-sound s w starts n clock place trace (at .ready)
@@ -205,8 +213,9 @@ module _ (s w starts : List ℕ) (n clock place first : ℕ) (v trace : List ℕ
     fit : (S : Settings) → List·Memᴰ S (switchesIn w starts n) → S .nickname < 65536
     fit = all-small w starts n (λ i h. sound .each i h)
 
-    few-ready : (few : ℕ) → repliesIn (runOf w starts n first clock′ frame) ≤ few → FewReplies few w starts n first clock′ frame trace
-    few-ready few h =
+    loop-ready : (few : ℕ) → repliesIn (runOf w starts n first clock′ frame) ≤ few → (waiting : List ℕ) → 579 * few ≤ length waiting
+        → LoopReady w starts n first clock′ frame waiting trace
+    loop-ready few h waiting enough =
         record {
           sound = sound;
           within = at .within;
@@ -215,69 +224,43 @@ module _ (s w starts : List ℕ) (n clock place first : ℕ) (v trace : List ℕ
           short = rw frame-is (good .short-frame);
           most = omega (arith, same .count, plain-most e good);
           room = omega (arith, same .count, plain-room e good, at .ready .room);
-          replies = h;
+          slots = omega (arith, h, enough);
         }
 
     module _ (two : Bool) (is : two ≡ someEdition2 (switchesIn w starts n)) where
-      pub large-ready : two ≡ true → FewReplies 63 w starts n first clock′ frame trace
-      large-ready t =
-          few-ready 63
-          (omega (arith, few-replies (switchesIn w starts n) clock′ six fit handlingsMost 1 (settingsAt w starts first .nickname) original frame, hop-most frame))
+      pub loop-2 : two ≡ true → LoopReady w starts n first clock′ frame (replicate 36477 0) trace
+      loop-2 t =
+          loop-ready 63
+          (omega (
+            arith,
+            few-replies (switchesIn w starts n) clock′ six fit
+                handlingsMost 1 (settingsAt w starts first .nickname) original frame,
+            hop-most frame,
+          ))
+          (replicate 36477 0) (omega (arith, length-replicate {A = ℕ} 36477 0))
 
-      pub small-ready : two ≡ false → FewReplies 1 w starts n first clock′ frame trace
-      small-ready t = few-ready 1 (rw one (one-reply (switchesIn w starts n) clock′ six draft handlingsMost 1 (settingsAt w starts first) original frame among))
+      pub loop-1 : two ≡ false → LoopReady w starts n first clock′ frame (replicate 579 0) trace
+      loop-1 t =
+          loop-ready 1 (rw one (one-reply (switchesIn w starts n) clock′ six draft handlingsMost 1 (settingsAt w starts first) original frame among))
+          (replicate 579 0) (omega (arith, length-replicate {A = ℕ} 579 0))
         where
           draft : (S : Settings) → List·Memᴰ S (switchesIn w starts n) → Draft S
           draft S j = record { nickname-fits = fit S j; edition-1 = edition-1-all (switchesIn w starts n) (sym is ∙ t) S j }
 
           one : runOf w starts n first clock′ frame ≡ singleRun handlingsMost 1 (switchesIn w starts n) clock′ (settingsAt w starts first) original frame
-          one = single (switchesIn w starts n) clock′ six draft handlingsMost 1 (settingsAt w starts first .nickname) (settingsAt w starts first) named original frame
+          one =
+              single (switchesIn w starts n) clock′ six draft handlingsMost 1 (settingsAt w starts first .nickname) (settingsAt w starts first)
+              named original frame
 
           among : List·Memᴰ (settingsAt w starts first) (switchesIn w starts n)
           among = named-member (switchesIn w starts n) (settingsAt w starts first .nickname) (settingsAt w starts first) named
 
-    pub run-plain : (trace′ : List ℕ) (r : ℕ) → Ran (runFrom handlingsMost 1 (switchesIn w starts n) clock′ (settingsAt w starts first .nickname) original frame []) trace trace′ r
-        → Ran (statesOf s) trace trace′ r
+    pub run-plain : (trace′ : List ℕ) (r : ℕ) → Ran (runOf w starts n first clock′ frame) trace trace′ r → Ran (statesOf s) trace trace′ r
     run-plain trace′ r ran =
         rw (states-so s e (at .ready .read .is))
         (record { counted = ran .counted ∙ sym (same .count); traced = ran .traced ∙ ap (put trace 0) (sym (same .trace)) })
 
-pub ruleset run-at-laws = (needs, clock-six, large-ready, small-ready, run-plain)
-
--- the slots that are lent
-module _ (few : ℕ) (w starts : List ℕ) (n first : ℕ) (clock frame trace : List ℕ) (f : FewReplies few w starts n first clock frame trace) where
-  slots-ready : (waiting sizes places : List ℕ) → 576 * few ≤ length waiting → few ≤ length sizes → few ≤ length places
-      → LoopReady w starts n first clock frame waiting sizes places trace
-  slots-ready waiting sizes places a b c =
-      record {
-        sound = f .sound;
-        within = f .within;
-        named = f .named;
-        six = f .six;
-        short = f .short;
-        most = f .most;
-        room = f .room;
-        slots = omega (arith, f .replies, a);
-        size-slots = omega (arith, f .replies, b);
-        place-slots = omega (arith, f .replies, c);
-      }
-
-module _ (w starts : List ℕ) (n first : ℕ) (clock frame trace : List ℕ) where
-  pub small-slots : FewReplies 1 w starts n first clock frame trace
-      → LoopReady w starts n first clock frame (replicate 576 0) (replicate 1 0) (replicate 1 0) trace
-  small-slots f =
-      slots-ready 1 w starts n first clock frame trace f (replicate 576 0) (replicate 1 0) (replicate 1 0)
-      (omega (arith, length-replicate {A = ℕ} 576 0)) (omega (arith, length-replicate {A = ℕ} 1 0)) (omega (arith, length-replicate {A = ℕ} 1 0))
-
-  pub large-slots : FewReplies 63 w starts n first clock frame trace
-      → LoopReady w starts n first clock frame (replicate 36288 0) (replicate 63 0) (replicate 63 0) trace
-  large-slots f =
-      slots-ready 63 w starts n first clock frame trace f (replicate 36288 0) (replicate 63 0) (replicate 63 0)
-      (omega (arith, length-replicate {A = ℕ} 36288 0)) (omega (arith, length-replicate {A = ℕ} 63 0)) (omega (arith, length-replicate {A = ℕ} 63 0))
-
-pub ruleset run-small-laws = (needs, small-slots)
-
-pub ruleset run-large-laws = (needs, large-slots)
+pub ruleset run-at-laws = (needs, clock-six, loop-2, loop-1, run-plain)
 
 -- the outcome, by the room and the description
 module _ (file trace : List ℕ) where
@@ -331,7 +314,8 @@ module _ (file trace : List ℕ) where
           pub run-ready : room ≤ length trace → RunReady file w starts (r .n) (r .clock) (r .place) trace
           run-ready k = record { read = read .accepts z; room = omega (arith, needed-so) }
 
-          pub done-run : room ≤ length trace → (trace′ : List ℕ) (count : ℕ) → Ran (statesOf file) trace trace′ count → CampusDone file trace trace′ 0 count
+          pub done-run : room ≤ length trace → (trace′ : List ℕ) (count : ℕ) → Ran (statesOf file) trace trace′ count
+              → CampusDone file trace trace′ 0 count
           done-run k trace′ count ran =
               let o = campus-accepted file (length trace) its (read .accepts z .is) (omega (arith, needed-so)) in
               let p = states-so file its (read .accepts z .is) in
@@ -343,10 +327,19 @@ module _ (file trace : List ℕ) where
 pub ruleset run-in-laws = (needs, done-refused, read-sound, done-needed, run-ready, done-run)
 
 -- words enough
-pub words-few : (octets : ℕ) → octets ≤ 250 → wordsFor octets ≤ length {A = ℕ} (replicate 256 0)
-words-few octets h = rw (le-leb octets 250 h, length-replicate {A = ℕ} 256 0) (omega arith)
+module _ (octets : ℕ) where
+  pub words-80 : octets ≤ 203 → wordsFor octets ≤ length {A = ℕ} (replicate 80 0)
+  words-80 h = rw (le-leb octets 5808 (omega arith), length-replicate {A = ℕ} 80 0) (omega arith)
 
-pub words-many : (octets : ℕ) → 250 < octets → wordsFor octets ≤ length {A = ℕ} (replicate 2118 0)
-words-many octets h = rw (lt-leb octets 250 h, length-replicate {A = ℕ} 2118 0) (omega arith)
+  pub words-256 : octets ≤ 687 → wordsFor octets ≤ length {A = ℕ} (replicate 256 0)
+  words-256 h = rw (le-leb octets 5808 (omega arith), length-replicate {A = ℕ} 256 0) (omega arith)
 
-pub ruleset campus-run-laws = (needs, done-short, words-few, words-many)
+  pub words-1024 : octets ≤ 2799 → wordsFor octets ≤ length {A = ℕ} (replicate 1024 0)
+  words-1024 h = rw (le-leb octets 5808 (omega arith), length-replicate {A = ℕ} 1024 0) (omega arith)
+
+  pub words-all : wordsFor octets ≤ length {A = ℕ} (replicate 2118 0)
+  words-all =
+      rw (length-replicate {A = ℕ} 2118 0)
+      (by-test (leb octets 5808) (λ t. rw t (omega (arith, leb-true octets 5808 t))) (λ t. rw t (omega arith)))
+
+pub ruleset campus-run-laws = (needs, done-short, words-80, words-256, words-1024, words-all)

@@ -14,7 +14,7 @@ use Rattle.rules.proofs.OctetLaws.{length-put, put-put, put-none}
 use Rattle.rules.proofs.TextLaws.{decimal-one, decimal-two, decimal-three, decimal-four}
 use Rattle.octets.specs.Copy.{putFitting}
 use Rattle.octets.proofs.Ends.{put-fits}
-use Rattle.campus.specs.Print.{PutAt, letterOf, headOf, tailOf, lineOf, linesOf, textOf}
+use Rattle.campus.specs.Print.{PutAt, letterOf, headOf, tailOf, lineOf, linesOf, textOf, Printable}
 
 -- digits and letters
 module _ (n : ℕ) where
@@ -40,31 +40,40 @@ module _ (kind : ℕ) where
 pub ruleset letter-laws = (needs, letter-original, letter-reply)
 
 -- one piece copied, and two pieces one after the other
-put-copied : (out out′ : List ℕ) (at end most : ℕ) (s t : List ℕ) → out′ ≡ putFitting out at s → at + length s ≤ length out → length s ≤ most
+put-copied : (out out′ : List ℕ) (at end most : ℕ) (s t : List ℕ) → out′ ≡ putFitting out at s → at + length s ≤ length out
+    → length s ≤ most
     → end ≡ at + length s → s ≡ t → PutAt out out′ at end most t
 put-copied out out′ at end most s t w room short e same =
     record { is = w ∙ put-fits out at s room ∙ ap (put out at) same; ends = e ∙ ap (λ (x : List ℕ). at + length x) same; short = rw (← same) short }
 
 -- a number of one, two, three or four digits
-module _ (out out′ : List ℕ) (at n : ℕ) (room : at + 4 ≤ length out) where
-  pub put-one : out′ ≡ putFitting out at ((48 + n) ∷ []) → n < 10 → PutAt out out′ at (at + 1) 4 (decimal n)
-  put-one w h = put-copied out out′ at (at + 1) 4 ((48 + n) ∷ []) (decimal n) w (omega arith) (omega arith) refl (decimal-one n h)
+module _ (out out′ : List ℕ) (at n : ℕ) (room : at + 4 ≤ length out) (last : ℕ) (is-last : last ≡ 48 + n % 10) where
+  pub put-one : out′ ≡ putFitting out at (last ∷ []) → n < 10 → PutAt out out′ at (at + 1) 4 (decimal n)
+  put-one w h =
+      let one : last ≡ 48 + n = omega (arith, is-last) in
+      put-copied out out′ at (at + 1) 4 (last ∷ []) (decimal n) w (omega arith) (omega arith) refl (rw one (decimal-one n h))
 
-  pub put-two : out′ ≡ putFitting out at ((48 + n / 10) ∷ (48 + n % 10) ∷ []) → 10 ≤ n → n < 100 → PutAt out out′ at (at + 2) 4 (decimal n)
-  put-two w h k =
-      put-copied out out′ at (at + 2) 4 ((48 + n / 10) ∷ (48 + n % 10) ∷ []) (decimal n) w (omega arith) (omega arith) refl (decimal-two n h k)
+  module _ (tens : ℕ) (is-tens : tens ≡ 48 + n / 10 % 10) where
+    pub put-two : out′ ≡ putFitting out at (tens ∷ last ∷ []) → 10 ≤ n → n < 100 → PutAt out out′ at (at + 2) 4 (decimal n)
+    put-two w h k =
+        let two : tens ≡ 48 + n / 10 = omega (arith, is-tens) in
+        put-copied out out′ at (at + 2) 4 (tens ∷ last ∷ []) (decimal n) w (omega arith) (omega arith) refl (rw (two, is-last) (decimal-two n h k))
 
-  pub put-three : out′ ≡ putFitting out at ((48 + n / 10 / 10) ∷ (48 + n / 10 % 10) ∷ (48 + n % 10) ∷ []) → 100 ≤ n → n < 1000
-      → PutAt out out′ at (at + 3) 4 (decimal n)
-  put-three w h k =
-      put-copied out out′ at (at + 3) 4 ((48 + n / 10 / 10) ∷ (48 + n / 10 % 10) ∷ (48 + n % 10) ∷ []) (decimal n) w
-      (omega arith) (omega arith) refl (decimal-three n h k)
+    module _ (hundreds : ℕ) (is-hundreds : hundreds ≡ 48 + n / 100 % 10) where
+      pub put-three : out′ ≡ putFitting out at (hundreds ∷ tens ∷ last ∷ []) → 100 ≤ n → n < 1000 → PutAt out out′ at (at + 3) 4 (decimal n)
+      put-three w h k =
+          let three : hundreds ≡ 48 + n / 10 / 10 = omega (arith, is-hundreds) in
+          put-copied out out′ at (at + 3) 4 (hundreds ∷ tens ∷ last ∷ []) (decimal n) w
+          (omega arith) (omega arith) refl (rw (three, is-tens, is-last) (decimal-three n h k))
 
-  pub put-four : out′ ≡ putFitting out at ((48 + n / 10 / 10 / 10) ∷ (48 + n / 10 / 10 % 10) ∷ (48 + n / 10 % 10) ∷ (48 + n % 10) ∷ []) → 1000 ≤ n → n < 10000
-      → PutAt out out′ at (at + 4) 4 (decimal n)
-  put-four w h k =
-      put-copied out out′ at (at + 4) 4 ((48 + n / 10 / 10 / 10) ∷ (48 + n / 10 / 10 % 10) ∷ (48 + n / 10 % 10) ∷ (48 + n % 10) ∷ []) (decimal n) w
-      (omega arith) (omega arith) refl (decimal-four n h k)
+      pub put-four : (first : ℕ) → first ≡ 48 + n / 1000 % 10 → out′ ≡ putFitting out at (first ∷ hundreds ∷ tens ∷ last ∷ [])
+          → 1000 ≤ n → n < 10000
+          → PutAt out out′ at (at + 4) 4 (decimal n)
+      put-four first is-first w h k =
+          let four : first ≡ 48 + n / 10 / 10 / 10 = omega (arith, is-first) in
+          let three : hundreds ≡ 48 + n / 10 / 10 % 10 = omega (arith, is-hundreds) in
+          put-copied out out′ at (at + 4) 4 (first ∷ hundreds ∷ tens ∷ last ∷ []) (decimal n) w
+          (omega arith) (omega arith) refl (rw (four, three, is-tens, is-last) (decimal-four n h k))
 
 pub ruleset put-decimal-laws = (needs, put-one, put-two, put-three, put-four)
 
@@ -81,7 +90,8 @@ module _ (out mid out′ : List ℕ) (at here end m n : ℕ) (s t : List ℕ) (a
         short = rw length-append (omega (arith, a .short, b .short));
       }
 
-put-same : (out out′ : List ℕ) (at end most : ℕ) (s : List ℕ) → PutAt out out′ at end most s → at + most ≤ length out → length out′ ≡ length out
+put-same : (out out′ : List ℕ) (at end most : ℕ) (s : List ℕ) → PutAt out out′ at end most s → at + most ≤ length out
+    → length out′ ≡ length out
 put-same out out′ at end most s p room = rw (p .is) (length-put out at s (omega (arith, p .short, room)))
 
 -- three pieces
@@ -99,7 +109,8 @@ pub ruleset put-number-laws = (needs, put-between)
 
 -- a line, its parts around the answer
 module _ (out out′ : List ℕ) (at end : ℕ) (e head tail : List ℕ) (n : ℕ) where
-  pub put-line : PutAt out out′ at end (length head + 4 + length tail) (head ++ decimal n ++ tail) → head ≡ headOf e → tail ≡ tailOf e → n ≡ getD e 3 0
+  pub put-line : PutAt out out′ at end (length head + 4 + length tail) (head ++ decimal n ++ tail) → head ≡ headOf e → tail ≡ tailOf e
+      → n ≡ getD e 3 0
       → PutAt out out′ at end 20 (lineOf e)
   unfolding lineOf
   put-line p h t q = (rw (h, t, q) at p)
@@ -139,15 +150,15 @@ module _ (out₀ trace : List ℕ) (count : ℕ) where
       }
 
   module _ (out : List ℕ) (at k : ℕ) (l : Writing out₀ trace count out at k) where
-    pub writing-end : count ≤ k → count ≤ 4096 → PutAt out₀ out 0 at 81920 (linesOf count trace)
-    writing-end over few =
+    pub writing-end : count ≤ k → PutAt out₀ out 0 at (count * 20) (linesOf count trace)
+    writing-end over =
         let z : count - k ≡ 0 = omega arith in
         let none : linesOf (count - k) (drop (k * 8) trace) ≡ [] =
         ap (λ (m : ℕ). linesOf m (drop (k * 8) trace)) z ∙ line-none (drop (k * 8) trace) in
         let all : l .done ≡ linesOf count trace = sym (append-nil (l .done)) ∙ ap (λ (t : List ℕ). l .done ++ t) (sym none) ∙ l .rest in
         rw (← all) (record { is = l .so-far .is; ends = l .so-far .ends; short = omega (arith, l .so-far .short, l .most) })
 
-    module _ (few : count ≤ 4096) (traced : count * 8 ≤ length trace) (room : 81920 ≤ length out₀) (more : k < count) where
+    module _ (few : count ≤ 4096) (traced : count * 8 ≤ length trace) (room : count * 20 ≤ length out₀) (more : k < count) where
       pub line-from : k * 8 ≤ length trace
       line-from = omega arith
 
@@ -198,14 +209,31 @@ module _ (code count : ℕ) (trace : List ℕ) where
     handled-octets = 104 ∷ 97 ∷ 110 ∷ 100 ∷ 108 ∷ 101 ∷ 100 ∷ 32 ∷ []
 
     pub put-refused : PutAt out out′ 0 end 13 (refused-octets ++ decimal code ++ (10 ∷ [])) → (code ≡ 0 → ⊥)
-        → PutAt out out′ 0 end 81933 (textOf code count trace)
+        → PutAt out out′ 0 end (count * 20 + 13) (textOf code count trace)
     unfolding ascii
     put-refused p h = rw (← text-refused h) (record { is = p .is; ends = p .ends; short = omega (arith, p .short) })
 
     pub put-handled : (mid : List ℕ) (here : ℕ) → PutAt mid out′ here end 13 (handled-octets ++ decimal count ++ (10 ∷ []))
-        → PutAt out mid 0 here 81920 (linesOf count trace) → code ≡ 0 → 81933 ≤ length out → PutAt out out′ 0 end 81933 (textOf code count trace)
+        → PutAt out mid 0 here (count * 20) (linesOf count trace) → code ≡ 0 → count * 20 + 13 ≤ length out
+        → PutAt out out′ 0 end (count * 20 + 13) (textOf code count trace)
     unfolding ascii
     put-handled mid here q p h room =
-        rw (← text-handled h) (put-on out mid out′ 0 here end 81920 13 (linesOf count trace) (ascii "handled " ++ decimal count ++ (lineFeed ∷ [])) p q room)
+        rw (← text-handled h) (put-on out mid out′ 0 here end (count * 20) 13 (linesOf count trace)
+        (ascii "handled " ++ decimal count ++ (lineFeed ∷ [])) p q (omega arith))
 
-pub ruleset put-text-laws = (needs, put-refused, put-handled)
+module _ (code count : ℕ) (trace : List ℕ) (p : Printable code count trace) where
+  pub printable-code : (bound : ℕ) → 10000 ≤ bound → code < bound
+  printable-code bound h = omega (arith, p .code-small)
+
+  pub printable-count : (bound : ℕ) → 4097 ≤ bound → count < bound
+  printable-count bound h = omega (arith, p .few)
+
+  pub printable-few : count ≤ 4096
+  printable-few = p .few
+
+  pub printable-traced : count * 8 ≤ length trace
+  printable-traced = p .traced
+
+pub ruleset printable = (printable-code, printable-count, printable-few, printable-traced)
+
+pub ruleset put-text-laws = (needs, printable, put-refused, put-handled)

@@ -4,18 +4,19 @@ use mathlib.Core.Path.{_≡_, refl, sym, ap, _∙_}
 use mathlib.Core.List.{List, [], _∷_}
 use mathlib.Core.Bool.{Bool, true, false, not}
 use mathlib.Core.Logic.{_⊎_, inl, inr}
-use mathlib.Core.Option.{Option, none, some}
+use mathlib.Core.Option.{Option, some}
 use Prim.Native.Nat.{ℕ, suc, _+_, _-_, _*_, _<_, _≤_}
 use native.Mathlib.Omega.{arith}
 use borrow.Author.Needs.{needs}
-use borrow.Author.Tests.{eq-eqb, ne-eqb, eqb-true, eqb-false, le-leb, lt-leb, le-ltb, lt-ltb, ltb-true, leb-true, leb-false, not-false}
+use borrow.Author.Tests.{ne-eqb, eqb-true, eqb-false, le-leb, lt-leb, le-ltb, lt-ltb, ltb-true, leb-true, leb-false, not-true, not-false}
 use lib.Dec.{leb, eqb}
-use lib.ListN.{length, drop, length-append}
-use Rattle.rules.specs.Octets.{if_then_else_, be16, part}
+use lib.ListN.{length, take, drop, length-append}
+use Rattle.rules.specs.Octets.{be16, part}
 use Rattle.rules.specs.Fields.{Field, field, cut, fieldAt, fieldsFrom, fields, lengthGood}
 use Rattle.rules.specs.Settings as S
 use Rattle.rules.specs.Settings.{Settings, switchOf, withField}
-use Rattle.rules.specs.Campus.{Described, switchNamed, known, placeGood, valueGood, nicknameNew, roomGood, serialNew, entryKnown, fieldRefusal, onLatest, withNext, refused, accepted, describedFrom, described, fileMost}
+use Rattle.rules.specs.Campus.{Described, switchNamed, known, placeGood, valueGood, nicknameNew, roomGood, serialNew, entryKnown, fieldRefusal}
+use Rattle.rules.specs.Campus.{onLatest, withNext, refused, describedFrom, described, fileMost}
 use Rattle.rules.specs.declared.FieldRead.{FieldRead}
 use Rattle.rules.specs.declared.FieldRead.the-variants.{Taken, Cut}
 use Rattle.rules.proofs.TestLaws.{by-test}
@@ -25,13 +26,28 @@ use Rattle.rules.proofs.FieldLaws.{field-read, fields-end, fields-cut, fields-o
 use Rattle.rules.proofs.DescriptionLaws.{described-end, described-none, described-on, described-refused}
 use Rattle.rules.proofs.Taken.{taken}
 use Rattle.campus.specs.declared.reading.Reading.{Reading}
-use Rattle.campus.specs.Places.{between, clockAt, entryValue, describedBy, codeAfter, clockedBy, countedBy}
-use Rattle.campus.specs.Stores.{endOf, spanOf, Stores, Kept, soFar, Took, wordsFor, Accepts, ReadDone}
+use Rattle.campus.specs.Places.{between, clockAt, entryValue, codeAfter, clockedBy, countedBy}
+use Rattle.campus.specs.Stores.{endOf, spanOf, Stores, Kept, soFar, Took, wordsFor, ReadDone}
 use Rattle.campus.proofs.StoresLaws.{span-none, span-more, span-most, end-is, stores-sound}
 
 pub between-is : (s : List ℕ) (start end : ℕ) → start ≤ end → end ≤ length s → between s start end ≡ part s start (end - start)
 unfolding between
 between-is s start end order within = rw (le-leb start end order, le-leb end (length s) within)
+
+module _ (s : List ℕ) (start end : ℕ) where
+  pub between-back : end < start → [] ≡ between s start end
+  unfolding between
+  between-back h = rw (lt-leb start end h)
+
+  module _ (order : start ≤ end) where
+    pub between-past : length s < end → [] ≡ between s start end
+    unfolding between
+    between-past h = rw (le-leb start end order, lt-leb end (length s) h)
+
+    pub between-there : end ≤ length s → take (end - start) (drop start s) ≡ between s start end
+    between-there h = sym (between-is s start end order h)
+
+pub ruleset between-laws = (needs, between-back, between-past, between-there)
 
 -- what a field that is not refused says
 record Passed (d : Described) (tag : ℕ) (v : List ℕ) : Type 0 where
@@ -87,6 +103,22 @@ module _ (s : List ℕ) (at : ℕ) where
       unfolding codeAfter
       code-place g = rw (codeAfter, lt-leb (length s) at h, e, g)
 
+  pub after-end : length s ≤ at → 0 ≡ codeAfter s at
+  after-end h = sym (code-end h)
+
+  module _ (read : FieldRead) (is : read ≡ fieldAt s at) (h : at < length s) where
+    pub after-cut : read ≡ Cut → 41 ≡ codeAfter s at
+    after-cut e = sym (code-cut h (sym is ∙ e))
+
+    module _ (tag size next : ℕ) (e : read ≡ Taken tag size next) (good : Bool) (its : good ≡ lengthGood tag size) where
+      pub after-length : not good ≡ true → 42 ≡ codeAfter s at
+      after-length f = sym (code-length h tag size next (sym is ∙ e) (sym its ∙ not-true good f))
+
+      pub after-place : not good ≡ false → 43 ≡ codeAfter s at
+      after-place t = sym (code-place h tag size next (sym is ∙ e) (sym its ∙ not-false good t))
+
+pub ruleset code-after-laws = (needs, after-end, after-cut, after-length, after-place)
+
 refusal-cut : (d : Described) → fieldRefusal d cut ≡ 41
 unfolding fieldRefusal
 refusal-cut d = refl
@@ -95,12 +127,14 @@ refusal-length : (d : Described) (tag : ℕ) (v : List ℕ) → lengthGood tag (
 unfolding fieldRefusal
 refusal-length d tag v g = rw g
 
-refusal-place : (d : Described) (tag : ℕ) (v : List ℕ) → lengthGood tag (length v) ≡ true → known (d .entry) ≡ true → fieldRefusal d (field tag v) ≡ 43
+refusal-place : (d : Described) (tag : ℕ) (v : List ℕ) → lengthGood tag (length v) ≡ true → known (d .entry) ≡ true
+    → fieldRefusal d (field tag v) ≡ 43
 unfolding fieldRefusal placeGood
 refusal-place d tag v g k = rw (g, k)
 
 module _ (s : List ℕ) (at : ℕ) (h : at < length s) (d : Described) (k : known (d .entry) ≡ true) (g : ℕ) where
-  refuses : (f : Field) (fs : List Field) (code : ℕ) → fieldsFrom (suc g) s at ≡ f ∷ fs → fieldRefusal d f ≡ code → codeAfter s at ≡ code → (code ≡ 0 → ⊥)
+  refuses : (f : Field) (fs : List Field) (code : ℕ) → fieldsFrom (suc g) s at ≡ f ∷ fs → fieldRefusal d f ≡ code → codeAfter s at ≡ code
+      → (code ≡ 0 → ⊥)
       → (describedFrom d (fieldsFrom (suc g) s at) ≡ refused (codeAfter s at)) × (codeAfter s at ≡ 0 → ⊥)
   refuses f fs code is r c z = (rw (is, c, ← r) (described-refused d f fs (λ q. z (sym r ∙ q))), λ q. z (sym c ∙ q))
 
@@ -112,9 +146,13 @@ module _ (s : List ℕ) (at : ℕ) (h : at < length s) (d : Described) (k : know
       go (Taken tag size next) e =
           let i = field-read s at tag size next e in
           let l : length (part s (at + 3) size) ≡ size = length-part s (at + 3) size (omega (arith, i)) in
+          let v : List ℕ = part s (at + 3) size in
+          let on = fields-on g s at tag size next h e in
           by-test (lengthGood tag size)
-          (λ b. refuses (field tag (part s (at + 3) size)) (fieldsFrom g s next) 43 (fields-on g s at tag size next h e) (refusal-place d tag (part s (at + 3) size) (rw l b) k) (code-place s at h tag size next e b) (λ q. absurd (omega (arith, q))))
-          (λ b. refuses (field tag (part s (at + 3) size)) (fieldsFrom g s next) 42 (fields-on g s at tag size next h e) (refusal-length d tag (part s (at + 3) size) (rw l b)) (code-length s at h tag size next e b) (λ q. absurd (omega (arith, q))))
+          (λ b. refuses (field tag v) (fieldsFrom g s next) 43 on (refusal-place d tag v (rw l b) k) (code-place s at h tag size next e b)
+          (λ q. absurd (omega (arith, q))))
+          (λ b. refuses (field tag v) (fieldsFrom g s next) 42 on (refusal-length d tag v (rw l b)) (code-length s at h tag size next e b)
+          (λ q. absurd (omega (arith, q))))
 
 clock-known : (s : List ℕ) (clock : ℕ) → known (clockAt s clock) ≡ not (eqb clock 0)
 unfolding clockAt
@@ -137,7 +175,8 @@ module _ (l : List Settings) (c : Option (List ℕ)) (tag : ℕ) (v : List ℕ) 
   unfolding withNext
   next-5 e = rw e
 
-  next-other : (tag ≡ 1 → ⊥) → (tag ≡ 4 → ⊥) → (tag ≡ 5 → ⊥) → withNext (soFar l c) (field tag v) ≡ soFar (onLatest (λ T. withField T (field tag v)) l) c
+  next-other : (tag ≡ 1 → ⊥) → (tag ≡ 4 → ⊥) → (tag ≡ 5 → ⊥)
+      → withNext (soFar l c) (field tag v) ≡ soFar (onLatest (λ T. withField T (field tag v)) l) c
   unfolding withNext
   next-other x y z = rw (ne-eqb tag 1 x, ne-eqb tag 4 y, ne-eqb tag 5 z)
 
@@ -172,23 +211,37 @@ module _ (l : List Settings) (c : Option (List ℕ)) (tag : ℕ) (v : List ℕ) 
       by-test (eqb tag 3) (λ b. rw (a, b) (omega arith)) (λ b.
       by-test (eqb tag 6) (λ e. rw (a, b, e) (omega arith)) (λ e. rw (a, b, e) (omega arith))))
 
-  on-span : (m : List Settings) → spanOf (onLatest (λ T. withField T (field tag v)) m) ≤ spanOf m + 3
-  on-span [] = omega (arith, span-none)
-  on-span (T ∷ m) = omega (arith, span-more T m, span-more (withField T (field tag v)) m, hops-with T)
+  hops-same : eqb tag 2 ≡ false → (T : Settings) → length (withField T (field tag v) .hops) ≤ length (T .hops) + 0
+  unfolding withField
+  hops-same a T =
+      by-test (eqb tag 3) (λ b. rw (a, b) (omega arith)) (λ b.
+      by-test (eqb tag 6) (λ e. rw (a, b, e) (omega arith)) (λ e. rw (a, b, e) (omega arith)))
+
+  on-span : (k : ℕ) → ((T : Settings) → length (withField T (field tag v) .hops) ≤ length (T .hops) + k) → (m : List Settings)
+      → spanOf (onLatest (λ T. withField T (field tag v)) m) ≤ spanOf m + 2 * k
+  on-span k more [] = omega (arith, span-none)
+  on-span k more (T ∷ m) = omega (arith, span-more T m, span-more (withField T (field tag v)) m, more T)
 
   eight-long : (k : ℕ) → lengthGood 1 k ≡ true → k ≡ 8
   unfolding lengthGood
   eight-long k e = eqb-true k 8 e
 
-  pub after-span : lengthGood tag (length v) ≡ true → spanOf after ≤ spanOf l + (3 + length v)
+  hop-long : (k : ℕ) → lengthGood 2 k ≡ true → 14 ≤ k
+  unfolding lengthGood
+  hop-long k e = by-test (eqb k 14) (λ t. omega (arith, eqb-true k 14 t)) (λ t. omega (arith, eqb-true k 16 (rw t at e)))
+
+  pub after-span : lengthGood tag (length v) ≡ true → 11 * spanOf after ≤ 11 * spanOf l + 4 * (3 + length v)
   after-span good =
       by-test (eqb tag 1)
       (λ a. omega (arith, ap spanOf (after-1 a), span-more (switchOf v) l, eight-long (length v) (rw (eqb-true tag 1 a) at good)))
       (λ a. go (after-other a))
     where
-      go : (after ≡ l) ⊎ (after ≡ onLatest (λ T. withField T (field tag v)) l) → spanOf after ≤ spanOf l + (3 + length v)
+      go : (after ≡ l) ⊎ (after ≡ onLatest (λ T. withField T (field tag v)) l) → 11 * spanOf after ≤ 11 * spanOf l + 4 * (3 + length v)
       go (inl e) = omega (arith, ap spanOf e)
-      go (inr e) = omega (arith, ap spanOf e, on-span l)
+      go (inr e) =
+          by-test (eqb tag 2)
+          (λ a. omega (arith, ap spanOf e, on-span 1 hops-with l, hop-long (length v) (rw (eqb-true tag 2 a) at good)))
+          (λ a. omega (arith, ap spanOf e, on-span 0 (hops-same a) l))
 
   pub after-few : roomGood (soFar l c) tag ≡ true → length l ≤ 16 → countedBy (length l) tag ≤ 16
   unfolding countedBy
@@ -196,7 +249,9 @@ module _ (l : List Settings) (c : Option (List ℕ)) (tag : ℕ) (v : List ℕ) 
 
 -- what is told
 module _ (s w starts : List ℕ) where
-  pub refused-done : (r : Reading) (code : ℕ) → r ≡ record { code = code; n = 0; clock = 0; place = 0 } → (code ≡ 0 → ⊥) → refused code ≡ described s → ReadDone s w starts r
+  pub refused-done : (r : Reading) (code : ℕ) → r ≡ record { code = code; n = 0; clock = 0; place = 0 } → (code ≡ 0 → ⊥)
+      → refused code ≡ described s
+      → ReadDone s w starts r
   refused-done r code is z q = rw is (record { refuses = λ n. q; accepts = λ e. absurd (z e) })
 
   pub done-long : (r : Reading) → 32768 < length s → r ≡ record { code = 40; n = 0; clock = 0; place = 0 } → ReadDone s w starts r
@@ -214,7 +269,7 @@ pub record Holding (s w₀ starts₀ w starts : List ℕ) (n clock at : ℕ) : T
   pub count : length switches ≡ n
   pub few : n ≤ 16
   pub stores : Stores w starts switches
-  pub span : spanOf switches ≤ at
+  pub span : 11 * spanOf switches ≤ 4 * at
   pub fuel : ℕ
   pub enough : length s ≤ at + fuel
   pub rest : describedFrom (soFar switches (clockAt s clock)) (fieldsFrom (suc fuel) s at) ≡ described s
@@ -263,8 +318,8 @@ module _ (s w₀ starts₀ : List ℕ) where
     span-room : at < length s → spanOf (h .switches) + 6 ≤ length w
     span-room more =
         let most = span-most w starts (h .switches) (h .stores) in
-        by-test (leb (length s) 250)
-        (λ t. omega (arith, leb-true (length s) 250 t, rw t at (h .words), h .span))
+        by-test (leb (length s) 5808)
+        (λ t. omega (arith, rw t at (h .words), h .span))
         (λ f. omega (arith, rw f at (h .words), most, h .count, h .few))
 
     module _ (more : at < length s) where
@@ -282,7 +337,8 @@ module _ (s w₀ starts₀ : List ℕ) where
         unfolding fieldRefusal
         done-cut r e is =
             refused-done s w starts r 41 is (λ z. absurd (omega (arith, z)))
-            (sym (described-refused d cut [] (λ z. absurd (omega (arith, z)))) ∙ ap (describedFrom d) (sym (fields-cut (h .fuel) s at more (sym q ∙ e))) ∙ h .rest)
+            (sym (described-refused d cut [] (λ z. absurd (omega (arith, z))))
+            ∙ ap (describedFrom d) (sym (fields-cut (h .fuel) s at more (sym q ∙ e))) ∙ h .rest)
 
         module _ (tag size next : ℕ) (t : read ≡ Taken tag size next) (code : ℕ) (w′ starts′ : List ℕ)
             (took : Took w starts n clock tag (part s (at + 3) (next - (at + 3))) code w′ starts′) where
@@ -310,7 +366,8 @@ module _ (s w₀ starts₀ : List ℕ) where
           pub took-starts : length starts′ ≡ length starts₀
           took-starts = took .starts-size ∙ h .starts-size
 
-          pub done-refused : (r : Reading) → (code ≡ 0 → ⊥) → r ≡ record { code = code; n = 0; clock = 0; place = 0 } → ReadDone s w′ starts′ r
+          pub done-refused : (r : Reading) → (code ≡ 0 → ⊥) → r ≡ record { code = code; n = 0; clock = 0; place = 0 }
+              → ReadDone s w′ starts′ r
           done-refused r z is =
               refused-done s w′ starts′ r code is z
               (rw code-is (sym (described-refused d (field tag v) (fieldsFrom (h .fuel) s next) (λ y. z (code-is ∙ y))) ∙ first-field))
@@ -336,7 +393,8 @@ module _ (s w₀ starts₀ : List ℕ) where
                     let six : next - (at + 3) ≡ 6 = sym v-long ∙ six-long (length v) (rw four at (passes d tag v passed .its-length)) in
                     rw six
 
-            pub holding-on : (tag ≡ 5 → ⊥) → (clock′ n′ : ℕ) → clock′ ≡ clockedBy clock tag at → n′ ≡ countedBy n tag → Holding s w₀ starts₀ w′ starts′ n′ clock′ next
+            pub holding-on : (tag ≡ 5 → ⊥) → (clock′ n′ : ℕ) → clock′ ≡ clockedBy clock tag at → n′ ≡ countedBy n tag
+                → Holding s w₀ starts₀ w′ starts′ n′ clock′ next
             holding-on five clock′ n′ ec en =
                 let i = field-read s at tag size next the-field in
                 let less : suc (h .fuel - 1) ≡ h .fuel = omega (arith, i, h .enough) in
@@ -378,7 +436,8 @@ module _ (s w₀ starts₀ : List ℕ) where
                   let e : length s ≡ next = omega (arith, i) in
                   between-is s (at + 3) (length s) (omega (arith, i)) (omega arith) ∙ ap (λ (x : ℕ). part s (at + 3) (x - (at + 3))) e
 
-              pub done-entered : (after : ℕ) → after ≡ codeAfter s next → ReadDone s w′ starts′ (record { code = after; n = n; clock = clock; place = at })
+              pub done-entered : (after : ℕ) → after ≡ codeAfter s next
+                  → ReadDone s w′ starts′ (record { code = after; n = n; clock = clock; place = at })
               done-entered after c =
                   let i = field-read s at tag size next the-field in
                   let less : suc (h .fuel - 1) ≡ h .fuel = omega (arith, i, h .enough) in
@@ -398,7 +457,9 @@ module _ (s w₀ starts₀ : List ℕ) where
                         accepts = λ y.
                             record {
                               switches = h .switches;
-                              is = sym (rw (whole-value l) (sym (described-end entered entered-known) ∙ ap (describedFrom entered) (sym (rw less at (fields-end (h .fuel - 1) s next l))) ∙ entered-rest));
+                              is =
+                                  sym (rw (whole-value l) (sym (described-end entered entered-known)
+                                  ∙ ap (describedFrom entered) (sym (rw less at (fields-end (h .fuel - 1) s next l))) ∙ entered-rest));
                               stores = rw (ap (λ (x : Described). x .switches) entered-is) at stored;
                               count = h .count;
                               sixteen = took .starts-size ∙ h .sixteen;
@@ -407,4 +468,6 @@ module _ (s w₀ starts₀ : List ℕ) where
                             };
                       }
 
-pub ruleset read-laws = (needs, taken, done-long, done-ended, done-cut, done-refused, holding-begin, holding-words, holding-starts, holding-few, holding-kept, took-words, took-starts, holding-on)
+pub ruleset holding = (holding-begin, holding-words, holding-starts, holding-few, holding-kept, holding-on)
+
+pub ruleset read-laws = (needs, taken, done-long, done-ended, done-cut, done-refused, holding, took-words, took-starts)

@@ -1,7 +1,7 @@
 -- One handling of the run as the code makes it: what its entry says, where its frame goes, and what it leaves in the buffers. One law for
 -- each need, over what the calls before it ensure, for `search` to cite. Assumes nothing.
 use mathlib.Core.Path.{_≡_, refl, sym, ap, _∙_}
-use mathlib.Core.List.{List, [], _∷_, _++_}
+use mathlib.Core.List.{List, [], _∷_}
 use mathlib.Core.Bool.{Bool}
 use mathlib.Core.Option.{Option, none, some}
 use Prim.Native.Nat.{ℕ, zero, suc, _+_, _-_, _*_, _/_, _%_, _<_, _≤_}
@@ -9,10 +9,11 @@ use native.Mathlib.Omega.{arith}
 use borrow.Author.Needs.{needs}
 use borrow.Author.Tests.{eq-eqb, ne-eqb, eqb-true, eqb-false}
 use lib.Dec.{eqb}
-use lib.ListN.{length, getD, take, drop, length-drop}
+use lib.ListN.{length, getD, take, drop, length-take, length-drop}
 use lib.Seq.{take-all, getD-drop}
-use Rattle.rules.specs.Octets.{put}
+use Rattle.rules.specs.Octets.{octet, be16, put}
 use Rattle.rules.specs.Settings.{Settings, Ways, waysOf}
+use Rattle.rules.specs.Link.{linkLength, linkEthertype, ethertypeTrill}
 use Rattle.rules.specs.Header.{hopCount, readFrame}
 use Rattle.rules.specs.Handling.{handling, handledWith}
 use Rattle.rules.specs.Campus.{switchNamed, hopReceived, egressReceived, kindOctet, entryOctets}
@@ -20,20 +21,61 @@ use Rattle.rules.specs.declared.Header.{Header}
 use Rattle.rules.specs.declared.FrameRead.{FrameRead}
 use Rattle.rules.specs.declared.FrameRead.the-variants.{Trill, Unreadable}
 use Rattle.rules.proofs.TestLaws.{by-test}
-use Rattle.rules.proofs.HandlingLaws.{frame-handled}
+use Rattle.rules.proofs.HandlingLaws.{frame-handled, handling-unread, unread-number}
+use Rattle.rules.proofs.FrameLaws.{IsTrill, frame-read, read-trill, read-other}
+use Rattle.rules.proofs.StepLaws.{hop-read, egress-read, reply-short}
 use Rattle.rules.proofs.HandledLaws.{handling-bounded}
 use Rattle.octets.specs.Copy.{putFitting}
 use Rattle.octets.proofs.Ends.{put-fits}
 use Rattle.handler.specs.declared.answers.Answer.{Answer}
 use Rattle.handler.specs.Tasks.{Both}
-use Rattle.stores.specs.Store.{waysIn, storeGood, handledIn}
+use Rattle.stores.specs.Store.{handledIn}
 use Rattle.handler.proofs.StoreLaws.{good-whole}
 use Rattle.campus.specs.declared.received.HopEgress.{HopEgress}
+use Rattle.campus.specs.declared.running.At.{At as Place}
 use Rattle.campus.specs.declared.switches.Named.{Named}
 use Rattle.campus.specs.declared.switches.Named.the-variants.{At, Nowhere}
 use Rattle.campus.specs.Stores.{storeAt, settingsAt, switchesIn, numberIn, Placed, SoundAt, Sound}
-use Rattle.campus.specs.Steps.{receivedOf, kindBy, entryBy, handledBy, StepReady, stateOf, Stepped}
+use Rattle.campus.specs.Steps.{Readable, AnsweredBy, receivedOf, kindBy, entryBy, handledBy, StepReady, stateAt, Stepped}
 use Rattle.campus.proofs.SwitchLaws.{number-none, number-here, number-before}
+
+-- a tag at the end of the link header
+module _ (f : List ℕ) where
+  untagged : (be16 f 12 ≡ 0x8100 → ⊥) → 14 ≡ linkLength f
+  unfolding linkLength
+  untagged h = rw (ne-eqb (be16 f 12) 0x8100 h)
+
+  module _ (high : ℕ) (is-high : high ≡ octet f 12) where
+    pub untagged-high : (high ≡ 0x81 → ⊥) → 14 ≡ linkLength f
+    untagged-high h = untagged (λ e. h (omega (arith, e, is-high)))
+
+    module _ (low : ℕ) (is-low : low ≡ octet f 13) where
+      pub untagged-low : (low ≡ 0 → ⊥) → 14 ≡ linkLength f
+      untagged-low h = untagged (λ e. h (omega (arith, e, is-low)))
+
+      pub tagged : high ≡ 0x81 → low ≡ 0 → 18 ≡ linkLength f
+      unfolding linkLength
+      tagged a b = rw (eq-eqb (be16 f 12) 0x8100 (omega (arith, a, b, is-high, is-low)))
+
+pub ruleset link-length-laws = (needs, untagged-high, untagged-low, tagged)
+
+-- the header of a frame that is readable
+header-is : (f : List ℕ) (h : Header) → readFrame f ≡ Trill h
+    → record { place = linkLength f; word = be16 f (linkLength f); egress = be16 f (linkLength f + 2); ingress = be16 f (linkLength f + 4) } ≡ h
+header-is f h e =
+    by-test (eqb (linkEthertype f) ethertypeTrill)
+    (λ t.
+    let there = read-trill f (omega (arith, i)) (omega (arith, i)) (eqb-true (linkEthertype f) ethertypeTrill t) (omega (arith, i)) ∙ e in
+    cc there)
+    (λ t.
+    let other = read-other f (omega (arith, i)) (omega (arith, i)) (eqb-false (linkEthertype f) ethertypeTrill t) ∙ e in
+    absurd (no-trill other))
+  where
+    i : (14 ≤ linkLength f) × (linkLength f + 6 ≤ length f)
+    i = let x = frame-read f h e in (omega (arith, x .its-place, x .from), omega (arith, x .its-place, x .whole))
+
+    no-trill : Unreadable 11 ≡ Trill h → ⊥
+    no-trill q = let z : _≡_ {A = ℕ} 0 1 = cc in omega arith
 
 -- hop count and egress of a frame, by what it is read as
 module _ (f : List ℕ) (read : FrameRead) (is : read ≡ readFrame f) where
@@ -41,16 +83,68 @@ module _ (f : List ℕ) (read : FrameRead) (is : read ≡ readFrame f) where
   unfolding receivedOf hopReceived egressReceived
   received-none number e = rw (receivedOf, hopReceived, egressReceived, ← is, e)
 
-  pub received-trill : (h : Header) → read ≡ Trill h → (hop : ℕ) → hop ≡ hopCount (h .word) → record { hop = hop; egress = h .egress } ≡ receivedOf f
+  pub received-trill : (h : Header) → read ≡ Trill h → (low hop : ℕ) → low ≡ h .word % 256 → hop ≡ hopCount (low % 256)
+      → record { hop = hop; egress = h .egress } ≡ receivedOf f
   unfolding receivedOf hopReceived egressReceived
-  received-trill h e hop n = rw (n, receivedOf, hopReceived, egressReceived, ← is, e)
+  received-trill h e low hop l n =
+      let its : hop ≡ hopCount (h .word) = omega (arith, l, n) in
+      rw (its, receivedOf, hopReceived, egressReceived, ← is, e)
 
-pub ruleset received-laws = (needs, received-none, received-trill)
+pub ruleset in-any-laws = (needs, received-none, received-trill)
+
+-- and where it stands in a frame that is readable
+module _ (f : List ℕ) (r : Readable f) where
+  whole : IsTrill f (r .header)
+  whole = frame-read f (r .header) (r .is)
+
+  module _ (at : ℕ) (is : at ≡ linkLength f) where
+    ends : at + 6 ≤ length f
+    ends = omega (arith, is, whole .its-place, whole .whole)
+
+    pub readable-1 : at + 1 < length f
+    readable-1 = omega (arith, ends)
+
+    pub readable-2 : at + 2 < length f
+    readable-2 = omega (arith, ends)
+
+    pub readable-3 : at + 2 + 1 < length f
+    readable-3 = omega (arith, ends)
+
+    pub readable-sum : (k bound : ℕ) → k ≤ 6 → length f < bound → at + k < bound
+    readable-sum k bound h l = omega (arith, ends)
+
+    pub readable-next : (bound : ℕ) → length f < bound → at + 2 + 1 < bound
+    readable-next bound l = omega (arith, ends)
+
+    pub in-header : (hop egress : ℕ) → hop ≡ hopCount (getD f (at + 1) 0 % 256) → egress ≡ be16 f (at + 2)
+        → record { hop = hop; egress = egress } ≡ receivedOf f
+    unfolding receivedOf
+    in-header hop egress h e =
+        let its = header-is f (r .header) (r .is) in
+        let word : be16 f (linkLength f) ≡ r .header .word = ap (λ (x : Header). x .word) its in
+        let a : hop ≡ hopReceived f = omega (arith, hop-read f (r .header) (r .is), word, rw is at h) in
+        let b : egress ≡ egressReceived f = (rw is at e) ∙ ap (λ (x : Header). x .egress) its ∙ sym (egress-read f (r .header) (r .is)) in
+        rw (a, b)
+
+pub ruleset in-header-laws = (needs, readable-1, readable-2, readable-3, readable-sum, readable-next, in-header)
+
+-- by the answer
+module _ (f : List ℕ) (number : ℕ) (given : AnsweredBy f number) where
+  pub is-readable : 12 ≤ number → Readable f
+  is-readable h = go (readFrame f) refl
+    where
+      go : (x : FrameRead) → readFrame f ≡ x → Readable f
+      go (Trill g) e = record { header = g; is = e }
+      go (Unreadable m) e = absurd (omega (arith, given .unread m e, unread-number f m e .1))
+
+pub ruleset received-laws = (needs, is-readable)
 
 -- an entry's eight octets, written where there is room for them
 module _ (trace trace′ : List ℕ) (at nickname : ℕ) (replied : Bool) (number : ℕ) (f : List ℕ) where
-  pub entry-put : (a b kind : ℕ) (h : HopEgress) (x y : ℕ) → trace′ ≡ putFitting trace at (a ∷ b ∷ kind ∷ number ∷ h .hop ∷ 0 ∷ x ∷ y ∷ [])
-      → h ≡ receivedOf f → a ≡ nickname / 256 % 256 → b ≡ nickname % 256 → kind ≡ kindOctet (kindBy replied) → x ≡ h .egress / 256 % 256 → y ≡ h .egress % 256
+  pub entry-put : (a b kind : ℕ) (h : HopEgress) (x y : ℕ)
+      → trace′ ≡ putFitting trace at (a ∷ b ∷ kind ∷ number ∷ h .hop ∷ 0 ∷ x ∷ y ∷ [])
+      → h ≡ receivedOf f → a ≡ nickname / 256 % 256 → b ≡ nickname % 256 → kind ≡ kindOctet (kindBy replied) → x ≡ h .egress / 256 % 256
+      → y ≡ h .egress % 256
       → at + 8 ≤ length trace → trace′ ≡ put trace at (entryBy nickname (kindBy replied) number f)
   unfolding receivedOf
   entry-put a b kind h x y w r ea eb ek ex ey room =
@@ -90,7 +184,8 @@ told : (w starts : List ℕ) (x n : ℕ) → Told w starts x n (numberIn w start
 told w starts x zero = rw (number-none w starts x) (told-none w starts x)
 told w starts x (suc n) = go (told w starts x n)
   where
-    go : Told w starts x n (numberIn w starts n x) (switchNamed (switchesIn w starts n) x) → Told w starts x (suc n) (numberIn w starts (suc n) x) (switchNamed (switchesIn w starts (suc n)) x)
+    go : Told w starts x n (numberIn w starts n x) (switchNamed (switchesIn w starts n) x)
+        → Told w starts x (suc n) (numberIn w starts (suc n) x) (switchNamed (switchesIn w starts (suc n)) x)
     go t =
         by-test (eqb (getD w (getD starts n 0) 0) x)
         (λ a.
@@ -136,16 +231,19 @@ module _ (w starts : List ℕ) (i : ℕ) (s : SoundAt w starts i) where
   nickname-small = omega (arith, nickname-is, good-whole (storeAt w starts i) (s .good) .named)
 
   handled-in : (clock : List ℕ) (room besideRoom : ℕ) (f : List ℕ)
-      → handledIn (take (length w - getD starts i 0) (drop (getD starts i 0) w)) clock room besideRoom f ≡ handledBy (settingsAt w starts i) clock room besideRoom f
+      → handledIn (take (length w - getD starts i 0) (drop (getD starts i 0) w)) clock room besideRoom f
+      ≡ handledBy (settingsAt w starts i) clock room besideRoom f
   unfolding handledIn
   handled-in clock room besideRoom f =
-      let whole : take (length w - getD starts i 0) (drop (getD starts i 0) w) ≡ storeAt w starts i = take-all (length w - getD starts i 0) (drop (getD starts i 0) w) (omega (arith, length-drop (getD starts i 0) w)) in
+      let whole : take (length w - getD starts i 0) (drop (getD starts i 0) w) ≡ storeAt w starts i =
+      take-all (length w - getD starts i 0) (drop (getD starts i 0) w) (omega (arith, length-drop (getD starts i 0) w)) in
       rw (whole, handledIn, s .good) (ap (λ (x : Ways). handledWith x clock room besideRoom f) (s .says))
 
   pub handled-by : (clock frame out out′ beside beside′ : List ℕ) (r : Answer)
       → Both (handledIn (take (length w - getD starts i 0) (drop (getD starts i 0) w)) clock (length out) (length beside) frame) r out out′ beside beside′
-      → Both (handledBy (settingsAt w starts i) clock (length out) (length beside) frame) r out out′ beside beside′
-  handled-by clock frame out out′ beside beside′ r b = rw (handled-in clock (length out) (length beside) frame) at b
+      → length out ≡ 2048 → length beside ≡ 576 → Both (handledBy (settingsAt w starts i) clock 2048 576 frame) r out out′ beside beside′
+  handled-by clock frame out out′ beside beside′ r b long long-beside =
+      rw (long, long-beside, handled-in clock 2048 576 frame) at b
 
 pub ruleset nickname-of-laws = (needs, sound-listed, sound-start, nickname-is, nickname-small)
 
@@ -163,11 +261,11 @@ entry-times k h = omega arith
 pub ruleset enter-laws = (needs, entered, entry-times)
 
 -- what is left of a handling
-module _ (w starts : List ℕ) (i : ℕ) (clock frame out beside trace : List ℕ) (k : ℕ) (ready : StepReady w starts i clock frame out beside trace k) where
+module _ (w starts clock : List ℕ) (at : Place) (trace : List ℕ) (k : ℕ) (ready : StepReady w starts clock at trace k) where
   abbrev T : Settings
-  T = settingsAt w starts i
+  T = settingsAt w starts (at .switch)
 
-  pub step-sound : SoundAt w starts i
+  pub step-sound : SoundAt w starts (at .switch)
   step-sound = ready .sound
 
   pub step-room : k * 8 + 8 ≤ length trace
@@ -176,20 +274,38 @@ module _ (w starts : List ℕ) (i : ℕ) (clock frame out beside trace : List �
   pub step-few : k < 4096
   step-few = ready .few
 
-  handled-so : handledBy T clock (length out) (length beside) frame ≡ handling (waysOf T) clock frame
-  handled-so = frame-handled (waysOf T) clock (length out) (length beside) frame (ready .six) (ready .room) (ready .beside-room) (ready .short)
+  pub step-within : (cur : List ℕ) → length cur ≡ 2048 → at .size ≤ length cur
+  step-within cur long = omega (arith, ready .small)
 
-  module _ (out′ beside′ : List ℕ) (a : Answer) (h : Both (handledBy (settingsAt w starts i) clock (length out) (length beside) frame) a out out′ beside beside′) where
+  module _ (frame cur : List ℕ) (is : frame ≡ take (at .size) cur) (out out′ beside beside′ : List ℕ) (a : Answer)
+      (h : Both (handledBy (settingsAt w starts (at .switch)) clock 2048 576 frame) a out out′ beside beside′) where
+    frame-short : length frame ≤ 2048
+    frame-short = rw is (omega (arith, length-take (at .size) cur, ready .small))
+
     done-both : Both (handling (waysOf T) clock frame) a out out′ beside beside′
-    done-both = rw handled-so at h
+    done-both = rw (frame-handled (waysOf T) clock 2048 576 frame (ready .six) (omega arith) (omega arith) frame-short) at h
 
     pub step-number : a .number < 64
-    step-number = rw (done-both .answer) (handling-bounded (waysOf T) clock frame (ready .six) (ready .short) .number-small)
+    step-number = rw (done-both .answer) (handling-bounded (waysOf T) clock frame (ready .six) frame-short .number-small)
 
-    pub step-done : (replied : Bool) (trace′ : List ℕ)
-        → trace′ ≡ put trace (k * 8) (entryBy (settingsAt w starts i .nickname) (kindBy replied) (a .number) frame)
-        → Stepped k (stateOf k clock (settingsAt w starts i) (kindBy replied) frame) out out′ beside beside′ trace trace′ a
+    pub step-answers : AnsweredBy frame (a .number)
+    step-answers = record { unread = λ m e. ap (λ (x : Answer). x .number) (done-both .answer) ∙ rw (handling-unread (waysOf T) clock frame m e) }
+
+    pub step-done : (trace′ : List ℕ)
+        → trace′ ≡ put trace (k * 8) (entryBy (settingsAt w starts (at .switch) .nickname) (kindBy (at .replied)) (a .number) frame)
+        → Stepped k (stateAt w starts clock at cur k) out out′ beside beside′ trace trace′ a
     unfolding entryOctets
-    step-done replied trace′ e = record { both = done-both; traced = e ∙ rw (done-both .answer) }
+    step-done trace′ e =
+        let bounded = handling-bounded (waysOf T) clock frame (ready .six) frame-short in
+        let named : T .nickname < 65536 =
+        omega (arith, nickname-is w starts (at .switch) (ready .sound), nickname-small w starts (at .switch) (ready .sound)) in
+        rw (← is)
+        (record {
+          both = done-both;
+          traced = e ∙ rw (done-both .answer);
+          small = rw (done-both .answer) (bounded .fits);
+          short = λ t. rw (done-both .answer) (reply-short T clock frame named (ready .six) (rw (done-both .answer) at t));
+          short-beside = rw (done-both .answer) (bounded .fits-beside);
+        })
 
-pub ruleset step-laws = (needs, step-sound, step-room, step-few, step-number, step-done)
+pub ruleset step-laws = (needs, step-sound, step-room, step-few, step-within, step-number, step-answers, step-done)

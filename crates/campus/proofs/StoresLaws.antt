@@ -38,13 +38,18 @@ span-most w starts [] s = omega (arith, span-none)
 span-most w starts (T ∷ l) s = omega (arith, span-more T l, span-most w starts l (s .1), s .0 .stands .records .ordered .few, s .0 .stands .records .count)
 
 -- words and places that agree as far as the switches go
-pub stores-same : (w u starts starts′ : List ℕ) (l : List Settings) → ((j : ℕ) → j < spanOf l → getD u j 0 ≡ getD w j 0) → ((i : ℕ) → i < length l → getD starts′ i 0 ≡ getD starts i 0)
+pub stores-same : (w u starts starts′ : List ℕ) (l : List Settings) → ((j : ℕ) → j < spanOf l → getD u j 0 ≡ getD w j 0)
+    → ((i : ℕ) → i < length l → getD starts′ i 0 ≡ getD starts i 0)
     → Stores w starts l → Stores u starts′ l
 stores-same w u starts starts′ [] same places s = tt
 stores-same w u starts starts′ (T ∷ l) same places s = (
   record {
     start = places (length l) (omega arith) ∙ s .0 .start;
-    stands = stands-too (drop (spanOf l) w) (drop (spanOf l) u) T (λ j h. getD-drop (spanOf l) u j 0 ∙ same (spanOf l + j) (omega (arith, span-more T l, s .0 .stands .records .count)) ∙ sym (getD-drop (spanOf l) w j 0)) (s .0 .stands);
+    stands =
+        stands-too (drop (spanOf l) w) (drop (spanOf l) u) T
+        (λ j h. getD-drop (spanOf l) u j 0
+        ∙ same (spanOf l + j) (omega (arith, span-more T l, s .0 .stands .records .count))
+        ∙ sym (getD-drop (spanOf l) w j 0)) (s .0 .stands);
     valid = s .0 .valid;
   },
   stores-same w u starts starts′ l (λ j h. same j (omega (arith, span-more T l))) (λ i h. places i (omega arith)) (s .1),
@@ -70,7 +75,8 @@ module _ (w : List ℕ) (a : ℕ) (x : List ℕ) (h : a ≤ length w) where
   part-long e = length-append (take a w) x ∙ omega (arith, length-take-le a w h, e, length-drop a w)
 
 -- one more switch
-pub stores-opened : (w starts v : List ℕ) (l : List Settings) → Stores w starts l → spanOf l + 4 ≤ length w → length l < length starts → opens (field 1 v) ≡ true
+pub stores-opened : (w starts v : List ℕ) (l : List Settings) → Stores w starts l → spanOf l + 4 ≤ length w → length l < length starts
+    → opens (field 1 v) ≡ true
     → Stores (take (spanOf l) w ++ withSwitch (drop (spanOf l) w) v) (set starts (length l) (spanOf l)) (switchOf v ∷ l)
 unfolding opens switchGood
 stores-opened w starts v l s room few o =
@@ -82,13 +88,17 @@ stores-opened w starts v l s room few o =
         stands = rw (back-is w (spanOf l) x h) (switch-stands (drop (spanOf l) w) v (rw length-drop (omega arith)));
         valid = and-true (nicknameValid (switchOf v .nickname)) (macGood (switchOf v .mac)) good .0;
       },
-      stores-same w (take (spanOf l) w ++ x) starts (set starts (length l) (spanOf l)) l (λ j b. front-same w (spanOf l) x h j b) (λ i b. getD-set-other starts (length l) i (spanOf l) 0 (omega arith)) s,
+      stores-same w (take (spanOf l) w ++ x) starts (set starts (length l) (spanOf l)) l (λ j b. front-same w (spanOf l) x h j b)
+          (λ i b. getD-set-other starts (length l) i (spanOf l) 0 (omega arith)) s,
     )
 
 -- one more field of the latest
 name-with : (T : Settings) (tag : ℕ) (v : List ℕ) → withField T (field tag v) .nickname ≡ T .nickname
 unfolding withField
-name-with T tag v = by-test (eqb tag 2) (λ e. rw e) (λ e. by-test (eqb tag 3) (λ f. rw (e, f)) (λ f. by-test (eqb tag 6) (λ g. rw (e, f, g)) (λ g. rw (e, f, g))))
+name-with T tag v =
+    by-test (eqb tag 2) (λ e. rw e) (λ e.
+    by-test (eqb tag 3) (λ f. rw (e, f)) (λ f.
+    by-test (eqb tag 6) (λ g. rw (e, f, g)) (λ g. rw (e, f, g))))
 
 pub ample-at : (w : List ℕ) (a : ℕ) → a + 4 + 2 * countIn (drop a w) + 6 ≤ length w → Ample (drop a w)
 ample-at w a h = record { opened = omega (arith, length-drop a w); room = λ b. omega (arith, length-drop a w) }
@@ -113,7 +123,8 @@ module _ (w starts : List ℕ) (T : Settings) (l : List Settings) (s : Stores w 
 -- what the words say
 stands-ways : (w : List ℕ) (T : Settings) → Stands w T → waysOf T ≡ waysOf (settingsIn w)
 stands-ways w T s =
-    let hops : nextHop T ≡ nextHop (settingsIn w) = fun-ext (λ d. next-hop T d ∙ ap unlessWithdrawn (s .records .same-ruling d) ∙ sym (next-hop (settingsIn w) d)) in
+    let hops : nextHop T ≡ nextHop (settingsIn w) =
+    fun-ext (λ d. next-hop T d ∙ ap unlessWithdrawn (s .records .same-ruling d) ∙ sym (next-hop (settingsIn w) d)) in
     λ i. record { nickname = sym (s .nickname) i; mac = sym (s .mac) i; strip = sym (s .strip) i; rfc7179 = sym (s .rfc7179) i; hop = hops i }
 
 module _ (w starts : List ℕ) (l : List Settings) (T : Settings) (s : Store w starts l T) where
@@ -133,11 +144,15 @@ module _ (w starts : List ℕ) (l : List Settings) (T : Settings) (s : Store w s
       record {
         listed = listed;
         start = omega (arith, s .start, span-more T l);
-        good = rw store-is (is-good (drop (spanOf l) w) T (s .stands) (s .valid) (omega (arith, length-drop (spanOf l) w, span-more T l, s .stands .records .count)));
+        good =
+            rw store-is (is-good (drop (spanOf l) w) T (s .stands) (s .valid)
+            (omega (arith, length-drop (spanOf l) w, span-more T l, s .stands .records .count)));
         says = rw store-is (says (drop (spanOf l) w) T (s .stands) ∙ stands-ways (drop (spanOf l) w) T (s .stands));
       }
 
-sound-each : (w starts : List ℕ) (l : List Settings) → Stores w starts l → spanOf l ≤ length w → length l ≤ length starts → (i : ℕ) → i < length l → SoundAt w starts i
+sound-each : (w starts : List ℕ) (l : List Settings) → Stores w starts l → spanOf l ≤ length w → length l ≤ length starts → (i : ℕ)
+    → i < length l
+    → SoundAt w starts i
 sound-each w starts [] s room listed i h = absurd (omega arith)
 sound-each w starts (T ∷ l) s room listed i h =
     by-test (ltb i (length l))
@@ -146,7 +161,8 @@ sound-each w starts (T ∷ l) s room listed i h =
     let e : i ≡ length l = omega (arith, ltb-false i (length l) f) in
     rw e (sound-here w starts l T (s .0) room (omega arith)))
 
-module _ (w starts : List ℕ) (l : List Settings) (s : Stores w starts l) (n : ℕ) (count : length l ≡ n) (room : spanOf l ≤ length w) (listed : n ≤ length starts) where
+module _ (w starts : List ℕ) (l : List Settings) (s : Stores w starts l) (n : ℕ) (count : length l ≡ n) (room : spanOf l ≤ length w)
+    (listed : n ≤ length starts) where
   pub stores-sound : Sound w starts n
   stores-sound =
       let each : (i : ℕ) → i < n → SoundAt w starts i = λ i h. sound-each w starts l s room (omega arith) i (omega arith) in
@@ -177,11 +193,13 @@ named-more w starts n Nowhere (some T) a = a
 named-more w starts n (At i) none a = a
 named-more w starts n (At i) (some T) a = (omega (arith, a .0), a .1)
 
-named-as : (w starts : List ℕ) (l : List Settings) (x : ℕ) → Stores w starts l → NamedAs w starts (length l) (numberIn w starts (length l) x) (switchNamed l x)
+named-as : (w starts : List ℕ) (l : List Settings) (x : ℕ) → Stores w starts l
+    → NamedAs w starts (length l) (numberIn w starts (length l) x) (switchNamed l x)
 named-as w starts [] x s = rw (number-none w starts x, named-none x) tt
 named-as w starts (T ∷ l) x s = go (named-as w starts l x (s .1))
   where
-    go : NamedAs w starts (length l) (numberIn w starts (length l) x) (switchNamed l x) → NamedAs w starts (suc (length l)) (numberIn w starts (suc (length l)) x) (switchNamed (T ∷ l) x)
+    go : NamedAs w starts (length l) (numberIn w starts (length l) x) (switchNamed l x)
+        → NamedAs w starts (suc (length l)) (numberIn w starts (suc (length l)) x) (switchNamed (T ∷ l) x)
     go a =
         by-test (eqb (T .nickname) x)
         (λ t.
@@ -189,7 +207,8 @@ named-as w starts (T ∷ l) x s = go (named-as w starts l x (s .1))
         rw (number-here w starts x (length l) (name-at w starts l T (s .0) ∙ e), named-first T l x e) (omega arith, ways-at w starts l T (s .0)))
         (λ f.
         let h = eqb-false (T .nickname) x f in
-        rw (number-before w starts x (length l) (λ q. h (sym (name-at w starts l T (s .0)) ∙ q)), named-next T l x h) (named-more w starts (length l) (numberIn w starts (length l) x) (switchNamed l x) a))
+        rw (number-before w starts x (length l) (λ q. h (sym (name-at w starts l T (s .0)) ∙ q)), named-next T l x h)
+        (named-more w starts (length l) (numberIn w starts (length l) x) (switchNamed l x) a))
 
 known-as : (w starts : List ℕ) (n : ℕ) (r : Named) (o : Option Settings) → NamedAs w starts n r o → foundBy r ≡ known o
 known-as w starts n Nowhere none a = refl
@@ -197,8 +216,10 @@ known-as w starts n Nowhere (some T) a = absurd a
 known-as w starts n (At i) none a = absurd a
 known-as w starts n (At i) (some T) a = refl
 
-pub known-is : (w starts : List ℕ) (l : List Settings) (x n : ℕ) → Stores w starts l → length l ≡ n → foundBy (numberIn w starts n x) ≡ known (switchNamed l x)
+pub known-is : (w starts : List ℕ) (l : List Settings) (x n : ℕ) → Stores w starts l → length l ≡ n
+    → foundBy (numberIn w starts n x) ≡ known (switchNamed l x)
 known-is w starts l x n s e = rw (← e) (known-as w starts (length l) (numberIn w starts (length l) x) (switchNamed l x) (named-as w starts l x s))
 
-pub named-so : (w starts : List ℕ) (l : List Settings) (n x : ℕ) → length l ≡ n → Stores w starts l → NamedAs w starts n (numberIn w starts n x) (switchNamed l x)
+pub named-so : (w starts : List ℕ) (l : List Settings) (n x : ℕ) → length l ≡ n → Stores w starts l
+    → NamedAs w starts n (numberIn w starts n x) (switchNamed l x)
 named-so w starts l n x e s = rw (← e) (named-as w starts l x s)

@@ -81,7 +81,8 @@ module _ (w starts : List ℕ) where
       let two : settingsAt w starts n .rfc7179 ≡ true = edition-is n ∙ eq-eqb (getD w (getD starts n 0 + 2) 0 / 2 % 2) 1 e in
       rw two
 
-  edition-before : (n : ℕ) → (getD w (getD starts n 0 + 2) 0 / 2 % 2 ≡ 1 → ⊥) → someEdition2 (switchesIn w starts (suc n)) ≡ someEdition2 (switchesIn w starts n)
+  edition-before : (n : ℕ) → (getD w (getD starts n 0 + 2) 0 / 2 % 2 ≡ 1 → ⊥)
+      → someEdition2 (switchesIn w starts (suc n)) ≡ someEdition2 (switchesIn w starts n)
   unfolding someEdition2 switchesIn
   edition-before n h =
       let one : settingsAt w starts n .rfc7179 ≡ false = edition-is n ∙ ne-eqb (getD w (getD starts n 0 + 2) 0 / 2 % 2) 1 h in
@@ -171,9 +172,14 @@ module _ (w : List ℕ) (at : ℕ) (v : List ℕ) where
       rw (none, append-nil u)
 
   pub part-opens : (r : Bool) (u : List ℕ) → Opens (take (length w - at) (drop at w)) v r u → PartOpens w at v r (putMid at (length w - at) w u)
-  part-opens r u o = let p : Opens (drop at w) v r u = rw lent at o in rw (back u) (record { answer = p .answer; words = ap (λ (x : List ℕ). take at w ++ x) (p .words) })
+  part-opens r u o =
+      let p : Opens (drop at w) v r u = rw lent at o in
+      rw (back u) (record { answer = p .answer; words = ap (λ (x : List ℕ). take at w ++ x) (p .words) })
 
-  pub part-extends : (tag r : ℕ) (u : List ℕ) → Extends (take (length w - at) (drop at w)) tag v r u → PartExtends w at tag v r (putMid at (length w - at) w u)
-  part-extends tag r u o = let p : Extends (drop at w) tag v r u = rw lent at o in rw (back u) (record { code = p .code; words = ap (λ (x : List ℕ). take at w ++ x) (p .words) })
+  pub part-extends : (tag r : ℕ) (u : List ℕ) → Extends (take (length w - at) (drop at w)) tag v r u
+      → PartExtends w at tag v r (putMid at (length w - at) w u)
+  part-extends tag r u o =
+      let p : Extends (drop at w) tag v r u = rw lent at o in
+      rw (back u) (record { code = p .code; words = ap (λ (x : List ℕ). take at w ++ x) (p .words) })
 
 pub ruleset part-laws = (needs, part-opens, part-extends)

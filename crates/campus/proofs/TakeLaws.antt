@@ -14,7 +14,8 @@ use Rattle.rules.specs.Octets.{if_then_else_, be16}
 use Rattle.rules.specs.Fields.{field, lengthGood}
 use Rattle.rules.specs.Settings as S
 use Rattle.rules.specs.Settings.{Settings, switchOf, withField, opens, switchGood, hopGood, hopOf, serialMet, stripGood}
-use Rattle.rules.specs.Campus.{Described, switchNamed, known, placeGood, valueGood, nicknameNew, roomGood, serialNew, entryKnown, fieldRefusal, onLatest, withNext}
+use Rattle.rules.specs.Campus.{Described, switchNamed, known, placeGood, valueGood, nicknameNew, roomGood, serialNew, entryKnown}
+use Rattle.rules.specs.Campus.{fieldRefusal, onLatest, withNext}
 use Rattle.rules.proofs.TestLaws.{by-test, and-yes, and-no}
 use Rattle.octets.specs.Flags.{flagTag, flagValue, flagBy}
 use Rattle.stores.specs.Extend.{opensIn, withSwitch, extending, extended}
@@ -111,7 +112,8 @@ module _ (l : List Settings) (c : Option (List ℕ)) (v : List ℕ) where
 
   -- a switch
   code-1 : lengthGood 1 (length v) ≡ true
-      → fieldRefusal d (field 1 v) ≡ (if not (switchGood (switchOf v)) then 44 else if known (switchNamed l (be16 v 0)) then 45 else if not (ltb (length l) 16) then 46 else 0)
+      → fieldRefusal d (field 1 v)
+      ≡ (if not (switchGood (switchOf v)) then 44 else if known (switchNamed l (be16 v 0)) then 45 else if not (ltb (length l) 16) then 46 else 0)
   unfolding fieldRefusal placeGood valueGood nicknameNew roomGood entryKnown
   code-1 a = rw (a, serial-other 1 (omega arith), not-not (known (switchNamed l (be16 v 0))))
 
@@ -157,7 +159,8 @@ settings-tag tag size o =
 -- what a refusal leaves
 module _ (w starts : List ℕ) (n clock tag : ℕ) (v : List ℕ) where
   not-taken : (code : ℕ) (w′ : List ℕ) → 0 < code → length w′ ≡ length w
-      → ((l : List Settings) (c : Option (List ℕ)) → Stores w starts l → length l ≡ n → known c ≡ not (eqb clock 0) → code ≡ fieldRefusal (soFar l c) (field tag v))
+      → ((l : List Settings) (c : Option (List ℕ)) → Stores w starts l → length l ≡ n → known c ≡ not (eqb clock 0)
+      → code ≡ fieldRefusal (soFar l c) (field tag v))
       → Took w starts n clock tag v code w′ starts
   not-taken code w′ z same j = record { size = same; starts-size = refl; judged = j; stored = λ l c s e q. absurd (omega arith) }
 
@@ -176,7 +179,8 @@ module _ (w starts : List ℕ) (n clock tag : ℕ) (v : List ℕ) where
         pub length-1 : tag ≡ 1 → lengthGood 1 (length v) ≡ true
         length-1 e = rw e at its-good
 
-        pub took-1 : (r : ℕ) (w′ starts′ : List ℕ) → tag ≡ 1 → Took w starts n clock 1 v r w′ starts′ → Took w starts n clock tag v r w′ starts′
+        pub took-1 : (r : ℕ) (w′ starts′ : List ℕ) → tag ≡ 1 → Took w starts n clock 1 v r w′ starts′
+            → Took w starts n clock tag v r w′ starts′
         took-1 r w′ starts′ e x = rw e x
 
         pub took-4 : tag ≡ 4 → Took w starts n clock tag v 0 w starts
@@ -194,7 +198,8 @@ module _ (w starts : List ℕ) (n clock tag : ℕ) (v : List ℕ) where
           good-5 : lengthGood 5 (length v) ≡ true
           good-5 = rw e at its-good
 
-          entry-code : (l : List Settings) (c : Option (List ℕ)) → Stores w starts l → length l ≡ n → (if not x then 48 else 0) ≡ fieldRefusal (soFar l c) (field tag v)
+          entry-code : (l : List Settings) (c : Option (List ℕ)) → Stores w starts l → length l ≡ n
+              → (if not x then 48 else 0) ≡ fieldRefusal (soFar l c) (field tag v)
           entry-code l c s m = rw e (sym (code-5 l c v good-5 ∙ rw (← known-is w starts l (be16 v 0) n s m, ← is)))
 
           pub took-48 : not x ≡ true → Took w starts n clock tag v 48 w starts
@@ -225,7 +230,8 @@ pub ruleset take-laws = (needs, took-42, took-43, length-1, took-1, took-4, took
 
 -- a switch: its nickname asked for before, the store opened behind the last
 module _ (w starts : List ℕ) (n clock : ℕ) (v : List ℕ) (k : Kept w starts n) (long : lengthGood 1 (length v) ≡ true)
-    (x : Bool) (is : x ≡ knownIn w starts n (be16 v 0)) (end : ℕ) (ends : end ≡ endOf w starts n) (r : Bool) (w′ : List ℕ) (o : PartOpens w end v r w′) where
+    (x : Bool) (is : x ≡ knownIn w starts n (be16 v 0)) (end : ℕ) (ends : end ≡ endOf w starts n)
+    (r : Bool) (w′ : List ℕ) (o : PartOpens w end v r w′) where
   end-low : end + 6 ≤ length w
   end-low = rw ends (k .room)
 
@@ -293,7 +299,8 @@ open-within w starts n end k e = omega (arith, k .room)
 pub open-placed : (w starts : List ℕ) (n : ℕ) → Kept w starts n → Placed w starts n
 open-placed w starts n k = k .placed
 
-pub part-opened-long : (w starts : List ℕ) (n end : ℕ) (v : List ℕ) (r : Bool) (w′ : List ℕ) → PartOpens w end v r w′ → Kept w starts n → end ≡ endOf w starts n → length w′ ≡ length w
+pub part-opened-long : (w starts : List ℕ) (n end : ℕ) (v : List ℕ) (r : Bool) (w′ : List ℕ) → PartOpens w end v r w′ → Kept w starts n
+    → end ≡ endOf w starts n → length w′ ≡ length w
 part-opened-long w starts n end v r w′ o k e = ap length (o .words) ∙ part-long w end _ (omega (arith, k .room)) (go (opensIn (drop end w) v))
   where
     go : (b : Bool) → length (if b then withSwitch (drop end w) v else drop end w) ≡ length (drop end w)
@@ -352,11 +359,13 @@ module _ (w starts : List ℕ) (n clock tag : ℕ) (v : List ℕ) (k : Kept w st
         judge [] c s m = absurd (omega arith)
         judge (T ∷ l) c s m = latest-code T l c s m
 
-        store : (l : List Settings) (c : Option (List ℕ)) → Stores w starts l → length l ≡ n → r ≡ 0 → Stores w′ starts (withNext (soFar l c) (field tag v) .switches)
+        store : (l : List Settings) (c : Option (List ℕ)) → Stores w starts l → length l ≡ n → r ≡ 0
+            → Stores w′ starts (withNext (soFar l c) (field tag v) .switches)
         store [] c s m z = absurd (omega arith)
         store (T ∷ l) c s m z = latest-stored T l c s m z
 
-pub extended-part-long : (w : List ℕ) (at tag : ℕ) (v : List ℕ) (r : ℕ) (w′ : List ℕ) → PartExtends w at tag v r w′ → at ≤ length w → length w′ ≡ length w
+pub extended-part-long : (w : List ℕ) (at tag : ℕ) (v : List ℕ) (r : ℕ) (w′ : List ℕ) → PartExtends w at tag v r w′ → at ≤ length w
+    → length w′ ≡ length w
 extended-part-long w at tag v r w′ x h = ap length (x .words) ∙ part-long w at _ h (extended-long (drop at w) tag v)
 
 pub ruleset extend-laws = (needs, extend-listed, extend-within, extend-taken, extended-part-long)

@@ -1,10 +1,11 @@
 -- The text as the code makes it: from an outcome and its trace's octets, number by number.
-use Prim.Native.Nat.{ℕ, zero, suc, _+_, _≤_}
+use Prim.Native.Nat.{ℕ, zero, suc, _+_, _*_, _≤_, _<_}
 use mathlib.Core.Path.{_≡_}
 use mathlib.Core.List.{List, [], _∷_, _++_}
 use lib.ListN.{length, getD, drop}
-use lib.Dec.{eqb}
+use lib.Dec.{leb, eqb}
 use Rattle.rules.specs.Octets.{if_then_else_, put}
+use Rattle.octets.specs.Copy.{putFitting}
 use Rattle.rules.specs.Text.{ascii, blank, lineFeed, hex2, decimal}
 
 -- `s`, of `most` octets or fewer, written at a place, and where it ends
@@ -36,3 +37,15 @@ textOf code count trace =
     if eqb code 0
     then linesOf count trace ++ (ascii "handled " ++ decimal count ++ (lineFeed ∷ []))
     else (ascii "refused " ++ decimal code ++ (lineFeed ∷ []))
+
+-- an outcome that can be printed
+pub record Printable (code count : ℕ) (trace : List ℕ) : Type 0 where
+  pub code-small : code < 10000
+  pub few : count ≤ 4096
+  pub traced : count * 8 ≤ length trace
+
+-- a text written where it fits, and how long it is
+pub record Written (s text text′ : List ℕ) (written needed : ℕ) : Type 0 where
+  pub needs : needed ≡ length s
+  pub says : written ≡ (if leb (length s) (length text) then length s else 0)
+  pub holds : text′ ≡ putFitting text 0 s

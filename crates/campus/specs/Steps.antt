@@ -4,19 +4,31 @@ use mathlib.Core.Path.{_≡_}
 use mathlib.Core.List.{List, [], _∷_, _++_}
 use mathlib.Core.Bool.{Bool, true, false}
 use mathlib.Core.Option.{none, some}
-use lib.ListN.{length}
+use lib.ListN.{length, take}
 use Rattle.rules.specs.Octets.{be16, octets16, put}
 use Rattle.rules.specs.Settings.{Settings, waysOf}
 use Rattle.rules.specs.Answer.{Handled}
+use Rattle.rules.specs.Header.{readFrame}
 use Rattle.rules.specs.Handling.{handling, handledWith}
+use Rattle.rules.specs.declared.Header.{Header}
+use Rattle.rules.specs.declared.FrameRead.the-variants.{Trill, Unreadable}
 use Rattle.rules.specs.Campus.{switchNamed, Kind, original, reply, State, runFrom, handlingsMost, plainRun, traceNeeded}
-use Rattle.rules.specs.Campus.{hopReceived, egressReceived, kindOctet, entryOctets, traceOctets, described, refused, accepted}
-use Rattle.rules.specs.Demand.{repliesIn}
+use Rattle.rules.specs.Campus.{writesReply, hopReceived, egressReceived, kindOctet, entryOctets, traceOctets, described, refused, accepted}
 use Rattle.handler.specs.declared.answers.Answer.{Answer}
 use Rattle.handler.specs.Tasks.{Both}
 use Rattle.campus.specs.Places.{entryValue, describedBy}
-use Rattle.campus.specs.Stores.{settingsAt, switchesIn, Accepts, SoundAt, Sound}
+use Rattle.campus.specs.Stores.{settingsAt, switchesIn, Accepts, SoundAt}
 use Rattle.campus.specs.declared.received.HopEgress.{HopEgress}
+use Rattle.campus.specs.declared.running.At.{At}
+
+-- a frame that is readable as TRILL
+pub record Readable (f : List ℕ) : Type 0 where
+  pub header : Header
+  pub is : readFrame f ≡ Trill header
+
+-- an answer that a frame may be given: one that is unreadable as TRILL is given what it is read as
+pub record AnsweredBy (f : List ℕ) (number : ℕ) : Type 0 where
+  pub unread : (m : ℕ) → readFrame f ≡ Unreadable m → number ≡ m
 
 unfoldable pub receivedOf : List ℕ → HopEgress
 receivedOf f = record { hop = hopReceived f; egress = egressReceived f }
@@ -33,22 +45,26 @@ abbrev pub handledBy : Settings → List ℕ → ℕ → ℕ → List ℕ → Ha
 handledBy S clock room besideRoom f = handledWith (waysOf S) clock room besideRoom f
 
 -- one handling, the k-th after the first: what it needs,
-pub record StepReady (w starts : List ℕ) (i : ℕ) (clock frame out beside trace : List ℕ) (k : ℕ) : Type 0 where
-  pub sound : SoundAt w starts i
+pub record StepReady (w starts clock : List ℕ) (at : At) (trace : List ℕ) (k : ℕ) : Type 0 where
+  pub sound : SoundAt w starts (at .switch)
   pub six : length clock ≡ 6
-  pub short : length frame ≤ 2048
-  pub room : 2048 ≤ length out
-  pub beside-room : 576 ≤ length beside
+  pub small : at .size ≤ 2048
   pub entry-room : k * 8 + 8 ≤ length trace
   pub few : k < 4096
 
 abbrev pub stateOf : ℕ → List ℕ → Settings → Kind → List ℕ → State
 stateOf k clock S kind f = record { handlingNo = suc k; switch = S; kind = kind; frame = f; answer = handling (waysOf S) clock f }
 
--- and what it does: both frames are written, and the entry stands in the trace
+abbrev pub stateAt : List ℕ → List ℕ → List ℕ → At → List ℕ → ℕ → State
+stateAt w starts clock at cur k = stateOf k clock (settingsAt w starts (at .switch)) (kindBy (at .replied)) (take (at .size) cur)
+
+-- and what it does: both frames are written, a reply is short, and the entry stands in the trace
 pub record Stepped (k : ℕ) (state : State) (out out′ beside beside′ trace trace′ : List ℕ) (r : Answer) : Type 0 where
   pub both : Both (state .answer) r out out′ beside beside′
   pub traced : trace′ ≡ put trace (k * 8) (entryOctets state)
+  pub small : r .written ≤ 2048
+  pub short : writesReply (r .number) ≡ true → r .written ≤ 576
+  pub short-beside : r .beside ≤ 576
 
 -- the states of a run counted and traced
 pub record Ran (states : List State) (trace trace′ : List ℕ) (count : ℕ) : Type 0 where
@@ -57,19 +73,6 @@ pub record Ran (states : List State) (trace trace′ : List ℕ) (count : ℕ) :
 
 abbrev pub runOf : List ℕ → List ℕ → ℕ → ℕ → List ℕ → List ℕ → List State
 runOf w starts n first clock frame = runFrom handlingsMost 1 (switchesIn w starts n) clock (settingsAt w starts first .nickname) original frame []
-
--- what the loop needs: a frame that fits, room for the entries, and a slot for every reply that arises
-pub record LoopReady (w starts : List ℕ) (n first : ℕ) (clock frame waiting sizes places trace : List ℕ) : Type 0 where
-  pub sound : Sound w starts n
-  pub within : first < n
-  pub named : switchNamed (switchesIn w starts n) (settingsAt w starts first .nickname) ≡ some (settingsAt w starts first)
-  pub six : length clock ≡ 6
-  pub short : length frame ≤ 2048
-  pub most : length (runOf w starts n first clock frame) ≤ 4096
-  pub room : 8 * length (runOf w starts n first clock frame) ≤ length trace
-  pub slots : 576 * repliesIn (runOf w starts n first clock frame) ≤ length waiting
-  pub size-slots : repliesIn (runOf w starts n first clock frame) ≤ length sizes
-  pub place-slots : repliesIn (runOf w starts n first clock frame) ≤ length places
 
 -- the room for a trace, by whether a switch has edition 2
 abbrev pub neededBy : Bool → ℕ

@@ -112,9 +112,9 @@ pub record Took (w starts : List ℕ) (n clock tag : ℕ) (v : List ℕ) (code :
   pub stored : (switches : List Settings) (c : Option (List ℕ)) → Stores w starts switches → length switches ≡ n → code ≡ 0
       → Stores w′ starts′ (withNext (soFar switches c) (field tag v) .switches)
 
--- words enough for a description: a field takes up no more words than it has octets, and 16 switches no more than 2,112
+-- words enough for a description: a field takes up at most 4 words for 11 octets, and 16 switches 2,112
 abbrev pub wordsFor : ℕ → ℕ
-wordsFor octets = if leb octets 250 then 256 else 2118
+wordsFor octets = if leb octets 5808 then 4 * octets / 11 + 6 else 2118
 
 pub record Accepts (s w starts : List ℕ) (n clock place : ℕ) : Type 0 where
   pub switches : List Settings

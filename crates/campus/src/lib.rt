@@ -6,10 +6,9 @@ mod refusals;
 mod running;
 mod switches;
 
-ghost use Prim.Native.Nat.{_≤_};
+ghost use Prim.Native.Nat.{_+_, _*_, _≤_};
 ghost use lib.ListN.{length};
-ghost use Rattle.rules.specs.Text.{printed};
-ghost use Rattle.campus.specs.Print.{PutAt};
+ghost use Rattle.campus.specs.Print.{textOf, Printable, Written};
 ghost use Rattle.campus.specs.Stores.{wordsFor};
 ghost use mathlib.Core.Path.{_≡_};
 ghost use Rattle.campus.specs.Steps.{neededBy};
@@ -29,7 +28,7 @@ fn needed(two: bool) -> usize
     if two { 32768 } else { 640 }
 }
 
-// The run, with words lent for the stores of the switches: a field of n octets takes up n words at most.
+// The run, with words lent for the stores of the switches: a field takes up at most 4 words for 11 octets.
 fn run_in(description: &[u8], words: &mut [u64], trace: &mut [u8]) -> Outcome
     requires { ⌜ (wordsFor (length (now description)) ≤ length (now words)) × (640 ≤ length (now trace)) ⌝ }
     ensures { λ r. ⌜ CampusDone (now (description .entry)) (now (trace .entry)) (now (trace .exit)) (r .code) (r .count) ⌝ }
@@ -46,16 +45,7 @@ fn run_in(description: &[u8], words: &mut [u64], trace: &mut [u8]) -> Outcome
     if trace.len() < needed(two) {
         return Outcome { code: 49, count: 0 };
     }
-    let count = running::run(
-        description,
-        words,
-        &starts,
-        r.n,
-        r.clock,
-        r.place,
-        two,
-        trace,
-    );
+    let count = running::run(description, words, &starts, r, two, trace);
     Outcome {
         code: 0,
         count: count,
@@ -69,22 +59,20 @@ pub extern "C" fn campus_run(description: &[u8], trace: &mut [u8]) -> Outcome
     if trace.len() < 640 {
         return Outcome { code: 49, count: 0 };
     }
-    if description.len() <= 250 {
+    if description.len() <= 203 {
+        let mut few = [0u64; 80];
+        return run_in(description, &mut few, trace);
+    }
+    if description.len() <= 687 {
         let mut few = [0u64; 256];
         return run_in(description, &mut few, trace);
     }
+    if description.len() <= 2799 {
+        let mut some = [0u64; 1024];
+        return run_in(description, &mut some, trace);
+    }
     let mut words = [0u64; 2118];
     run_in(description, &mut words, trace)
-}
-
-// Runs a description and writes what is printed of it, and answers how long that is.
-fn text_of(description: &[u8], out: &mut [u8]) -> usize
-    requires { ⌜ 81933 ≤ length (now out) ⌝ }
-    ensures { λ r. ⌜ PutAt (now (out .entry)) (now (out .exit)) 0 r 81933 (printed (now (description .entry))) ⌝ }
-{
-    let mut trace = [0u8; 32768];
-    let o = campus_run(description, &mut trace);
-    printing::put_text(out, o.code, o.count, &trace)
 }
 
 // What is written, 0 where the text does not fit, and how long the text is.
@@ -94,13 +82,12 @@ pub struct Printed {
     pub needed: u32,
 }
 
-// What the program prints for a description.
-#[no_mangle]
-pub extern "C" fn campus_text(description: &[u8], text: &mut [u8]) -> Printed
-    ensures { λ r. ⌜ TextDone (now (description .entry)) (now (text .entry)) (now (text .exit)) (r .written) (r .needed) ⌝ }
+// Writes the text of an outcome to `out` first, since it might not fit.
+fn put_apart(code: u32, count: u32, trace: &[u8], out: &mut [u8], text: &mut [u8]) -> Printed
+    requires { ⌜ Printable code count (now trace) × (count * 20 + 13 ≤ length (now out)) ⌝ }
+    ensures { λ r. ⌜ Written (textOf code count (now (trace .entry))) (now (text .entry)) (now (text .exit)) (r .written) (r .needed) ⌝ }
 {
-    let mut out = [0u8; 81933];
-    let size = text_of(description, &mut out);
+    let size = printing::put_text(out, code, count, trace);
     if text.len() < size {
         return Printed {
             written: 0,
@@ -112,4 +99,46 @@ pub extern "C" fn campus_text(description: &[u8], text: &mut [u8]) -> Printed
         written: size as u32,
         needed: size as u32,
     }
+}
+
+// Writes the text of an outcome: at once where no text of so many lines is too long.
+fn put_printed(code: u32, count: u32, trace: &[u8], text: &mut [u8]) -> Printed
+    requires { ⌜ Printable code count (now trace) ⌝ }
+    ensures { λ r. ⌜ Written (textOf code count (now (trace .entry))) (now (text .entry)) (now (text .exit)) (r .written) (r .needed) ⌝ }
+{
+    if count as usize * 20 + 13 <= text.len() {
+        let size = printing::put_text(text, code, count, trace);
+        return Printed {
+            written: size as u32,
+            needed: size as u32,
+        };
+    }
+    if count <= 80 {
+        let mut out = [0u8; 1613];
+        return put_apart(code, count, trace, &mut out, text);
+    }
+    let mut out = [0u8; 81933];
+    put_apart(code, count, trace, &mut out, text)
+}
+
+// What is printed for any campus.
+fn text_of(description: &[u8], text: &mut [u8]) -> Printed
+    ensures { λ r. ⌜ TextDone (now (description .entry)) (now (text .entry)) (now (text .exit)) (r .written) (r .needed) ⌝ }
+{
+    let mut trace = [0u8; 32768];
+    let o = campus_run(description, &mut trace);
+    put_printed(o.code, o.count, &trace, text)
+}
+
+// What the program prints for a description. The least trace buffer is too small only for a campus with an edition 2 switch.
+#[no_mangle]
+pub extern "C" fn campus_text(description: &[u8], text: &mut [u8]) -> Printed
+    ensures { λ r. ⌜ TextDone (now (description .entry)) (now (text .entry)) (now (text .exit)) (r .written) (r .needed) ⌝ }
+{
+    let mut trace = [0u8; 640];
+    let o = campus_run(description, &mut trace);
+    if o.code == 49 {
+        return text_of(description, text);
+    }
+    put_printed(o.code, o.count, &trace, text)
 }

@@ -4,7 +4,7 @@ ghost use mathlib.Core.List.{_++_};
 ghost use Prim.Native.Nat.{_+_, _*_, _%_, _≤_, _<_};
 ghost use lib.ListN.{length};
 ghost use Rattle.rules.specs.Text.{hexDigit, decimal};
-ghost use Rattle.campus.specs.Print.{PutAt, letterOf, headOf, tailOf, lineOf, linesOf, textOf};
+ghost use Rattle.campus.specs.Print.{PutAt, letterOf, headOf, tailOf, lineOf, linesOf, textOf, Printable};
 
 // The low four bits in hex, upper case.
 fn hex_digit(n: u8) -> u8
@@ -57,41 +57,34 @@ fn line_tail(e: &[u8]) -> [u8; 9]
     ]
 }
 
+// The last decimal digit.
+fn digit(n: u16) -> u8
+    ensures { λ r. ⌜ r ≡ 48 + n % 10 ⌝ }
+{
+    48 + (n % 10) as u8
+}
+
 // Writes a number in decimal, and answers where it ends.
 fn put_decimal(out: &mut [u8], at: usize, n: u16) -> usize
     requires { ⌜ (at + 4 ≤ length (now out)) × (n < 10000) ⌝ }
     ensures { λ r. ⌜ PutAt (now (out .entry)) (now (out .exit)) at r 4 (decimal n) ⌝ }
 {
+    let last = digit(n);
     if n < 10 {
-        octets::copy(out, at, &[48 + n as u8]);
+        octets::copy(out, at, &[last]);
         return at + 1;
     }
+    let tens = digit(n / 10);
     if n < 100 {
-        octets::copy(out, at, &[48 + (n / 10) as u8, 48 + (n % 10) as u8]);
+        octets::copy(out, at, &[tens, last]);
         return at + 2;
     }
+    let hundreds = digit(n / 100);
     if n < 1000 {
-        octets::copy(
-            out,
-            at,
-            &[
-                48 + (n / 10 / 10) as u8,
-                48 + (n / 10 % 10) as u8,
-                48 + (n % 10) as u8,
-            ],
-        );
+        octets::copy(out, at, &[hundreds, tens, last]);
         return at + 3;
     }
-    octets::copy(
-        out,
-        at,
-        &[
-            48 + (n / 10 / 10 / 10) as u8,
-            48 + (n / 10 / 10 % 10) as u8,
-            48 + (n / 10 % 10) as u8,
-            48 + (n % 10) as u8,
-        ],
-    );
+    octets::copy(out, at, &[digit(n / 1000), hundreds, tens, last]);
     at + 4
 }
 
@@ -125,8 +118,8 @@ fn put_line(out: &mut [u8], at: usize, e: &[u8]) -> usize
 
 // Writes the lines of the first `count` entries of a trace.
 fn put_lines(out: &mut [u8], trace: &[u8], count: usize) -> usize
-    requires { ⌜ (count ≤ 4096) × (count * 8 ≤ length (now trace)) × (81920 ≤ length (now out)) ⌝ }
-    ensures { λ r. ⌜ PutAt (now (out .entry)) (now (out .exit)) 0 r 81920 (linesOf count (now (trace .entry))) ⌝ }
+    requires { ⌜ (count ≤ 4096) × (count * 8 ≤ length (now trace)) × (count * 20 ≤ length (now out)) ⌝ }
+    ensures { λ r. ⌜ PutAt (now (out .entry)) (now (out .exit)) 0 r (count * 20) (linesOf count (now (trace .entry))) ⌝ }
 {
     let mut at = 0;
     let mut k = 0;
@@ -139,8 +132,8 @@ fn put_lines(out: &mut [u8], trace: &[u8], count: usize) -> usize
 
 // Writes what is printed of an outcome.
 pub fn put_text(out: &mut [u8], code: u32, count: u32, trace: &[u8]) -> usize
-    requires { ⌜ (code < 10000) × (count ≤ 4096) × (count * 8 ≤ length (now trace)) × (81933 ≤ length (now out)) ⌝ }
-    ensures { λ r. ⌜ PutAt (now (out .entry)) (now (out .exit)) 0 r 81933 (textOf code count (now (trace .entry))) ⌝ }
+    requires { ⌜ Printable code count (now trace) × (count * 20 + 13 ≤ length (now out)) ⌝ }
+    ensures { λ r. ⌜ PutAt (now (out .entry)) (now (out .exit)) 0 r (count * 20 + 13) (textOf code count (now (trace .entry))) ⌝ }
 {
     if code != 0 {
         return put_number(out, 0, b"refused ", code as u16, b"\n");

@@ -1,4 +1,4 @@
--- `campus_text` meets its contract: what is printed is copied if it fits. Assumes nothing.
+-- `campus_text` meets its contract: an answer other than 49 says that the trace buffer was large enough. Assumes nothing.
 use Rattle.campus.proofs.TextLaws.{campus-text-laws as laws}
 use Rattle.campus.proofs.campus_text.Statement.{statement}
 use Rattle.campus.proofs.campus_text.Tie as tie
@@ -9,12 +9,10 @@ campus-text-spec =
     (tie.spec
     (λ c. search laws)
     (λ c κs. search laws)
-    (λ c. search laws)
+    (λ c κs. search laws)
     (λ c. search laws)
     (λ c. search laws)
     (λ c. search laws)
     (λ c κs. search laws)
-    (λ c. search laws)
-    (λ c. search laws)
     (λ c. search laws)
     (λ c. search laws))

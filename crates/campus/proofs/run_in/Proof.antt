@@ -1,4 +1,4 @@
--- `run_in` meets its contract, by one law for each need. Assumes nothing.
+-- `run_in` meets its contract, by what was read. Assumes nothing.
 use Rattle.campus.proofs.DoneLaws.{run-in-laws as laws}
 use Rattle.campus.proofs.run_in.Statement.{statement}
 use Rattle.campus.proofs.run_in.Tie as tie
@@ -16,8 +16,7 @@ run-in-spec =
     (λ c κs. search laws)
     (λ c. search laws)
     (λ c. search laws)
-    (λ c. search laws)
-    (λ c κs. (search laws, search laws))
+    (λ c κs. search laws)
     (λ c. search laws)
     (λ c. search laws)
     (λ c. search laws))

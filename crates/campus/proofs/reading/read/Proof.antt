@@ -39,7 +39,11 @@ read-spec =
     (λ c κs. search laws)
     (λ c. search laws)
     (λ c. search laws)
-    (λ c. search (done-entered, c .before .before .before .before .before .before .before .before .before .before .before .before .before .before .before .before .loop .inv, c .before .before .before .before .before .before .before .take .ensures))
+    (λ c. search (
+      done-entered,
+      c .before .before .before .before .before .before .before .before .before .before .before .before .before .before .before .before .loop .inv,
+      c .before .before .before .before .before .before .before .take .ensures,
+    ))
     (λ c κs. search laws)
     (λ c κs. search laws)
     (λ c. search laws)

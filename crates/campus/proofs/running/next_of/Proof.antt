@@ -1,5 +1,5 @@
 -- `running::next_of` meets its contract, by one law for each need. Assumes nothing.
-use Rattle.campus.proofs.QueueLaws.{next-on-laws, next-of-laws as laws}
+use Rattle.campus.proofs.QueueLaws.{next-of-laws as laws}
 use Rattle.campus.proofs.running.next_of.Statement.{statement}
 use Rattle.campus.proofs.running.next_of.Tie as tie
 
@@ -10,14 +10,9 @@ next-of-spec =
     (λ c κs. search laws)
     (λ c. search laws)
     (λ c. search laws)
-    (λ c. search laws)
     (λ c κs. search laws)
     (λ c. search laws)
     (λ c. search laws)
     (λ c κs. search laws)
-    (λ c. search laws)
-    (λ c. search laws)
-    (λ c. search laws)
     (λ c κs. search laws)
-    (λ c. search laws)
-    (λ c. search next-on-laws))
+    (λ c. search laws))
