@@ -1,17 +1,80 @@
--- The bodies of the two replies, cited and copied. By laws of parts and of buffers written in stages. Assumes nothing.
-use mathlib.Core.Path.{_≡_, refl, sym, _∙_}
+-- The part of a frame that an answer names, and the two replies behind their link headers, cited and copied. By laws of parts and of buffers
+-- written in stages. Assumes nothing.
+use mathlib.Core.Path.{_≡_, refl, sym, ap, _∙_}
 use mathlib.Core.List.{List, [], _∷_, _++_, append-assoc}
-use Prim.Native.Nat.{ℕ, _+_, _-_, _%_, _<_, _≤_}
+use Prim.Native.Nat.{ℕ, suc, _+_, _-_, _/_, _%_, _<_, _≤_}
 use native.Mathlib.Omega.{arith}
-use lib.ListN.{length, take, drop, length-append, length-drop, length-take}
+use borrow.Author.Needs.{needs}
+use borrow.Author.Tests.{le-leb, lt-leb}
+use lib.ListN.{length, getD, take, drop, length-append, length-drop, length-take}
 use lib.Seq.{take-all}
-use Rattle.rules.specs.Octets.{octet, part, put}
+use Rattle.rules.specs.Octets.{octet, octets48, part, put}
 use Rattle.rules.specs.Channel as Ch
 use Rattle.rules.specs.Channel.{echoBody}
-use Rattle.rules.proofs.OctetLaws.{length-part}
+use Rattle.rules.specs.Handling as Hn
+use Rattle.rules.specs.Handling.{partOf}
+use Rattle.rules.proofs.OctetLaws.{length-part, length-put}
+use Rattle.rules.proofs.ReplyLaws.{echo-body-length}
 use Rattle.octets.specs.Copy.{putFitting}
-use Rattle.handler.specs.Shapes.{timesBy}
+use Rattle.handler.specs.Shapes.{timesBy, replyOctets}
+use Rattle.handler.specs.declared.way.Own.{Own}
 use Rattle.handler.proofs.Stages.{lent-rest, copied, copied-after, after}
+
+-- the part of a frame that an answer names
+module _ (f : List ℕ) (start size : ℕ) where
+  pub part-outside : length f < start → [] ≡ partOf f start size
+  unfolding Hn.partOf
+  part-outside h = rw (lt-leb (start + size) (length f) (omega arith))
+
+  module _ (from : start ≤ length f) where
+    pub part-over : length f - start < size → [] ≡ partOf f start size
+    unfolding Hn.partOf
+    part-over h = rw (lt-leb (start + size) (length f) (omega arith))
+
+    pub part-within : size ≤ length f - start → take (start + size - start) (drop start f) ≡ partOf f start size
+    unfolding Hn.partOf
+    part-within h =
+        let e : start + size - start ≡ size = omega arith in
+        rw (e, le-leb (start + size) (length f) (omega arith))
+
+pub ruleset part-laws = (needs, part-outside, part-over, part-within)
+
+-- the 28 octets of a reply, and its buffer
+module _ (own : Own) (ingress number code : ℕ) where
+  pub head-made : (m : List ℕ) (a b c d e f : ℕ) → m ≡ octets48 (own .mac) → a ≡ ingress / 256 % 256 → b ≡ ingress % 256 → c ≡ own .nickname / 256 % 256
+      → d ≡ own .nickname % 256 → e ≡ number / 256 % 256 → f ≡ number % 256 → code < 256
+      → (0x00 ∷ 0x3F ∷ a ∷ b ∷ c ∷ d ∷ 0x01 ∷ 0x80 ∷ 0xC2 ∷ 0x00 ∷ 0x00 ∷ 0x42
+      ∷ getD m 0 0 ∷ getD m 1 0 ∷ getD m 2 0 ∷ getD m 3 0 ∷ getD m 4 0 ∷ getD m 5 0
+      ∷ 0x81 ∷ 0x00 ∷ 0x00 ∷ 0x01 ∷ 0x89 ∷ 0x46 ∷ e ∷ f ∷ 0xC0 ∷ code ∷ [])
+      ≡ replyOctets own ingress number code
+  head-made m a b c d e f em ea eb ec ed ee ef small =
+      let e1 : (0xC000 + code) / 256 % 256 ≡ 0xC0 = omega arith in
+      let e2 : (0xC000 + code) % 256 ≡ code = omega arith in
+      rw (em, ea, eb, ec, ed, ee, ef, e1, e2)
+
+  module _ (at : ℕ) (d d1 d2 head : List ℕ) where
+    -- what is written behind them
+    behind : (rest : List ℕ) → d1 ≡ putFitting d at head → head ≡ replyOctets own ingress number code → d2 ≡ put d1 (at + 28) rest
+        → at + 28 + length rest ≤ length d → d2 ≡ put d at (replyOctets own ingress number code ++ rest)
+    behind rest p is q room =
+        let reply : List ℕ = replyOctets own ingress number code in
+        after d d1 d2 at (at + 28) reply rest (copied d d1 at head reply p is (omega arith)) q refl room
+
+    pub error-written : (f : List ℕ) (n : ℕ) (body : List ℕ) → d2 ≡ putFitting d1 (at + 28) body → body ≡ take 128 (drop n f) → d1 ≡ putFitting d at head
+        → head ≡ replyOctets own ingress number code → at + 156 ≤ length d
+        → d2 ≡ put d at (replyOctets own ingress number code ++ take 128 (drop n f))
+    error-written f n body q eb p is room =
+        let few : length (take 128 (drop n f)) ≤ 128 = omega (arith, length-take 128 (drop n f)) in
+        let reply : List ℕ = replyOctets own ingress number code in
+        let same : length d1 ≡ length d = ap length (copied d d1 at head reply p is (omega arith)) ∙ length-put d at reply (omega arith) in
+        behind (take 128 (drop n f)) p is (copied d1 d2 (at + 28) body (take 128 (drop n f)) q eb (omega arith)) (omega arith)
+
+    pub echo-written : (body clock : List ℕ) → d2 ≡ put d1 (at + 28) (echoBody body clock) → d1 ≡ putFitting d at head
+        → head ≡ replyOctets own ingress number code → 18 ≤ length body → length clock ≡ 6 → at + 28 + length body ≤ length d
+        → d2 ≡ put d at (replyOctets own ingress number code ++ echoBody body clock)
+    echo-written body clock q p is long six room = behind (echoBody body clock) p is q (omega (arith, echo-body-length body clock long six))
+
+pub ruleset reply-octets-laws = (needs, head-made)
 
 -- at most 128 octets from a place on
 module _ (f : List ℕ) (n : ℕ) where
@@ -21,44 +84,44 @@ module _ (f : List ℕ) (n : ℕ) where
   pub cited-most : take (n + 128 - n) (drop n f) ≡ take 128 (drop n f)
   cited-most = let e : n + 128 - n ≡ 128 = omega arith in rw e
 
-  -- 28 octets, and what is cited
-  pub error-written : (d d1 d2 head body reply : List ℕ) (at : ℕ) → head ≡ reply → length reply ≡ 28 → body ≡ take 128 (drop n f) → d1 ≡ putFitting d at head
-      → d2 ≡ putFitting d1 (at + 28) body → at + 156 ≤ length d
-      → (at + 28 + length body ≡ at + (28 + length (take 128 (drop n f)))) × (d2 ≡ put d at (reply ++ take 128 (drop n f)))
-  error-written d d1 d2 head body reply at eh lh eb p q h =
-      let few : length (take 128 (drop n f)) ≤ 128 = omega (arith, length-take 128 (drop n f)) in
-      let one : d1 ≡ put d at reply = copied d d1 at head reply p eh (omega arith) in
-      (rw eb (omega arith), copied-after d d1 d2 at (at + 28) reply (take 128 (drop n f)) body one q eb (omega arith) (omega arith))
+  pub cited-end : (body : List ℕ) (at : ℕ) → body ≡ take 128 (drop n f) → at + 28 + length body ≡ at + (28 + length (take 128 (drop n f)))
+  cited-end body at is = rw is (omega arith)
 
-module _ (body clock : List ℕ) (long : 18 ≤ length body) (six : length clock ≡ 6) where
-  times-long : length (timesBy body clock) ≡ length body - 1
-  times-long =
-      let p : List ℕ = part body 1 11 in
-      omega (arith, length-append (p ++ clock) (drop 18 body), length-append p clock, length-part body 1 11 (omega arith), length-drop 18 body)
+pub ruleset cited-laws = (needs, cited-all, cited-most)
 
-  pub times-written : (d d1 d2 d3 : List ℕ) (at : ℕ) → d1 ≡ putFitting d at (part body 1 11) → d2 ≡ putFitting d1 (at + 11) clock
-      → d3 ≡ putFitting d2 (at + 17) (take (length body - 18) (drop 18 body)) → at + length body ≤ length d + 1 → d3 ≡ put d at (timesBy body clock)
-  times-written d d1 d2 d3 at p q r h =
+pub ruleset write-error-laws = (needs, cited-end, error-written)
+
+pub ruleset write-echo-laws = (needs, echo-written)
+
+-- an echo body, answered
+module _ (body clock : List ℕ) (at : ℕ) (d d1 d2 : List ℕ) where
+  pub received-written : d2 ≡ putFitting d1 (at + 6) (take (length body - 18) (drop 18 body)) → d1 ≡ putFitting d at clock → 18 ≤ length body
+      → length clock ≡ 6 → at + length body ≤ length d + 12 → d2 ≡ put d at (clock ++ drop 18 body)
+  received-written q p long six room =
+      let rest : length (drop 18 body) ≡ length body - 18 = length-drop 18 body in
+      copied-after d d1 d2 at (at + 6) clock (drop 18 body) (take (length body - 18) (drop 18 body)) (copied d d1 at clock clock p refl (omega arith)) q
+      (lent-rest body 18) (omega arith) (omega arith)
+
+  pub times-written : d2 ≡ put d1 (at + 11) (clock ++ drop 18 body) → d1 ≡ putFitting d at (part body 1 11) → 18 ≤ length body → length clock ≡ 6
+      → at + length body ≤ length d + 1 → d2 ≡ put d at (timesBy body clock)
+  times-written q p long six room =
       let a : List ℕ = part body 1 11 in
-      let la : length a ≡ 11 = length-part body 1 11 (omega arith) in
-      let lb : length (a ++ clock) ≡ 17 = length-append a clock ∙ omega arith in
-      let lc : length (drop 18 body) ≡ length body - 18 = length-drop 18 body in
-      let one : d1 ≡ put d at a = copied d d1 at a a p refl (omega arith) in
-      let two : d2 ≡ put d at (a ++ clock) = copied-after d d1 d2 at (at + 11) a clock clock one q refl (omega arith) (omega arith) in
-      copied-after d d2 d3 at (at + 17) (a ++ clock) (drop 18 body) (take (length body - 18) (drop 18 body)) two r (lent-rest body 18) (omega arith) (omega arith)
+      let few : length a ≡ 11 = length-part body 1 11 (omega arith) in
+      let rest : length (clock ++ drop 18 body) ≡ length body - 12 = length-append clock (drop 18 body) ∙ omega (arith, length-drop 18 body) in
+      after d d1 d2 at (at + 11) a (clock ++ drop 18 body) (copied d d1 at a a p refl (omega arith)) q (omega arith) (omega arith)
+      ∙ rw (append-assoc a clock (drop 18 body))
 
-  echo-is : ((64 + octet body 0 % 16) ∷ []) ++ timesBy body clock ≡ echoBody body clock
+  pub body-written : (a o : ℕ) → d2 ≡ put d1 (at + 1) (timesBy body clock) → d1 ≡ putFitting d at (a ∷ []) → a ≡ 64 + o % 16 → o ≡ octet body 0
+      → 18 ≤ length body → length clock ≡ 6 → at + length body ≤ length d → d2 ≡ put d at (echoBody body clock)
   unfolding Ch.echoBody
-  echo-is = refl
+  body-written a o q p ea eo long six room =
+      let whole : suc (length (timesBy body clock)) ≡ length body = echo-body-length body clock long six in
+      let all : d2 ≡ put d at ((a ∷ []) ++ timesBy body clock) =
+      after d d1 d2 at (at + 1) (a ∷ []) (timesBy body clock) (copied d d1 at (a ∷ []) (a ∷ []) p refl (omega arith)) q refl (omega arith) in
+      rw (ea, eo) at all
 
-  -- 28 octets, the first octet of the body, and the rest of it
-  pub echo-written : (d d1 d2 d3 head first reply : List ℕ) (at : ℕ) → head ≡ reply → length reply ≡ 28 → first ≡ ((64 + octet body 0 % 16) ∷ []) → d1 ≡ putFitting d at head
-      → d2 ≡ putFitting d1 (at + 28) first → d3 ≡ put d2 (at + 29) (timesBy body clock) → at + 28 + length body ≤ length d → d3 ≡ put d at (reply ++ echoBody body clock)
-  echo-written d d1 d2 d3 head first reply at eh lh ef p q r h =
-      let b : List ℕ = (64 + octet body 0 % 16) ∷ [] in
-      let t : List ℕ = timesBy body clock in
-      let lb : length (reply ++ b) ≡ 29 = length-append reply b ∙ omega arith in
-      let one : d1 ≡ put d at reply = copied d d1 at head reply p eh (omega arith) in
-      let two : d2 ≡ put d at (reply ++ b) = copied-after d d1 d2 at (at + 28) reply b first one q ef (omega arith) (omega arith) in
-      let three : d3 ≡ put d at (reply ++ b ++ t) = after d d2 d3 at (at + 29) (reply ++ b) t two r (omega arith) (omega (arith, times-long)) in
-      three ∙ rw (append-assoc reply b t, echo-is)
+pub ruleset write-received-laws = (needs, received-written)
+
+pub ruleset write-times-laws = (needs, times-written)
+
+pub ruleset write-echo-body-laws = (needs, body-written)

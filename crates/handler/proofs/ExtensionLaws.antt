@@ -1,7 +1,7 @@
 -- The extended flags word: a mask is a remainder, and the tests of a switch are those of the rules in their order. Assumes nothing.
-use mathlib.Core.Path.{_≡_, refl, sym, ap, _∙_}
+use mathlib.Core.Path.{_≡_, sym}
 use mathlib.Core.Bool.{Bool, true, false, not, _&&_, _||_}
-use Prim.Native.Nat.{ℕ, _/_, _%_}
+use Prim.Native.Nat.{ℕ, _%_}
 use borrow.Author.Needs.{needs}
 use lib.Bits.{bitAnd, and-mask}
 use lib.Dec.{eqb}
@@ -63,11 +63,15 @@ module _ (w : ℕ) where
     module _ (f : x ≡ false) (b b′ : Bool) (is-b : b ≡ E.ingressToEgressFlag w) (is-b′ : b′ ≡ E.crItE w) (y : Bool) (ty : y ≡ (b && not b′)) where
       pub unsummarized-2 : y ≡ true → true ≡ E.flagUnsummarized w
       unfolding E.flagUnsummarized
-      unsummarized-2 = three-2 (E.hopByHopFlag w) (E.crHbH w) (E.ingressToEgressFlag w) (E.crItE w) (E.reservedFlag w) (E.crRsv w) a a′ is-a is-a′ x tx f b b′ is-b is-b′ y ty
+      unsummarized-2 =
+          three-2 (E.hopByHopFlag w) (E.crHbH w) (E.ingressToEgressFlag w) (E.crItE w) (E.reservedFlag w)
+          (E.crRsv w) a a′ is-a is-a′ x tx f b b′ is-b is-b′ y ty
 
       pub unsummarized-3 : y ≡ false → (c c′ : Bool) → c ≡ E.reservedFlag w → c′ ≡ E.crRsv w → (z : Bool) → z ≡ (c && not c′) → z ≡ E.flagUnsummarized w
       unfolding E.flagUnsummarized
-      unsummarized-3 = three-3 (E.hopByHopFlag w) (E.crHbH w) (E.ingressToEgressFlag w) (E.crItE w) (E.reservedFlag w) (E.crRsv w) a a′ is-a is-a′ x tx f b b′ is-b is-b′ y ty
+      unsummarized-3 =
+          three-3 (E.hopByHopFlag w) (E.crHbH w) (E.ingressToEgressFlag w) (E.crItE w) (E.reservedFlag w)
+          (E.crRsv w) a a′ is-a is-a′ x tx f b b′ is-b is-b′ y ty
 
   module _ (a a′ : Bool) (is-a : a ≡ E.crHbH w) (is-a′ : a′ ≡ E.hopByHopFlag w) (x : Bool) (tx : x ≡ (a && not a′)) where
     pub bare-1 : x ≡ true → true ≡ E.summaryBare w
@@ -77,11 +81,15 @@ module _ (w : ℕ) where
     module _ (f : x ≡ false) (b b′ : Bool) (is-b : b ≡ E.crItE w) (is-b′ : b′ ≡ E.ingressToEgressFlag w) (y : Bool) (ty : y ≡ (b && not b′)) where
       pub bare-2 : y ≡ true → true ≡ E.summaryBare w
       unfolding E.summaryBare
-      bare-2 = three-2 (E.crHbH w) (E.hopByHopFlag w) (E.crItE w) (E.ingressToEgressFlag w) (E.crRsv w) (E.reservedFlag w) a a′ is-a is-a′ x tx f b b′ is-b is-b′ y ty
+      bare-2 =
+          three-2 (E.crHbH w) (E.hopByHopFlag w) (E.crItE w) (E.ingressToEgressFlag w) (E.crRsv w)
+          (E.reservedFlag w) a a′ is-a is-a′ x tx f b b′ is-b is-b′ y ty
 
       pub bare-3 : y ≡ false → (c c′ : Bool) → c ≡ E.crRsv w → c′ ≡ E.reservedFlag w → (z : Bool) → z ≡ (c && not c′) → z ≡ E.summaryBare w
       unfolding E.summaryBare
-      bare-3 = three-3 (E.crHbH w) (E.hopByHopFlag w) (E.crItE w) (E.ingressToEgressFlag w) (E.crRsv w) (E.reservedFlag w) a a′ is-a is-a′ x tx f b b′ is-b is-b′ y ty
+      bare-3 =
+          three-3 (E.crHbH w) (E.hopByHopFlag w) (E.crItE w) (E.ingressToEgressFlag w) (E.crRsv w)
+          (E.reservedFlag w) a a′ is-a is-a′ x tx f b b′ is-b is-b′ y ty
 
   pub refused-flag : (one : Bool) (u : Bool) → u ≡ E.flagUnsummarized w → u ≡ true → true ≡ (E.flagUnsummarized w || (one && E.summaryBare w))
   refused-flag one u e t = rw (← e, t)

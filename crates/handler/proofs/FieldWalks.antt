@@ -2,14 +2,14 @@
 -- of fields for each step, and by induction on the fields. Assumes nothing.
 use mathlib.Core.Path.{_≡_, refl, sym, ap, _∙_}
 use mathlib.Core.List.{List, [], _∷_, _++_, foldl, foldl-append}
-use mathlib.Core.Bool.{Bool, true, false, not}
+use mathlib.Core.Bool.{true, not}
 use Prim.Native.Nat.{ℕ, suc, _+_, _-_, _≤_, _<_}
 use native.Mathlib.Omega.{arith}
 use borrow.Author.Needs.{needs}
 use borrow.Author.Tests.{lt-ltb, le-ltb, ltb-true, ltb-false, eq-eqb, ne-eqb, eqb-true, eqb-false}
 use lib.Dec.{ltb, eqb}
 use lib.ListN.{length}
-use Rattle.rules.specs.Octets.{octet, part}
+use Rattle.rules.specs.Octets.{octet, be16, be48, part}
 use Rattle.rules.specs.Fields.{Field, field, cut, fieldAt, fieldsFrom, fields}
 use Rattle.rules.specs.Settings.{Settings, newer, ruling, switchOf, hopOf, withField, opened, settingsRead, waysOf}
 use Rattle.rules.specs.declared.NextHop.{NextHop}
@@ -22,7 +22,8 @@ use Rattle.rules.proofs.FieldLaws.{field-read, fields-end, fields-cut, fields-o
 use Rattle.handler.specs.Shapes.{ownOf, ruledBy, noFlags, flaggedBy, FoldedFrom}
 use Rattle.octets.specs.Flags.{flagTag}
 use Rattle.handler.specs.declared.judged.Flags.{Flags}
-use Rattle.rules.proofs.Taken.{its}
+use Rattle.handler.specs.declared.way.Own.{Own}
+use Rattle.rules.proofs.Taken.{its, taken-first, taken-to}
 use Rattle.rules.proofs.FirstLaws.{opened-field, first, switch-fold}
 use Rattle.handler.proofs.JudgeLaws.{with-hop, with-other}
 
@@ -32,19 +33,29 @@ module _ (d : ℕ) (r : NextHop) where
   unfolding newer
   newer-other best h = simp (ne-eqb (r .destination) d h)
 
-  module _ (e : r .destination ≡ d) where
-    pub newer-first : (best : Ruling) → best ≡ Absent → Found r ≡ newer d best r
+-- as the code finds it: `w` is the destination of the record in `v`
+module _ (d : ℕ) (best : Ruling) (v : List ℕ) (w : ℕ) (is : w ≡ be16 v 0) where
+  pub newer-past : (w ≡ d → ⊥) → best ≡ newer d best (hopOf v)
+  newer-past n = newer-other d (hopOf v) best (λ e. n (is ∙ e))
+
+  module _ (e : w ≡ d) (r : NextHop) (read : r ≡ hopOf v) where
+    same : eqb (be16 v 0) d ≡ true
+    same = eq-eqb (be16 v 0) d (sym is ∙ e)
+
+    pub newer-first : best ≡ Absent → Found r ≡ newer d best (hopOf v)
     unfolding newer
-    newer-first best b = simp (b, eq-eqb (r .destination) d e)
+    newer-first b = rw (b, read, same)
 
-    module _ (best : Ruling) (q : NextHop) (b : best ≡ Found q) where
-      pub newer-later : q .serial < r .serial → Found r ≡ newer d best r
+    module _ (q : NextHop) (b : best ≡ Found q) where
+      pub newer-later : q .serial < r .serial → Found r ≡ newer d best (hopOf v)
       unfolding newer
-      newer-later h = simp (b, eq-eqb (r .destination) d e, lt-ltb (q .serial) (r .serial) h)
+      newer-later h = rw (b, same, lt-ltb (q .serial) (hopOf v .serial) (rw read at h), read)
 
-      pub newer-stays : r .serial ≤ q .serial → Found q ≡ newer d best r
+      pub newer-stays : r .serial ≤ q .serial → Found q ≡ newer d best (hopOf v)
       unfolding newer
-      newer-stays h = simp (b, eq-eqb (r .destination) d e, le-ltb (q .serial) (r .serial) h)
+      newer-stays h = rw (b, same, le-ltb (q .serial) (hopOf v .serial) (rw read at h))
+
+pub ruleset newer-laws = (needs, newer-past, newer-first, newer-later, newer-stays)
 
 -- the record that rules, and the strip flag, once one more field is read
 module _ (d : ℕ) (best : Ruling) where
@@ -66,11 +77,13 @@ module _ (flags : Flags) (tag : ℕ) (v : List ℕ) where
   unfolding flaggedBy
   flagged-hop e = rw e
 
-  pub flagged-strip : (o : ℕ) → o ≡ octet v 0 → tag ≡ 3 → _≡_ {A = Flags} (record { strip = not (eqb o 0); rfc7179 = flags .rfc7179 }) (flaggedBy flags (field tag v))
+  pub flagged-strip : (o : ℕ) → o ≡ octet v 0 → tag ≡ 3
+      → _≡_ {A = Flags} (record { strip = not (eqb o 0); rfc7179 = flags .rfc7179 }) (flaggedBy flags (field tag v))
   unfolding flaggedBy
   flagged-strip o is e = rw (e, is)
 
-  pub flagged-edition : flagTag tag ≡ true → (o : ℕ) → o ≡ octet v 0 → (tag ≡ 3 → ⊥) → _≡_ {A = Flags} (record { strip = flags .strip; rfc7179 = eqb o 2 }) (flaggedBy flags (field tag v))
+  pub flagged-edition : flagTag tag ≡ true → (o : ℕ) → o ≡ octet v 0 → (tag ≡ 3 → ⊥)
+      → _≡_ {A = Flags} (record { strip = flags .strip; rfc7179 = eqb o 2 }) (flaggedBy flags (field tag v))
   unfolding flaggedBy flagTag
   flagged-edition t o is n = rw (eqb-true tag 6 (rw (ne-eqb tag 3 n) at t), is)
 
@@ -129,7 +142,7 @@ module _ (s : List ℕ) where
   unfolding settingsRead
   read-first f fs is = rw (settingsRead, is)
 
-  pub read-cut : fieldAt s 0 ≡ Cut → settingsRead s ≡ switchOf []
+  read-cut : fieldAt s 0 ≡ Cut → settingsRead s ≡ switchOf []
   unfolding fields
   read-cut e =
       by-test (ltb 0 (length s))
@@ -140,7 +153,8 @@ module _ (s : List ℕ) where
     read-on : settingsRead s ≡ foldl withField (switchOf (part s 3 (next - 3))) (fieldsFrom (length s) s next)
     read-on =
         let v = part s 3 (next - 3) in
-        read-first (field tag v) (fieldsFrom (length s) s next) (first s e) ∙ ap (λ (S : Settings). foldl withField S (fieldsFrom (length s) s next)) (opened-field tag v)
+        read-first (field tag v) (fieldsFrom (length s) s next) (first s e)
+        ∙ ap (λ (S : Settings). foldl withField S (fieldsFrom (length s) s next)) (opened-field tag v)
 
     rest-folded : {A : Type 0} (step : A → Field → A) (start r : A) → FoldedFrom step start s next r → r ≡ foldl step start (fieldsFrom (length s) s next)
     rest-folded step start r f =
@@ -157,7 +171,9 @@ module _ (S : Settings) where
   unfolding withField flaggedBy
   flags-with cut = refl
   flags-with (field tag v) =
-      by-test (eqb tag 2) (λ e. rw (eqb-true tag 2 e)) (λ e. by-test (eqb tag 3) (λ f. rw (e, f)) (λ f. by-test (eqb tag 6) (λ g. rw (e, f, g)) (λ g. rw (e, f, g))))
+      by-test (eqb tag 2)
+      (λ e. rw (eqb-true tag 2 e))
+      (λ e. by-test (eqb tag 3) (λ f. rw (e, f)) (λ f. by-test (eqb tag 6) (λ g. rw (e, f, g)) (λ g. rw (e, f, g))))
 
 with-cut : (S : Settings) → withField S cut ≡ S
 unfolding withField
@@ -194,15 +210,10 @@ ruling-fold : (d : ℕ) (S : Settings) (fs : List Field) → ruling (foldl withF
 ruling-fold d S [] = refl
 ruling-fold d S (f ∷ fs) = ruling-fold d (withField S f) fs ∙ ap (λ (b : Ruling). foldl (ruledBy d) b fs) (ruling-with d S f)
 
--- of settings whose first field is cut
-module _ (s : List ℕ) (e : fieldAt s 0 ≡ Cut) where
-  pub own-cut : record { nickname = 0; mac = 0 } ≡ ownOf (waysOf (settingsRead s))
-  own-cut = ap (λ (S : Settings). ownOf (waysOf S)) (sym (read-cut s e))
-
--- and of settings whose first field is taken
+-- of settings whose first field is taken
 module _ (s : List ℕ) {tag size next : ℕ} (e : fieldAt s 0 ≡ Taken tag size next) where
-  pub own-read : ownOf (waysOf (switchOf (part s 3 (next - 3)))) ≡ ownOf (waysOf (settingsRead s))
-  own-read = sym (ap (λ (S : Settings). ownOf (waysOf S)) (read-on s e) ∙ own-fold (switchOf (part s 3 (next - 3))) (fieldsFrom (length s) s next))
+  own-taken : ownOf (waysOf (switchOf (part s 3 (next - 3)))) ≡ ownOf (waysOf (settingsRead s))
+  own-taken = sym (ap (λ (S : Settings). ownOf (waysOf S)) (read-on s e) ∙ own-fold (switchOf (part s 3 (next - 3))) (fieldsFrom (length s) s next))
 
   pub flags-read : (r : Flags) → FoldedFrom flaggedBy noFlags s next r → r ≡ flagsOf (settingsRead s)
   flags-read r f =
@@ -216,3 +227,14 @@ module _ (s : List ℕ) {tag size next : ℕ} (e : fieldAt s 0 ≡ Taken tag siz
         ∙ ruling-fold d (switchOf (part s 3 (next - 3))) (fieldsFrom (length s) s next)
         ∙ ap (λ (c : Ruling). foldl (ruledBy d) c (fieldsFrom (length s) s next)) (ruling-none d)
         ∙ sym (rest-folded s e (ruledBy d) Absent b f)
+
+-- our nickname and MAC, as the code reads the first field
+module _ (s : List ℕ) (read : FieldRead) (is : read ≡ fieldAt s 0) where
+  pub own-cut : read ≡ Cut → _≡_ {A = Own} (record { nickname = 0; mac = 0 }) (ownOf (waysOf (settingsRead s)))
+  own-cut e = ap (λ (S : Settings). ownOf (waysOf S)) (sym (read-cut s (sym is ∙ e)))
+
+  pub own-read : (tag size next : ℕ) → read ≡ Taken tag size next → (n m : ℕ) → n ≡ be16 (part s 3 (next - 3)) 0 → m ≡ be48 (part s 3 (next - 3)) 2
+      → _≡_ {A = Own} (record { nickname = n; mac = m }) (ownOf (waysOf (settingsRead s)))
+  own-read tag size next e n m en em = rw (en, em) (own-taken s (sym is ∙ e))
+
+pub ruleset own-of-laws = (needs, taken-first, taken-to, own-cut, own-read)

@@ -121,7 +121,8 @@ module _ (s : List ℕ) (whole : Option Settings) (met : List ℕ) (at : ℕ) (w
             read = withField (w .read) f;
             fuel = w .fuel - 1;
             enough = omega arith;
-            decides = rw (less, ← from-on (w .read) f (fieldsFrom (w .fuel) s next) (judged-so true g), ← fields-on (w .fuel) s at tag size next h e) (w .decides);
+            decides =
+                rw (less, ← from-on (w .read) f (fieldsFrom (w .fuel) s next) (judged-so true g), ← fields-on (w .fuel) s at tag size next h e) (w .decides);
             agree = agree-with (w .read) tag (part s (at + 3) size) met (w .agree);
           }
 
@@ -139,7 +140,13 @@ Step s at keys n tag next r keys′ seen′ =
 pub begins : (s : List ℕ) (from : ℕ) → from ≤ length s → Judging s from (replicate 64 0) (replicate 256 0) 0 from
 begins s from h =
     record {
-      kept = record { keys-long = length-replicate {A = ℕ} 64 0; seen-long = length-replicate {A = ℕ} 256 0; few = omega arith; marked = λ i below. absurd (omega arith) };
+      kept =
+          record {
+            keys-long = length-replicate {A = ℕ} 64 0;
+            seen-long = length-replicate {A = ℕ} 256 0;
+            few = omega arith;
+            marked = λ i below. absurd (omega arith);
+          };
       within = h;
       rest = λ T g e k. record { read = T; fuel = g; enough = k; decides = refl; agree = rw e agree-none };
     }
@@ -207,8 +214,6 @@ keys-count k = sym (k .keys-long)
 
 pub seen-count : {keys seen : List ℕ} {n : ℕ} → Kept keys seen n → 256 ≡ length seen
 seen-count k = sym (k .seen-long)
-
-pub ruleset fields-good-laws = (needs, taken, begins, ends, cut-off, hop-stops, hop-on, flag-stops, flag-on, keys-count, seen-count)
 
 -- the first field
 opened-none : (tag : ℕ) (v : List ℕ) → opened (field tag v) .hops ≡ []

@@ -3,18 +3,21 @@
 use mathlib.Core.Path.{_≡_, refl, sym, _∙_}
 use mathlib.Core.List.{List, [], _∷_, _++_}
 use mathlib.Core.Bool.{Bool, true, false, not, _&&_, _||_, or-assoc, true≢false, false≢true}
-use Prim.Native.Nat.{ℕ, zero, suc, _+_, _*_, _<_, _≤_}
+use Prim.Native.Nat.{ℕ, zero, suc, _+_, _*_, _%_, _<_, _≤_}
 use native.Mathlib.Omega.{arith}
 use native.Mathlib.Numerals.{add-one}
 use borrow.Author.Needs.{needs}
 use borrow.Author.Tests.{eqb-true, eqb-false, eq-eqb, ne-eqb, lt-ltb, le-leb, not-true, not-false}
+use lib.Bits.{bitOr}
 use lib.Dec.{ltb, eqb}
 use lib.ListN.{length, getD, take, set, length-set}
 use lib.Seq.{slice, slice-cons, slice-empty, getD-set-same, getD-set-other, take-suc-set}
+use Rattle.rules.specs.Octets.{be16, be32}
 use Rattle.rules.specs.Fields.{hopSize}
 use Rattle.rules.specs.Settings.{hopGood, hopOf, hopsMost}
 use Rattle.rules.proofs.TestLaws.{by-test, and-true, and-no, or-no, or-yes}
 use Rattle.octets.specs.Flags.{flagBy}
+use Rattle.octets.proofs.Bits.{join48-or}
 use Rattle.handler.specs.Keys.{keyOf, mixOf, slotBy, markBy, markedBy, coversBy, keyMet, Marked, Kept, hopTaken, fieldTaken, withKey, keysWith, Taking}
 
 -- the scan: what it has found, or finds from place i on, is whether the key is met
@@ -24,9 +27,11 @@ module _ (key : ℕ) (keys : List ℕ) (n i : ℕ) (found : Bool) (was : (found 
   unfolding keyMet
   met-on found′ h k e = rw (e, add-one, or-assoc) (rw (slice-cons i n keys 0 h k) at was)
 
-  pub met-done : i ≡ n → found ≡ keyMet key (take n keys)
+  pub met-done : i ≤ n → n ≤ i → found ≡ keyMet key (take n keys)
   unfolding keyMet
-  met-done e = sym (or-no found) ∙ (rw (e, slice-empty) at was)
+  met-done h k = let e : i ≡ n = omega arith in sym (or-no found) ∙ (rw (e, slice-empty) at was)
+
+pub ruleset met-laws = (needs, met-on, met-done)
 
 -- a key that is none of the first n
 unmet : (key : ℕ) (keys : List ℕ) (n : ℕ) → ((i : ℕ) → i < n → getD keys i 0 ≡ key → ⊥) → keyMet key (take n keys) ≡ false
@@ -40,13 +45,32 @@ slot-clear : (key : ℕ) (keys seen : List ℕ) (n : ℕ) → Marked keys seen n
 slot-clear key keys seen n m e = unmet key keys n (λ i h same. true≢false (sym (rw same at (m i h)) ∙ e))
 
 -- the same of the place and the mark that the code computes
-pub slot-shows : (keys seen : List ℕ) (n key : ℕ) → Marked keys seen n → (mixed : ℕ) → mixed ≡ mixOf key → (slot : ℕ) → slot ≡ slotBy mixed → (mark : ℕ) → mark ≡ markBy mixed
+pub slot-shows : (keys seen : List ℕ) (n key : ℕ) → Marked keys seen n → (mixed : ℕ) → mixed ≡ mixOf key → (slot : ℕ) → slot ≡ slotBy mixed → (mark : ℕ)
+    → mark ≡ markBy mixed
     → coversBy (getD seen slot 0) mark ≡ false → keyMet key (take n keys) ≡ false
 slot-shows keys seen n key m mixed e slot is mark made c = slot-clear key keys seen n m (rw (made, is, e) at c)
 
 pub uncovered : (old mark : ℕ) → (old ≡ mark → ⊥) → (old ≡ 255 → ⊥) → coversBy old mark ≡ false
 unfolding coversBy
 uncovered old mark h k = rw (ne-eqb old mark h, ne-eqb old 255 k)
+
+-- a place once one more key is there
+module _ (old mark : ℕ) where
+  pub marked-first : old ≡ 0 → mark ≡ markedBy old mark
+  unfolding markedBy
+  marked-first e = rw e
+
+  pub marked-full : (old ≡ 0 → ⊥) → 255 ≡ markedBy old mark
+  unfolding markedBy
+  marked-full n = rw (ne-eqb old 0 n)
+
+pub ruleset marked-laws = (needs, marked-first, marked-full)
+
+-- a record's key, as the code joins it
+pub key-made : (v : List ℕ) (a b : ℕ) → a ≡ be16 v 0 → b ≡ be32 v 10 → bitOr (a * 4294967296 % 18446744073709551616) b ≡ keyOf (hopOf v)
+key-made v a b ea eb = rw (← ea, ← eb) (join48-or a b (omega arith) (omega arith))
+
+pub ruleset key-of-laws = (needs, key-made)
 
 -- one more key
 pub met-snoc : (key k : ℕ) (keys : List ℕ) → keyMet key (keys ++ (k ∷ [])) ≡ (keyMet key keys || eqb k key)
@@ -84,7 +108,8 @@ still-covered seen slot mark j mixed h c =
     rw (same, getD-set-same seen slot (markedBy (getD seen slot 0) mark) 0 h) (cover-kept (getD seen slot 0) mark mixed (rw same at c)))
     (λ e. rw (getD-set-other seen slot j (markedBy (getD seen slot 0) mark) 0 (eqb-false j slot e)) c)
 
-module _ (keys seen : List ℕ) (n key slot mark : ℕ) (k : Kept keys seen n) (room : n < 64) (is : slot ≡ slotBy (mixOf key)) (h : slot < 256) (made : mark ≡ markBy (mixOf key)) where
+module _ (keys seen : List ℕ) (n key slot mark : ℕ) (k : Kept keys seen n) (room : n < 64) (is : slot ≡ slotBy (mixOf key)) (h : slot < 256)
+    (made : mark ≡ markBy (mixOf key)) where
   abbrev seen′ : List ℕ
   seen′ = set seen slot (markedBy (getD seen slot 0) mark)
 
@@ -92,7 +117,10 @@ module _ (keys seen : List ℕ) (n key slot mark : ℕ) (k : Kept keys seen n) (
   marks i below =
       let in-seen : slot < length seen = omega arith in
       by-test (eqb i n)
-      (λ e. rw (eqb-true i n e, getD-set-same keys n key 0 (omega arith), ← is, getD-set-same seen slot (markedBy (getD seen slot 0) mark) 0 in-seen, ← made) (cover-new (getD seen slot 0) mark))
+      (λ e.
+      let old = getD seen slot 0 in
+      rw (eqb-true i n e, getD-set-same keys n key 0 (omega arith), ← is, getD-set-same seen slot (markedBy old mark) 0 in-seen, ← made)
+      (cover-new old mark))
       (λ e. let other = eqb-false i n e in rw (getD-set-other keys n i key 0 other)
       (still-covered seen slot mark (slotBy (mixOf (getD keys i 0))) (mixOf (getD keys i 0)) in-seen (k .marked i (omega arith))))
 
@@ -128,10 +156,6 @@ module _ (keys : List ℕ) (n : ℕ) (v : List ℕ) where
   unfolding hopTaken
   hop-bad h = rw (h, and-no)
 
-  pub hop-long : hopTaken keys n v ≡ true → hopSize (length v) ≡ true
-  unfolding hopTaken
-  hop-long t = (and-true (hopSize (length v)) (hopGood (hopOf v) && ltb n hopsMost && not (keyMet (keyOf (hopOf v)) keys)) t .0)
-
   module _ (key : ℕ) (made : key ≡ keyOf (hopOf v)) where
     pub hop-met : not (keyMet key keys) ≡ false → hopTaken keys n v ≡ false
     unfolding hopTaken
@@ -158,12 +182,14 @@ module _ (keys seen : List ℕ) (n : ℕ) (v : List ℕ) where
   pub admit-full : n ≡ 64 → AdmitTo 65 keys seen
   admit-full e = refused (hop-full (take n keys) n v e)
 
-  module _ (key mixed slot mark : ℕ) (its-key : key ≡ keyOf (hopOf v)) (its-mix : mixed ≡ mixOf key) (its-slot : slot ≡ slotBy mixed) (its-mark : mark ≡ markBy mixed) where
+  module _ (key mixed slot mark : ℕ) (its-key : key ≡ keyOf (hopOf v)) (its-mix : mixed ≡ mixOf key) (its-slot : slot ≡ slotBy mixed)
+      (its-mark : mark ≡ markBy mixed) where
     module _ (new : Bool) (is : new ≡ not (keyMet key (take n keys))) where
       pub admit-met : not new ≡ true → AdmitTo 65 keys seen
       admit-met t = refused (hop-met (take n keys) n v key its-key (sym is ∙ not-true new t))
 
-      pub admit-new : not new ≡ false → slot < 256 → (sized : Bool) → sized ≡ hopSize (length v) → not sized ≡ false → (good : Bool) → good ≡ hopGood (hopOf v) → not good ≡ false
+      pub admit-new : not new ≡ false → slot < 256 → (sized : Bool) → sized ≡ hopSize (length v) → not sized ≡ false → (good : Bool)
+          → good ≡ hopGood (hopOf v) → not good ≡ false
           → (n ≡ 64 → ⊥) → Kept keys seen n → (with : ℕ) → with ≡ markedBy (getD seen slot 0) mark → AdmitTo (n + 1) (set keys n key) (set seen slot with)
       admit-new t h sized e-s s good e-g g room k with e-w =
           let few : n < 64 = omega (arith, k .few, room) in
@@ -172,7 +198,8 @@ module _ (keys seen : List ℕ) (n : ℕ) (v : List ℕ) where
           (hop-new (take n keys) n v key its-key (sym e-s ∙ not-false sized s) (sym e-g ∙ not-false good g) few (sym is ∙ not-false new t))
           (keys-new (take n keys) n v key its-key))
 
-module _ (keys seen : List ℕ) (n key mixed slot mark old : ℕ) (k : Kept keys seen n) (its-mix : mixed ≡ mixOf key) (its-slot : slot ≡ slotBy mixed) (its-mark : mark ≡ markBy mixed) where
+module _ (keys seen : List ℕ) (n key mixed slot mark old : ℕ) (k : Kept keys seen n) (its-mix : mixed ≡ mixOf key) (its-slot : slot ≡ slotBy mixed)
+    (its-mark : mark ≡ markBy mixed) where
   pub admit-shows : coversBy (getD seen slot 0) mark ≡ false → keyMet key (take n keys) ≡ false
   admit-shows = slot-shows keys seen n key (k .marked) mixed its-mix slot its-slot mark its-mark
 

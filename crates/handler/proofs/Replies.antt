@@ -1,7 +1,6 @@
 -- The two replies towards a next hop: what is written behind the link header makes one write. By the lengths of their parts. Assumes nothing.
-use mathlib.Core.Path.{_≡_, sym, ap, _∙_}
+use mathlib.Core.Path.{_≡_, ap, _∙_}
 use mathlib.Core.List.{List, _++_}
-use mathlib.Core.Bool.{Bool}
 use Prim.Native.Nat.{ℕ, _+_, _≤_}
 use native.Mathlib.Omega.{arith}
 use borrow.Author.Needs.{needs}
@@ -17,7 +16,7 @@ use Rattle.rules.proofs.TestLaws.{by-test}
 use Rattle.rules.proofs.FrameLaws.{link-most}
 use Rattle.rules.proofs.ReplyLaws.{echo-body-length}
 use Rattle.handler.specs.declared.way.Own.{Own}
-use Rattle.handler.specs.Shapes.{linkSize, ownOf, replyOctets, Ready, Replied}
+use Rattle.handler.specs.Shapes.{linkSize, ownOf, replyOctets, Replied}
 use Rattle.handler.proofs.Stages.{after}
 use Rattle.handler.proofs.StageLaws.{ready}
 
@@ -27,7 +26,8 @@ module _ (S : Ways) (r : NextHop) (out : List ℕ) (roomy : 576 ≤ length out) 
 
   module _ (out1 : List ℕ) (k : ℕ) (long : k ≡ length (link S r)) (linked : out1 ≡ put out 0 (link S r)) where
     -- what is written behind the link header
-    behind : (rest octets : List ℕ) (end : ℕ) (out2 : List ℕ) → link S r ++ rest ≡ octets → length rest ≤ 558 → end ≡ k + length rest → out2 ≡ put out1 k rest → Replied octets end out out2
+    behind : (rest octets : List ℕ) (end : ℕ) (out2 : List ℕ) → link S r ++ rest ≡ octets → length rest ≤ 558 → end ≡ k + length rest
+        → out2 ≡ put out1 k rest → Replied octets end out out2
     behind rest octets end out2 is few ended p =
         let whole : end ≡ length (link S r ++ rest) = rw length-append (ended ∙ ap (λ (x : ℕ). x + length rest) long) in
         rw (← is)
@@ -38,7 +38,8 @@ module _ (S : Ways) (r : NextHop) (out : List ℕ) (roomy : 576 ≤ length out) 
         })
 
     module _ (own : Own) (owned : own ≡ ownOf S) (h : Header) (end : ℕ) (out2 : List ℕ) where
-      pub error-made : (f : List ℕ) (code : ℕ) → end ≡ k + (28 + length (errorBody f h)) → out2 ≡ put out1 k (replyOctets own (h .ingress) 0x001 code ++ errorBody f h)
+      pub error-made : (f : List ℕ) (code : ℕ) → end ≡ k + (28 + length (errorBody f h))
+          → out2 ≡ put out1 k (replyOctets own (h .ingress) 0x001 code ++ errorBody f h)
           → Replied (errorReply S r f h code) end out out2
       unfolding errorReply replyRest replyInner
       error-made f code ended p =
@@ -56,7 +57,8 @@ module _ (S : Ways) (r : NextHop) (out : List ℕ) (roomy : 576 ≤ length out) 
           let same : length (echoBody body clock) ≡ length body = echo-body-length body clock enough six in
           behind rest (echoReply S r h clock body) end out2 (rw owned) (omega (arith, size, same)) (rw (size, same) ended) p
 
-module _ (S : Ways) (r : NextHop) (out : List ℕ) (roomy : 576 ≤ length out) (k : ℕ) (long : k ≡ length (link S r)) (out1 : List ℕ) (same : length out1 ≡ length out) where
+module _ (S : Ways) (r : NextHop) (out : List ℕ) (roomy : 576 ≤ length out) (k : ℕ) (long : k ≡ length (link S r)) (out1 : List ℕ)
+    (same : length out1 ≡ length out) where
   pub error-room : k + 156 ≤ length out1
   error-room = omega (arith, long, link-most S r)
 

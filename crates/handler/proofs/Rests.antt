@@ -1,8 +1,8 @@
 -- A forwarded frame behind its link header, written in stages: header and the rest in one, or the stripped area before its header.
 -- By laws of parts and of buffers written in stages. Assumes nothing.
 use mathlib.Core.Path.{_≡_, refl, sym, ap, _∙_}
-use mathlib.Core.List.{List, _++_, append-assoc}
-use Prim.Native.Nat.{ℕ, _+_, _-_, _*_, _/_, _<_, _≤_}
+use mathlib.Core.List.{List, [], _∷_, _++_, append-assoc}
+use Prim.Native.Nat.{ℕ, _+_, _-_, _*_, _/_, _%_, _<_, _≤_}
 use native.Mathlib.Omega.{arith}
 use borrow.Author.Needs.{needs}
 use lib.ListN.{length, take, drop, length-append, length-drop}
@@ -13,6 +13,13 @@ use Rattle.rules.proofs.OctetLaws.{length-part, drop-part}
 use Rattle.octets.specs.Copy.{putFitting}
 use Rattle.handler.specs.Shapes.{Fits, headerOctets, sentBy, restWith}
 use Rattle.handler.proofs.Stages.{lent-rest, copied, copied-after}
+
+-- the six octets of a TRILL header
+pub header-made : (word egress ingress a b c d e f : ℕ) → a ≡ word / 256 % 256 → b ≡ word % 256 → c ≡ egress / 256 % 256 → d ≡ egress % 256
+    → e ≡ ingress / 256 % 256 → f ≡ ingress % 256 → (a ∷ b ∷ c ∷ d ∷ e ∷ f ∷ []) ≡ headerOctets word egress ingress
+header-made word egress ingress a b c d e f ea eb ec ed ee ef = rw (ea, eb, ec, ed, ee, ef)
+
+pub ruleset header-octets-laws = (needs, header-made)
 
 module _ (f : List ℕ) (h : Header) where
   -- the area as it is lent, to where the inner frame begins
@@ -47,7 +54,8 @@ module _ (area f : List ℕ) (h : Header) (d : List ℕ) (at : ℕ) (fits : Fits
     pub with-fits : length d < 18446744073709551616 → at + 6 + length area + (length f - inner) < 18446744073709551616
     with-fits small = omega (arith, rest-long f h area, fits .room)
 
-  module _ (d1 head : List ℕ) (word : ℕ) (es : word ≡ sentBy (h .word) (length area / 4)) (eh : head ≡ headerOctets word (h .egress) (h .ingress)) (p : d1 ≡ putFitting d at head) where
+  module _ (d1 head : List ℕ) (word : ℕ) (es : word ≡ sentBy (h .word) (length area / 4)) (eh : head ≡ headerOctets word (h .egress) (h .ingress))
+      (p : d1 ≡ putFitting d at head) where
     abbrev a : List ℕ
     a = headerOctets (sentBy (h .word) (length area / 4)) (h .egress) (h .ingress)
 
@@ -56,12 +64,15 @@ module _ (area f : List ℕ) (h : Header) (d : List ℕ) (at : ℕ) (fits : Fits
 
     -- another area than the one received, then the inner frame
     module _ (d2 d3 : List ℕ) (inner : ℕ) (ei : inner ≡ innerStart h) where
-      pub with-written : d2 ≡ putFitting d1 (at + 6) area → d3 ≡ putFitting d2 (at + 6 + length area) (take (length f - inner) (drop inner f)) → d3 ≡ put d at (restWith area f h)
+      pub with-written : d2 ≡ putFitting d1 (at + 6) area → d3 ≡ putFitting d2 (at + 6 + length area) (take (length f - inner) (drop inner f))
+          → d3 ≡ put d at (restWith area f h)
       with-written q r =
           let front : length (a ++ area) ≡ 6 + length area = length-append a area in
           let long : length (innerOf f h) ≡ length f - innerStart h = length-drop (innerStart h) f in
-          let two : d2 ≡ put d at (a ++ area) = copied-after d d1 d2 at (at + 6) a area area first q refl refl (omega (arith, rest-long f h area, fits .room)) in
-          copied-after d d2 d3 at (at + 6 + length area) (a ++ area) (innerOf f h) (take (length f - inner) (drop inner f)) two r (lent-rest f inner ∙ rw ei) (omega arith)
+          let two : d2 ≡ put d at (a ++ area) =
+          copied-after d d1 d2 at (at + 6) a area area first q refl refl (omega (arith, rest-long f h area, fits .room)) in
+          copied-after d d2 d3 at (at + 6 + length area) (a ++ area) (innerOf f h) (take (length f - inner) (drop inner f)) two r (lent-rest f inner ∙ rw ei)
+          (omega arith)
           (omega (arith, rest-long f h area, fits .room))
           ∙ rw (rest-is f h area (length area / 4) refl)
 
@@ -70,11 +81,13 @@ module _ (f : List ℕ) (h : Header) (d : List ℕ) (at : ℕ) (fits : Fits (are
   area-long : length (areaOf f h) ≡ 4 * opLength (h .word)
   area-long = length-part f (h .place + 6) (4 * opLength (h .word)) (fits .area-whole)
 
-  module _ (d1 head : List ℕ) (word words : ℕ) (ew : words ≡ opLength (h .word)) (es : word ≡ sentBy (h .word) words) (eh : head ≡ headerOctets word (h .egress) (h .ingress)) (p : d1 ≡ putFitting d at head) where
+  module _ (d1 head : List ℕ) (word words : ℕ) (ew : words ≡ opLength (h .word)) (es : word ≡ sentBy (h .word) words)
+      (eh : head ≡ headerOctets word (h .egress) (h .ingress)) (p : d1 ≡ putFitting d at head) where
     pub whole-end : at + 6 + (length f - (h .place + 6)) ≡ at + length (restWith (areaOf f h) f h)
     whole-end = omega (arith, rest-long f h (areaOf f h), area-long, fits .area-whole)
 
-    pub whole-written : (d2 : List ℕ) → d2 ≡ putFitting d1 (at + 6) (take (length f - (h .place + 6)) (drop (h .place + 6) f)) → d2 ≡ put d at (restWith (areaOf f h) f h)
+    pub whole-written : (d2 : List ℕ) → d2 ≡ putFitting d1 (at + 6) (take (length f - (h .place + 6)) (drop (h .place + 6) f))
+        → d2 ≡ put d at (restWith (areaOf f h) f h)
     whole-written d2 q =
         let area : List ℕ = areaOf f h in
         let b : List ℕ = drop (h .place + 6) f in
@@ -84,7 +97,8 @@ module _ (f : List ℕ) (h : Header) (d : List ℕ) (at : ℕ) (fits : Fits (are
         let joined : b ≡ area ++ innerOf f h = sym (drop-part f (h .place + 6) (4 * opLength (h .word))) in
         let long : length b ≡ length f - (h .place + 6) = length-drop (h .place + 6) f in
         let both : d2 ≡ put d at (a ++ b) =
-        copied-after d d1 d2 at (at + 6) a b (take (length f - (h .place + 6)) b) (first area f h d at fits d1 head word head-is eh p) q (lent-rest f (h .place + 6)) refl
+        copied-after d d1 d2 at (at + 6) a b (take (length f - (h .place + 6)) b) (first area f h d at fits d1 head word head-is eh p) q
+        (lent-rest f (h .place + 6)) refl
         (omega (arith, long, rest-long f h area, area-long, fits .room, fits .area-whole)) in
         both ∙ ap (put d at) (ap (λ (x : List ℕ). a ++ x) joined ∙ sym (append-assoc a area (innerOf f h)) ∙ rest-is f h area (length area / 4) refl)
 

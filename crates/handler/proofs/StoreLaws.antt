@@ -188,13 +188,15 @@ module _ (w clock f out beside : List ℕ) (ok : Bool) (is : ok ≡ storeGood w)
           rw (comes, e) (record { answer = kept a (got .0) (got .1); after = sym (put-none out 0); after-beside = sym (put-none beside 0) })
 
       module _ (h : Header) (e : received ≡ Trill h) where
-        pub store-done : (r : Answer) (out2 beside2 : List ℕ) → Both (routed (waysIn w) clock f h) r out out2 beside beside2 → Both answer r out out2 beside beside2
+        pub store-done : (r : Answer) (out2 beside2 : List ℕ) → Both (routed (waysIn w) clock f h) r out out2 beside beside2
+            → Both answer r out out2 beside beside2
         store-done r out2 beside2 d = rw (comes, e) d
 
 pub ruleset handle-prepared-laws = (needs, received-lent, good-store, store-bad, store-early, store-done)
 
 -- a frame that was received, by a good store
-module _ (w clock f out beside : List ℕ) (h : Header) (own : Own) (o : own ≡ ownOf (waysIn w)) (two : Bool) (t2 : two ≡ waysIn w .rfc7179) (task : Task) (x : Routes (own .nickname) two f h task) where
+module _ (w clock f out beside : List ℕ) (h : Header) (own : Own) (o : own ≡ ownOf (waysIn w)) (two : Bool) (t2 : two ≡ waysIn w .rfc7179) (task : Task)
+    (x : Routes (own .nickname) two f h task) where
   pub received-answered : (a : Answer) → task ≡ TaskIs.Answered a → Both (routed (waysIn w) clock f h) a out out beside beside
   received-answered a e =
       let left = rw e at (x .left) in
@@ -221,7 +223,8 @@ module _ (w : List ℕ) (t : Told) (f : List ℕ) (h : Header) (task : Task) (x 
   pub in-task : Left (t .rfc7179) f h task
   in-task = x .routes .left
 
-  pub in-quiet : (clock : List ℕ) (a : Answer) (out beside : List ℕ) (asks : Bool) → asks ≡ alertsBy task → not asks ≡ true → Answers (waysIn w) t clock f h task a a out out beside beside
+  pub in-quiet : (clock : List ℕ) (a : Answer) (out beside : List ℕ) (asks : Bool) → asks ≡ alertsBy task → not asks ≡ true
+      → Answers (waysIn w) t clock f h task a a out out beside beside
   in-quiet clock = answers-quiet (waysIn w) t clock f h task (x .tells) (x .routes)
 
   module _ (b : Told) (said : waysBy b ≡ onlyFor (h .ingress) (waysIn w)) where

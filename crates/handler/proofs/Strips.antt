@@ -9,10 +9,12 @@ use borrow.Author.Needs.{needs}
 use lib.ListN.{length, take, getD, length-append}
 use lib.Seq.{length-take-le}
 use Rattle.rules.specs.Octets.{be16, part, put}
-use Rattle.rules.specs.Options.{TlvOption, Options, options, keyOf, lengthOf, optionSize, optionsFrom, optionsOf, strippable, keptOptions, octetsOf, WellFormed, draftRead, stripped}
+use Rattle.rules.specs.Options.{TlvOption, options, keyOf, lengthOf, optionSize, optionsFrom, optionsOf}
+use Rattle.rules.specs.Options.{strippable, keptOptions, octetsOf, WellFormed, draftRead, stripped}
 use Rattle.rules.proofs.TestLaws.{by-test}
 use Rattle.rules.proofs.OctetLaws.{put-none, put-put, length-put, length-part}
-use Rattle.rules.proofs.OptionLaws.{Read, Walked, ended, took, walked, options-end, options-same, kept-nothing, kept-not, kept-too, area-well, stripped-is, stripped-shorter}
+use Rattle.rules.proofs.OptionLaws.{Walked, ended, took, walked, options-end, options-same, kept-nothing}
+use Rattle.rules.proofs.OptionLaws.{kept-not, kept-too, area-well, stripped-is, stripped-shorter}
 use Rattle.octets.specs.Copy.{putFitting}
 use Rattle.octets.proofs.Ends.{put-fits}
 use Rattle.handler.specs.Shapes.{keptIf, keptFrom}
@@ -30,7 +32,8 @@ module _ (out : List ℕ) (to : ℕ) (option : List ℕ) (stripped : Bool) where
   pub keep-end : stripped ≡ false → to + length option ≡ to + length (keptIf stripped option)
   keep-end e = rw e
 
-  pub keep-put : stripped ≡ false → (out′ : List ℕ) → out′ ≡ putFitting out to option → to + length option ≤ length out → out′ ≡ put out to (keptIf stripped option)
+  pub keep-put : stripped ≡ false → (out′ : List ℕ) → out′ ≡ putFitting out to option → to + length option ≤ length out
+      → out′ ≡ put out to (keptIf stripped option)
   keep-put e out′ w fits = rw e (w ∙ put-fits out to option fits)
 
 kept-short : (stripped : Bool) (option : List ℕ) → length (keptIf stripped option) ≤ length option
@@ -38,7 +41,8 @@ kept-short true option = omega arith
 kept-short false option = omega arith
 
 -- what stays of an option and those after it
-kept-first : (o : TlvOption) (os : List TlvOption) → octetsOf (keptOptions (o ∷ os)) ≡ keptIf (strippable (o .key) (o .size)) (o .octets) ++ octetsOf (keptOptions os)
+kept-first : (o : TlvOption) (os : List TlvOption)
+    → octetsOf (keptOptions (o ∷ os)) ≡ keptIf (strippable (o .key) (o .size)) (o .octets) ++ octetsOf (keptOptions os)
 unfolding octetsOf
 kept-first o os = by-test (strippable (o .key) (o .size)) (λ e. rw (kept-not o os e, e)) (λ e. rw (kept-too o os e, e))
 
@@ -94,7 +98,8 @@ module _ (area out₀ : List ℕ) (from : ℕ) where
     all-written : length area ≤ at → s .written ≡ keptFrom (optionsOf area)
     all-written h =
         let none-left : s .left ≡ [] = options-same (s .left) [] (sym (s .next-ones) ∙ options-end (s .fuel) area (s .floor) at h) in
-        sym (append-nil (s .written)) ∙ ap (λ (x : List ℕ). s .written ++ x) (sym (ap (λ (os : List TlvOption). octetsOf (keptOptions os)) none-left ∙ kept-empty)) ∙ s .rest
+        sym (append-nil (s .written))
+        ∙ ap (λ (x : List ℕ). s .written ++ x) (sym (ap (λ (os : List TlvOption). octetsOf (keptOptions os)) none-left ∙ kept-empty)) ∙ s .rest
 
     pub strip-ends : length area ≤ at → to ≡ from + length (keptFrom (optionsOf area))
     strip-ends h = rw (← all-written h) (s .place)
@@ -151,7 +156,8 @@ module _ (area out₀ : List ℕ) (from : ℕ) where
           pub strip-fits : to + length lent ≤ length out
           strip-fits = omega (arith, its-part, strip-next, s .place, s .fewer, s .same)
 
-          pub strip-on : (table : List ℕ) → Treats table → (key : ℕ) → key ≡ keyOf w → (gone : Bool) → gone ≡ strippedBy (getD table key 0) key size → (out′ : List ℕ) (to′ : ℕ)
+          pub strip-on : (table : List ℕ) → Treats table → (key : ℕ) → key ≡ keyOf w → (gone : Bool) → gone ≡ strippedBy (getD table key 0) key size
+              → (out′ : List ℕ) (to′ : ℕ)
               → to′ ≡ to + length (keptIf gone lent) → out′ ≡ put out to (keptIf gone lent) → Stripping area out₀ from out′ (at + step) to′
           strip-on table treats key ik gone ig out′ to′ et eo =
               let a = next-option in
@@ -160,10 +166,12 @@ module _ (area out₀ : List ℕ) (from : ℕ) where
               let as-long : at + step - at ≡ optionSize (lengthOf (be16 area at)) = omega (arith, its-step) in
               let f : suc (s .fuel - 1) ≡ s .fuel = omega (arith, s .enough, its-step, a .fits) in
               let wl : length (s .written ++ k) ≡ length (s .written) + length k = length-append (s .written) k in
-              let gone-is : gone ≡ strippable (keyOf (be16 area at)) (lengthOf (be16 area at)) = ig ∙ treats .strip key size (omega (arith, ik)) ∙ rw (ik, n, word) in
+              let gone-is : gone ≡ strippable (keyOf (be16 area at)) (lengthOf (be16 area at)) =
+              ig ∙ treats .strip key size (omega (arith, ik)) ∙ rw (ik, n, word) in
               let here : octetsOf (keptOptions (s .left)) ≡ k ++ octetsOf (keptOptions (a .after)) =
               ap (λ (os : List TlvOption). octetsOf (keptOptions os)) (a .first)
-              ∙ kept-first (record { key = keyOf (be16 area at); size = lengthOf (be16 area at); octets = part area at (optionSize (lengthOf (be16 area at))) }) (a .after)
+              ∙ kept-first
+              (record { key = keyOf (be16 area at); size = lengthOf (be16 area at); octets = part area at (optionSize (lengthOf (be16 area at))) }) (a .after)
               ∙ rw (← gone-is, ← as-long) in
               record {
                 start = omega (arith, s .start);
@@ -176,14 +184,19 @@ module _ (area out₀ : List ℕ) (from : ℕ) where
                 written = s .written ++ k;
                 fewer = omega (arith, wl, kl, its-part, s .fewer);
                 place = omega (arith, wl, et, s .place);
-                is = eo ∙ rw (s .is) (put-put out₀ from (s .written) (omega (arith, s .fewer, s .within)) to k (s .place) (omega (arith, s .place, s .fewer, kl, its-part, strip-next)));
+                is =
+                    eo
+                    ∙ rw (s .is)
+                    (put-put out₀ from (s .written) (omega (arith, s .fewer, s .within)) to k (s .place)
+                    (omega (arith, s .place, s .fewer, kl, its-part, strip-next)));
                 rest = append-assoc (s .written) k (octetsOf (keptOptions (a .after))) ∙ ap (λ (x : List ℕ). s .written ++ x) (sym here) ∙ s .rest;
                 same = ap length eo ∙ length-put out to k (omega (arith, s .same, s .place, s .fewer, kl, its-part, strip-next)) ∙ s .same;
               }
 
 pub ruleset keep-laws = (needs, gone-end, gone-put, keep-end, keep-put)
 
-pub ruleset strip-options-laws = (needs, strip-begin, strip-ends, strip-wrote, strip-same, strip-key, strip-length, strip-next, strip-from, strip-less, strip-fits, strip-on)
+pub ruleset strip-options-laws =
+    (needs, strip-begin, strip-ends, strip-wrote, strip-same, strip-key, strip-length, strip-next, strip-from, strip-less, strip-fits, strip-on)
 
 -- a whole area: its first word, then what is kept
 pub strip-whole : (area : List ℕ) → draftRead area ≡ WellFormed → stripped area ≡ take 4 area ++ keptFrom (optionsOf area)

@@ -12,13 +12,13 @@ use lib.ListN.{length, getD}
 use Rattle.rules.specs.Octets.{if_then_else_, be16, part}
 use Rattle.rules.specs.Options as O
 use Rattle.rules.specs.Options.{Taken, Fault, TlvOption, Options, options, fault, keyOf, lengthOf, optionSize, optionFirst, optionAt, optionsFrom, optionsOf}
-use Rattle.rules.specs.Options.{some-key, ie, nc, hopByHopCritical, ingressToEgressCritical, chbh, cite, summarized, draftRead}
+use Rattle.rules.specs.Options.{some-key, ie, nc, hopByHopCritical, ingressToEgressCritical, chbh, cite, summarized, draftRead, draftStops}
 use Rattle.rules.proofs.TestLaws.{and-true, and-no, and-yes, or-no, or-assoc}
 use Rattle.rules.proofs.OptionLaws.{option-reserved, option-past, option-below, option-equal, option-taken, option-read, options-end, options-fault, options-on}
 use Rattle.handler.specs.declared.options.Cursor.{Cursor}
 use Rattle.handler.specs.declared.options.AreaRead.{AreaRead}
 use Rattle.handler.specs.declared.options.AreaRead.the-variants.{Read, Faulty}
-use Rattle.handler.specs.Shapes.{readBy, Walk, ended, stopped, foundBy, walkOf, judgedBy}
+use Rattle.handler.specs.Shapes.{readBy, ended, stopped, foundBy, walkOf, judgedBy}
 use Rattle.handler.specs.Treatment.{Treats, transitDiscards, egressDiscards}
 
 -- what the table says of an option met
@@ -106,7 +106,9 @@ walk-first : (hop egress : Bool) (o : TlvOption) (w : Options)
     → walkOf hop egress (optionFirst o w) ≡ walkOf (hop || hopByHopCritical (o .key)) (egress || ingressToEgressCritical (o .key)) w
 unfolding some-key
 walk-first hop egress o (options os) =
-    rw (or-assoc hop (hopByHopCritical (o .key)) (some-key hopByHopCritical os), or-assoc egress (ingressToEgressCritical (o .key)) (some-key ingressToEgressCritical os))
+    let one = or-assoc hop (hopByHopCritical (o .key)) (some-key hopByHopCritical os) in
+    let two = or-assoc egress (ingressToEgressCritical (o .key)) (some-key ingressToEgressCritical os) in
+    rw (one, two)
 walk-first hop egress o (fault number place) = refl
 
 walk-none : (hop egress : Bool) → walkOf hop egress (options []) ≡ ended hop egress
@@ -126,7 +128,8 @@ module _ (area : List ℕ) (c : Cursor) (w : Walking area c) where
     walk-stop number place e = go (optionAt area (c .floor) (c .at)) refl
       where
         go : (o : O.OptionRead) → optionAt area (c .floor) (c .at) ≡ o → foundBy read ≡ walkOf false false (optionsOf area)
-        go (Fault m q) f = ap foundBy (r ∙ ap (readBy c) f) ∙ ap (walkOf (c .hop) (c .egress)) (sym (options-fault (w .fuel) area (c .floor) (c .at) m q h f)) ∙ w .rest
+        go (Fault m q) f =
+            ap foundBy (r ∙ ap (readBy c) f) ∙ ap (walkOf (c .hop) (c .egress)) (sym (options-fault (w .fuel) area (c .floor) (c .at) m q h f)) ∙ w .rest
         go (Taken key size next) f = let z : _≡_ {A = ℕ} 0 1 = cc (sym e ∙ r ∙ ap (readBy c) f) in absurd (omega arith)
 
     module _ (d : Cursor) (e : read ≡ Read d) where
@@ -192,7 +195,8 @@ module _ (area : List ℕ) (read : AreaRead) (is : foundBy read ≡ walkOf false
       where
         go : (o : Options) → optionsOf area ≡ o → draftRead area ≡ summed
         go (options os) f =
-            let q : ended (some-key hopByHopCritical os) (some-key ingressToEgressCritical os) ≡ ended (c .hop) (c .egress) = sym (is ∙ ap (walkOf false false) f) ∙ ap foundBy e in
+            let q : ended (some-key hopByHopCritical os) (some-key ingressToEgressCritical os) ≡ ended (c .hop) (c .egress) =
+            sym (is ∙ ap (walkOf false false) f) ∙ ap foundBy e in
             let h : some-key hopByHopCritical os ≡ c .hop = cc q in
             let g : some-key ingressToEgressCritical os ≡ c .egress = cc q in
             rw (draftRead, f, summarized, h, g)
@@ -215,3 +219,20 @@ module _ (area : List ℕ) (read : AreaRead) (is : foundBy read ≡ walkOf false
 pub ruleset summarized-laws = (needs, area-faulty, area-hop, area-egress, area-whole)
 
 pub ruleset read-area-laws = (needs, area-short)
+
+-- 20, as the code finds it
+module _ (egress : Bool) (area : List ℕ) (b : Bool) (is : b ≡ chbh area) where
+  pub stops-hop : b ≡ true → true ≡ draftStops egress area
+  unfolding draftStops
+  stops-hop t = rw (← is, t)
+
+  module _ (f : b ≡ false) where
+    pub stops-egress : egress ≡ true → (c : Bool) → c ≡ cite area → c ≡ draftStops egress area
+    unfolding draftStops
+    stops-egress t c its = rw (← is, f, t, ← its, and-yes c)
+
+    pub stops-none : egress ≡ false → false ≡ draftStops egress area
+    unfolding draftStops
+    stops-none t = rw (← is, f, t, and-no (cite area))
+
+pub ruleset area-stops-laws = (needs, stops-hop, stops-egress, stops-none)

@@ -16,7 +16,6 @@ use Rattle.rules.specs.WayOut as W
 use Rattle.rules.specs.WayOut.{noWay, wayOutBy, wayOut}
 use Rattle.rules.specs.Campus.{known}
 use Rattle.rules.specs.declared.NextHop.{NextHop}
-use Rattle.rules.specs.declared.Ruling.{Ruling}
 use Rattle.rules.specs.declared.Ruling.the-variants.{Found, Absent}
 use Rattle.rules.proofs.OctetLaws.{put-none}
 use Rattle.rules.proofs.FrameLaws.{length-link, link-most}
@@ -63,9 +62,11 @@ module _ (t : Told) (out : List ℕ) where
     pub out-room : n ≤ length out → linkSize (q .vlan) ≤ length out
     out-room h = omega arith
 
-    pub out-written : n ≤ length out → (k : ℕ) (out1 : List ℕ) → k ≡ length (link S q) → out1 ≡ put out 0 (link S q) → WayDone asked (record { number = 0; length = k }) out out1
+    pub out-written : n ≤ length out → (k : ℕ) (out1 : List ℕ) → k ≡ length (link S q) → out1 ≡ put out 0 (link S q)
+        → WayDone asked (record { number = 0; length = k }) out out1
     out-written h k out1 long p =
-        rw (asked-over S 0 (length out) q e (omega (arith, length-link S q))) (record { answer = ap (λ (x : ℕ). record { number = 0; length = x }) long; after = p })
+        rw (asked-over S 0 (length out) q e (omega (arith, length-link S q)))
+        (record { answer = ap (λ (x : ℕ). record { number = 0; length = x }) long; after = p })
 
 pub out-fits : (S : Ways) (q : NextHop) (k : ℕ) → k ≡ length (link S q) → k < 4294967296
 out-fits S q k long = omega (arith, long, link-most S q)

@@ -44,7 +44,8 @@ pub ruleset write-macs-laws = (needs, macs-written)
 pub macs-room : (r : NextHop) (out : List ℕ) → linkSize (r .vlan) ≤ length out → 14 ≤ length out
 macs-room r out h = by-test (eqb (r .vlan) 0) (λ e. rw e at h) (λ e. let more : 18 ≤ length out = rw e at h in omega arith)
 
-module _ (S : Ways) (r : NextHop) (mac : ℕ) (own : mac ≡ S .mac) (d d1 d2 end : List ℕ) (p : d1 ≡ put d 0 (octets48 (r .mac) ++ octets48 mac)) (q : d2 ≡ putFitting d1 12 end)
+module _ (S : Ways) (r : NextHop) (mac : ℕ) (own : mac ≡ S .mac) (d d1 d2 end : List ℕ) (p : d1 ≡ put d 0 (octets48 (r .mac) ++ octets48 mac))
+    (q : d2 ≡ putFitting d1 12 end)
     (room : linkSize (r .vlan) ≤ length d) where
   pub plain-written : r .vlan ≡ 0 → end ≡ octets16 0x22F3 → d2 ≡ put d 0 (link S r)
   unfolding L.link L.outerTag

@@ -98,10 +98,11 @@ pub fn channel_read(inner: &[u8]) -> ChannelRead
     if na(flags) == 1 {
         return ChannelRead::Fault { code: 4 };
     }
-    if protocol(word) == 0x001 {
+    let number = protocol(word);
+    if number == 0x001 {
         return ChannelRead::ErrorHeard;
     }
-    if protocol(word) != 0xFF8 {
+    if number != 0xFF8 {
         return ChannelRead::Fault { code: 5 };
     }
     if err(flags) != 0 {

@@ -2,6 +2,8 @@
 use rules::Header;
 ghost use mathlib.Core.Path.{_≡_};
 ghost use Prim.Native.Nat.{_+_, _<_, _≤_};
+ghost use lib.Dec.{eqb};
+ghost use Rattle.rules.specs.Octets.{be48};
 ghost use Rattle.rules.specs.Header as Rules;
 
 pub fn version(w: u16) -> u16
@@ -49,12 +51,22 @@ pub fn inner_start(h: Header) -> usize
     h.place + 6 + 4 * op_length(h.word) as usize
 }
 
+// Whether a frame is to a MAC. Its first 16 bits and its last 32 are compared, which are two loads; all 48 as one number take a load an octet.
+fn to_mac(mac: u64, f: &[u8]) -> bool
+    ensures { λ r. ⌜ r ≡ eqb (be48 (now (f .entry)) 0) mac ⌝ }
+{
+    if octets::be16(f, 0) as u64 != mac >> 32 {
+        return false;
+    }
+    octets::be32(f, 2) as u64 == mac & 0xFFFFFFFF
+}
+
 // 12 to 18, or 0 where none is given.
 pub fn header_refusal(mac: u64, f: &[u8], h: Header) -> u8
     requires { ⌜ h .place ≤ 18 ⌝ }
     ensures { λ r. ⌜ r ≡ Rules.headerRefusal mac (now (f .entry)) h ⌝ }
 {
-    if octets::be48(f, 0) != mac {
+    if !to_mac(mac, f) {
         return 12;
     }
     if version(h.word) != 0 {

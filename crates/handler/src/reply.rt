@@ -7,7 +7,7 @@ use rules::NextHop;
 ghost use mathlib.Core.Path.{_≡_};
 ghost use Prim.Native.Nat.{_+_, _%_, _≤_};
 ghost use mathlib.Core.List.{_++_};
-ghost use lib.ListN.{length};
+ghost use lib.ListN.{length, drop};
 ghost use Rattle.rules.specs.Octets.{put};
 ghost use Rattle.rules.specs.Channel.{errorBody, echoBody, errorReply, echoReply};
 ghost use Rattle.handler.specs.Shapes.{replyOctets, timesBy, waysBy, Ready, Replied};
@@ -82,14 +82,32 @@ fn answered(first: u8) -> u8
     0x40 | first & 15
 }
 
-// The echo body but for its first octet: the clock in time received.
+// The clock in time received, and what follows it.
+fn write_received(body: &[u8], clock: &[u8], out: &mut [u8], at: usize)
+    requires { ⌜ (18 ≤ length (now body)) × (length (now clock) ≡ 6) × (at + length (now body) ≤ length (now out) + 12) ⌝ }
+    ensures { λ _. ⌜ now (out .exit) ≡ put (now (out .entry)) at (now (clock .entry) ++ drop 18 (now (body .entry))) ⌝ }
+{
+    octets::copy(out, at, clock);
+    octets::copy(out, at + 6, &body[18..]);
+}
+
+// The echo body but for its first octet.
 fn write_times(body: &[u8], clock: &[u8], out: &mut [u8], at: usize)
     requires { ⌜ (18 ≤ length (now body)) × (length (now clock) ≡ 6) × (at + length (now body) ≤ length (now out) + 1) ⌝ }
     ensures { λ _. ⌜ now (out .exit) ≡ put (now (out .entry)) at (timesBy (now (body .entry)) (now (clock .entry))) ⌝ }
 {
     octets::copy(out, at, &body[1..12]);
-    octets::copy(out, at + 11, clock);
-    octets::copy(out, at + 17, &body[18..]);
+    write_received(body, clock, out, at + 11);
+}
+
+// The echo body from `at` on, answered.
+fn write_echo_body(body: &[u8], clock: &[u8], out: &mut [u8], at: usize)
+    requires { ⌜ (18 ≤ length (now body)) × (length (now clock) ≡ 6) × (at + length (now body) ≤ length (now out)) ⌝ }
+    ensures { λ _. ⌜ now (out .exit) ≡ put (now (out .entry)) at (echoBody (now (body .entry)) (now (clock .entry))) ⌝ }
+{
+    let first = [answered(octets::octet(body, 0))];
+    octets::copy(out, at, &first);
+    write_times(body, clock, out, at + 1);
 }
 
 // An echo reply from `at` on, behind its link header; says where it ends.
@@ -100,9 +118,7 @@ fn write_echo(own: Own, h: Header, clock: &[u8], body: &[u8], out: &mut [u8], at
 {
     let head = reply_octets(own, h.ingress, 0xFF8, 0);
     octets::copy(out, at, &head);
-    let first = [answered(octets::octet(body, 0))];
-    octets::copy(out, at + 28, &first);
-    write_times(body, clock, out, at + 29);
+    write_echo_body(body, clock, out, at + 28);
     at + 28 + body.len()
 }
 

@@ -1,25 +1,88 @@
 -- Reading at and past the end of an octet string, and copying what fits. Assumes nothing.
-use mathlib.Core.Path.{_≡_, ap}
-use mathlib.Core.List.{List}
-use Prim.Native.Nat.{ℕ, _+_, _%_, _≤_, _<_}
+use mathlib.Core.Path.{_≡_, sym, ap, _∙_}
+use mathlib.Core.List.{List, [], _∷_}
+use Prim.Native.Nat.{ℕ, _+_, _-_, _*_, _/_, _%_, _≤_, _<_}
 use native.Mathlib.Omega.{arith}
+use native.Mathlib.Numerals.{add-one}
+use borrow.Author.Needs.{needs}
 use borrow.Author.Tests.{le-leb, lt-leb}
-use lib.ListN.{length, List·getD-eq-default}
-use Rattle.rules.specs.Octets.{octet, be16, be32, be48, put}
+use mir.Syntax.{w8}
+use mir.Val.{Fits}
+use lib.Seq.{paste, paste-zero, paste-suc, take-length}
+use lib.ListN.{length, getD, set, List·getD-eq-default}
+use Rattle.rules.specs.Octets as O
+use Rattle.rules.specs.Octets.{octet, be16, be32, be48, octets48, put}
 use Rattle.octets.specs.Copy.{putFitting}
 
 -- what is read past the end is 0
-pub octet-past : (s : List ℕ) (n : ℕ) → length s ≤ n → octet s n ≡ 0
+octet-past : (s : List ℕ) (n : ℕ) → length s ≤ n → octet s n ≡ 0
 octet-past s n h = ap (λ (x : ℕ). x % 256) (List·getD-eq-default s 0 h)
 
-pub be16-past : (s : List ℕ) (n : ℕ) → length s ≤ n → be16 s n ≡ 0
+be16-past : (s : List ℕ) (n : ℕ) → length s ≤ n → be16 s n ≡ 0
 be16-past s n h = omega (arith, octet-past s n h, octet-past s (n + 1) (omega arith))
 
-pub be32-past : (s : List ℕ) (n : ℕ) → length s ≤ n → be32 s n ≡ 0
+be32-past : (s : List ℕ) (n : ℕ) → length s ≤ n → be32 s n ≡ 0
 be32-past s n h = omega (arith, be16-past s n h, be16-past s (n + 2) (omega arith))
 
-pub be48-past : (s : List ℕ) (n : ℕ) → length s ≤ n → be48 s n ≡ 0
+be48-past : (s : List ℕ) (n : ℕ) → length s ≤ n → be48 s n ≡ 0
 be48-past s n h = omega (arith, be16-past s n h, be32-past s (n + 2) (omega arith))
+
+-- reading as the code does: octets lent are below 256, and what is past the end reads 0
+module _ (s : List ℕ) (at : ℕ) where
+  abbrev Octets : Type 0
+  Octets = (i : ℕ) → Fits w8 (getD s i 0)
+
+  pub octet-read : Octets → getD s at 0 ≡ octet s at
+  octet-read octets = omega (arith, octets at)
+
+  pub octet-none : length s ≤ at → 0 ≡ octet s at
+  octet-none h = sym (octet-past s at h)
+
+  pub be16-none : length s ≤ at → 0 ≡ be16 s at
+  be16-none h = sym (be16-past s at h)
+
+  pub be32-none : length s ≤ at → 0 ≡ be32 s at
+  be32-none h = sym (be32-past s at h)
+
+  pub be48-none : length s ≤ at → 0 ≡ be48 s at
+  be48-none h = sym (be48-past s at h)
+
+  module _ (r high low : ℕ) where
+    pub be16-last : r ≡ getD s at 0 * 256 + 0 → Octets → length s - at < 2 → r ≡ be16 s at
+    be16-last e octets h = omega (arith, octets at, octet-past s (at + 1) (omega arith))
+
+    pub be16-read : r ≡ getD s at 0 * 256 + getD s (at + 1) 0 → Octets → r ≡ be16 s at
+    be16-read e octets = omega (arith, octets at, octets (at + 1))
+
+    pub be32-last : r ≡ high * 65536 + 0 → high ≡ be16 s at → length s - at < 2 → r ≡ be32 s at
+    be32-last e eh h = omega (arith, be16-past s (at + 2) (omega arith))
+
+    pub be32-read : r ≡ high * 65536 + low → high ≡ be16 s at → low ≡ be16 s (at + 2) → r ≡ be32 s at
+    be32-read e eh el = rw (← eh, ← el) e
+
+    pub be48-last : r ≡ high * 4294967296 + 0 → high ≡ be16 s at → length s - at < 2 → r ≡ be48 s at
+    be48-last e eh h = omega (arith, be32-past s (at + 2) (omega arith))
+
+    pub be48-read : r ≡ high * 4294967296 + low → high ≡ be16 s at → low ≡ be32 s (at + 2) → r ≡ be48 s at
+    be48-read e eh el = rw (← eh, ← el) e
+
+pub ruleset octet-laws = (needs, octet-read, octet-none)
+
+pub ruleset be16-laws = (needs, be16-none, be16-last, be16-read)
+
+pub ruleset be32-laws = (needs, be32-none, be32-last, be32-read)
+
+pub ruleset be48-laws = (needs, be48-none, be48-last, be48-read)
+
+-- the six octets of a number
+pub six-octets : (n a b c d e f : ℕ) → a ≡ n / 1099511627776 % 256 → b ≡ n / 4294967296 % 256 → c ≡ n / 16777216 % 256 → d ≡ n / 65536 % 256
+    → e ≡ n / 256 % 256 → f ≡ n % 256 → (a ∷ b ∷ c ∷ d ∷ e ∷ f ∷ []) ≡ octets48 n
+six-octets n a b c d e f ea eb ec ed ee ef =
+    let first : a ≡ n / 4294967296 / 256 % 256 = omega arith in
+    let third : c ≡ n / 65536 / 256 % 256 = omega arith in
+    rw (first, eb, third, ed, ee, ef)
+
+pub ruleset six-laws = (needs, six-octets)
 
 module _ (d : List ℕ) (at : ℕ) (s : List ℕ) where
   pub put-fits : at + length s ≤ length d → putFitting d at s ≡ put d at s
@@ -29,3 +92,27 @@ module _ (d : List ℕ) (at : ℕ) (s : List ℕ) where
   pub put-not : length d < at + length s → d ≡ putFitting d at s
   unfolding putFitting
   put-not h = simp (lt-leb (at + length s) (length d) h)
+
+  -- as the code tests it
+  pub put-outside : length d < at → d ≡ putFitting d at s
+  put-outside h = put-not (omega arith)
+
+  module _ (from : at ≤ length d) where
+    pub put-over : length d - at < length s → d ≡ putFitting d at s
+    put-over h = put-not (omega arith)
+
+    pub put-within : (d1 : List ℕ) → d1 ≡ put d at s → length s ≤ length d - at → d1 ≡ putFitting d at s
+    put-within d1 e h = e ∙ sym (put-fits (omega arith))
+
+pub ruleset copy-laws = (needs, put-outside, put-over, put-within)
+
+-- the loop of `fill`: `out` has the first i octets of `s` in it from `at` on
+module _ (d : List ℕ) (at : ℕ) (s : List ℕ) (i : ℕ) (out : List ℕ) (is : out ≡ paste d at s i) where
+  pub fill-on : i < length s → at + length s ≤ length d → set out (at + i) (getD s i 0) ≡ paste d at s (i + 1)
+  fill-on h room = rw (is, add-one, paste-suc d at s i 0 (omega arith) (omega arith))
+
+  pub fill-end : i ≤ length s → length s ≤ i → out ≡ put d at s
+  unfolding O.put
+  fill-end h k = let e : i ≡ length s = omega arith in is ∙ rw (e, take-length)
+
+pub ruleset fill-laws = (needs, paste-zero, fill-on, fill-end)

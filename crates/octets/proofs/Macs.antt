@@ -1,32 +1,49 @@
--- The tests of a MAC and of a neighbour as the code makes them. A MAC has first 16 bits h and last 32 bits l: the group bit is one of h, and h
--- decides unless it is 0. By arithmetic. Assumes nothing.
+-- The tests of a nickname, a MAC, a neighbour and a switch as the code makes them. Of a MAC the first 16 bits, h, have the group bit, and they
+-- decide unless they are 0. By arithmetic. Assumes nothing.
 use mathlib.Core.Path.{_≡_, sym, _∙_}
-use mathlib.Core.Bool.{true, false, not, _||_}
-use Prim.Native.Nat.{ℕ, _+_, _*_, _/_, _%_, _<_}
+use mathlib.Core.List.{List}
+use mathlib.Core.Bool.{Bool, true, false, not, _||_}
+use Prim.Native.Nat.{ℕ, _+_, _*_, _/_, _%_}
 use native.Mathlib.Omega.{arith}
-use borrow.Author.Tests.{ne-eqb, eqb-true, eqb-false, le-leb}
+use borrow.Author.Needs.{needs}
+use borrow.Author.Tests.{ne-eqb, eqb-true, eqb-false, le-leb, not-true, not-false}
 use lib.Bits.{bitAnd, and-mask}
 use lib.Dec.{leb, eqb}
-use Rattle.rules.specs.Settings.{nicknameValid, macGood}
+use Rattle.rules.specs.Octets.{be16, be32, be48}
+use Rattle.rules.specs.Settings.{nicknameValid, macGood, switchGood, switchOf}
 use Rattle.rules.proofs.TestLaws.{by-test}
 
-module _ (h l : ℕ) (low : l < 4294967296) where
-  pub mac-group : bitAnd (h / 256) 1 ≡ 1 → false ≡ macGood (h * 4294967296 + l)
+-- 0x0001 to 0xFFBF
+module _ (n : ℕ) where
+  pub nickname-zero : n ≡ 0 → false ≡ nicknameValid n
+  nickname-zero e = rw e
+
+  pub nickname-most : (n ≡ 0 → ⊥) → leb n 0xFFBF ≡ nicknameValid n
+  nickname-most h = rw (le-leb 1 n (omega arith))
+
+pub ruleset nickname-valid-laws = (needs, nickname-zero, nickname-most)
+
+module _ (v : List ℕ) (at h : ℕ) (is : h ≡ be16 v at) where
+  pub mac-group : bitAnd (h / 256) 1 ≡ 1 → false ≡ macGood (be48 v at)
   mac-group e =
       let bit : h / 256 % 2 ≡ 1 = sym (and-mask (h / 256) 1) ∙ e in
-      rw (ne-eqb ((h * 4294967296 + l) / 1099511627776 % 2) 0 (omega arith))
+      rw (← is, ne-eqb ((h * 4294967296 + be32 v (at + 2)) / 1099511627776 % 2) 0 (omega arith))
 
   module _ (single : bitAnd (h / 256) 1 ≡ 1 → ⊥) where
-    bit-clear : (h * 4294967296 + l) / 1099511627776 % 2 ≡ 0
+    bit-clear : (h * 4294967296 + be32 v (at + 2)) / 1099511627776 % 2 ≡ 0
     bit-clear =
         let bit : h / 256 % 2 ≡ 1 → ⊥ = λ e. single (and-mask (h / 256) 1 ∙ e) in
         omega arith
 
-    pub mac-first : (h ≡ 0 → ⊥) → true ≡ macGood (h * 4294967296 + l)
-    mac-first some-bit = rw (bit-clear, ne-eqb (h * 4294967296 + l) 0 (omega arith))
+    pub mac-first : (h ≡ 0 → ⊥) → true ≡ macGood (be48 v at)
+    mac-first some-bit = rw (← is, bit-clear, ne-eqb (h * 4294967296 + be32 v (at + 2)) 0 (omega arith))
 
-    pub mac-rest : h ≡ 0 → not (eqb l 0) ≡ macGood (h * 4294967296 + l)
-    mac-rest none-set = let same : h * 4294967296 + l ≡ l = omega arith in rw (bit-clear, same)
+    pub mac-rest : h ≡ 0 → (l : ℕ) → l ≡ be32 v (at + 2) → not (eqb l 0) ≡ macGood (be48 v at)
+    mac-rest none-set l its =
+        let same : h * 4294967296 + l ≡ l = omega arith in
+        rw (← is, bit-clear, ← its, same)
+
+pub ruleset mac-good-laws = (needs, mac-group, mac-first, mac-rest)
 
 -- a neighbour is withdrawn or valid exactly where it is not above the valid nicknames
 pub withdrawn-or-valid : (n : ℕ) → leb n 0xFFBF ≡ (eqb n 0 || nicknameValid n)
@@ -34,3 +51,15 @@ withdrawn-or-valid n =
     by-test (eqb n 0)
     (λ e. rw (e, eqb-true n 0 e))
     (λ e. rw (e, le-leb 1 n (omega (arith, eqb-false n 0 e))))
+
+-- a switch: its nickname and its MAC
+module _ (v : List ℕ) (n : ℕ) (is-n : n ≡ be16 v 0) (a : Bool) (is-a : a ≡ nicknameValid n) where
+  pub nickname-bad : not a ≡ true → false ≡ switchGood (switchOf v)
+  unfolding switchGood
+  nickname-bad t = rw (← is-n, ← is-a, not-true a t)
+
+  pub mac-decides : not a ≡ false → (b : Bool) → b ≡ macGood (be48 v 2) → b ≡ switchGood (switchOf v)
+  unfolding switchGood
+  mac-decides t b is-b = rw (← is-n, ← is-a, not-false a t) is-b
+
+pub ruleset switch-good-laws = (needs, nickname-bad, mac-decides)

@@ -2,7 +2,8 @@
 -- By an invariant of reading its fields, and induction on them. Assumes nothing.
 use mathlib.Core.Path.{_≡_, refl, sym, ap, _∙_}
 use mathlib.Core.Logic.{_⊎_, inl, inr}
-use mathlib.Core.List.{List, [], _∷_, _++_, List·Memᴰ, List·Memᴰ·head, List·Memᴰ·tail, List·Memᴰ·not-nil, List·Memᴰ·cases-cons, List·Memᴰ·append-cases, List·Memᴰ·eq-of-singleton}
+use mathlib.Core.List.{List, [], _∷_, List·Memᴰ, List·Memᴰ·head, List·Memᴰ·tail, List·Memᴰ·not-nil}
+use mathlib.Core.List.{List·Memᴰ·cases-cons, List·Memᴰ·append-cases, List·Memᴰ·eq-of-singleton}
 use mathlib.Core.Bool.{true, false, not, _&&_, _||_, true≢false, false≢true}
 use mathlib.Core.Option.{Option, none, some}
 use Prim.Native.Nat.{ℕ, _<_, _≤_}
@@ -14,7 +15,8 @@ use Rattle.rules.specs.Octets.{be16}
 use Rattle.rules.specs.Fields.{Field, field, cut, fields, lengthGood}
 use Rattle.rules.specs.Settings.{Settings, nicknameValid, macGood, hopGood, switchGood, switchOf, hopOf, hopsMost, withField, withHop}
 use Rattle.rules.specs.Handling.{frameMost}
-use Rattle.rules.specs.Campus.{Described, nothingYet, switchNamed, known, placeGood, valueGood, nicknameNew, switchesMost, latestHops, roomGood, fieldRefusal, onLatest, withNext, refused, accepted, describedFrom, fileMost, described, clockOf}
+use Rattle.rules.specs.Campus.{Described, nothingYet, switchNamed, known, placeGood, valueGood, nicknameNew, switchesMost, latestHops}
+use Rattle.rules.specs.Campus.{roomGood, fieldRefusal, onLatest, withNext, refused, accepted, describedFrom, fileMost, described, clockOf}
 use Rattle.rules.specs.declared.NextHop.{NextHop}
 use Rattle.rules.proofs.TestLaws.{by-test, and-true}
 use Rattle.rules.proofs.FrameLaws.{none-given}
@@ -96,7 +98,12 @@ good-with S tag v g value room =
     (by-test (eqb tag 6) (λ c. rw c (record { own = g .own; few-hops = g .few-hops; good-hops = g .good-hops })) (λ c. rw c g)))))
   where
     hop : tag ≡ 2 → GoodSwitch (withHop S (hopOf v))
-    hop two = record { own = g .own; few-hops = rw (length-append (S .hops)) (omega (arith, room two)); good-hops = λ r i. among r (List·Memᴰ·append-cases (S .hops) i) }
+    hop two =
+        record {
+          own = g .own;
+          few-hops = rw (length-append (S .hops)) (omega (arith, room two));
+          good-hops = λ r i. among r (List·Memᴰ·append-cases (S .hops) i);
+        }
       where
         among : (r : NextHop) → List·Memᴰ r (S .hops) ⊎ List·Memᴰ r (hopOf v ∷ []) → hopGood r ≡ true
         among r (inl i) = g .good-hops r i
@@ -144,7 +151,8 @@ module _ (d : Described) (s : Sound d) (tag : ℕ) (v : List ℕ) (a : Admitted 
       }
     where
       among : (S : Settings) → (S ≡ switchOf v) ⊎ List·Memᴰ S (d .switches) → GoodSwitch S
-      among S (inl e) = rw e (record { own = value-switch v (rw one at (a .its-value)); few-hops = omega arith; good-hops = λ r i. absurd (List·Memᴰ·not-nil i) })
+      among S (inl e) =
+          rw e (record { own = value-switch v (rw one at (a .its-value)); few-hops = omega arith; good-hops = λ r i. absurd (List·Memᴰ·not-nil i) })
       among S (inr i) = s .good S i
 
   with-clock : tag ≡ 4 → Sound (record { switches = d .switches; clock = some v; entry = d .entry; frame = d .frame })
@@ -167,7 +175,8 @@ module _ (d : Described) (s : Sound d) (tag : ℕ) (v : List ℕ) (a : Admitted 
         short = rw length-drop (omega (arith, length-frame (length v) (rw five at (a .its-length))));
       }
 
-  latest-good : (l : List Settings) → ((S : Settings) → List·Memᴰ S l → GoodSwitch S) → ((S : Settings) (rest : List Settings) → l ≡ S ∷ rest → tag ≡ 2 → length (S .hops) < hopsMost)
+  latest-good : (l : List Settings) → ((S : Settings) → List·Memᴰ S l → GoodSwitch S)
+      → ((S : Settings) (rest : List Settings) → l ≡ S ∷ rest → tag ≡ 2 → length (S .hops) < hopsMost)
       → (T : Settings) → List·Memᴰ T (onLatest (λ S. withField S (field tag v)) l) → GoodSwitch T
   latest-good [] g room T i = g T i
   latest-good (S ∷ rest) g room T i = among (List·Memᴰ·cases-cons i)

@@ -3,31 +3,43 @@
 use mathlib.Core.Path.{_≡_, refl, sym, ap, _∙_}
 use mathlib.Core.List.{List, [], _∷_}
 use mathlib.Core.Bool.{Bool, true, false, cond}
-use Prim.Native.Nat.{ℕ, zero, suc, _+_, _<_, _≤_}
+use Prim.Native.Nat.{ℕ, zero, suc, _+_, _-_, _<_, _≤_}
 use native.Mathlib.Omega.{arith}
 use borrow.Author.Needs.{needs}
 use borrow.Author.Tests.{lt-ltb, le-ltb, ltb-true, ltb-false, ne-eqb, lt-leb, le-leb}
 use lib.Dec.{ltb, leb, eqb}
-use lib.ListN.{length}
+use mir.Syntax.{w8}
+use mir.Val.{Fits}
+use lib.ListN.{length, getD}
 use Rattle.rules.specs.Octets.{octet, be16, part}
 use Rattle.rules.specs.Fields.{Field, field, cut, fieldAt, fieldsFrom, fieldsAt, hopSize, lengthGood}
 use Rattle.rules.specs.declared.FieldRead.{FieldRead}
 use Rattle.rules.specs.declared.FieldRead.the-variants.{Taken, Cut}
 use Rattle.rules.proofs.TestLaws.{by-test}
 
+-- reading a field as the code does: `size` is the length that it says
 module _ (s : List ℕ) (at : ℕ) where
-  pub field-short : length s < at + 3 → Cut ≡ fieldAt s at
+  pub field-outside : length s < at → Cut ≡ fieldAt s at
   unfolding fieldAt
-  field-short h = simp (lt-ltb (length s) (at + 3) h)
+  field-outside h = rw (lt-ltb (length s) (at + 3) (omega arith))
 
-  module _ (a : at + 3 ≤ length s) where
-    pub field-cut : length s < at + 3 + be16 s (at + 1) → Cut ≡ fieldAt s at
+  module _ (from : at ≤ length s) where
+    pub field-short : length s - at < 3 → Cut ≡ fieldAt s at
     unfolding fieldAt
-    field-cut h = simp (le-ltb (length s) (at + 3) a, lt-ltb (length s) (at + 3 + be16 s (at + 1)) h)
+    field-short h = rw (lt-ltb (length s) (at + 3) (omega arith))
 
-    pub field-taken : at + 3 + be16 s (at + 1) ≤ length s → Taken (octet s at) (be16 s (at + 1)) (at + 3 + be16 s (at + 1)) ≡ fieldAt s at
-    unfolding fieldAt
-    field-taken h = simp (le-ltb (length s) (at + 3) a, le-ltb (length s) (at + 3 + be16 s (at + 1)) h)
+    module _ (a : 3 ≤ length s - at) (size : ℕ) (is : size ≡ be16 s (at + 1)) where
+      pub field-cut : length s - at - 3 < size → Cut ≡ fieldAt s at
+      unfolding fieldAt
+      field-cut h = rw (le-ltb (length s) (at + 3) (omega arith), ← is, lt-ltb (length s) (at + 3 + size) (omega arith))
+
+      pub field-taken : ((i : ℕ) → Fits w8 (getD s i 0)) → size ≤ length s - at - 3 → Taken (getD s at 0) size (at + 3 + size) ≡ fieldAt s at
+      unfolding fieldAt
+      field-taken octets h =
+          let same : octet s at ≡ getD s at 0 = omega (arith, octets at) in
+          rw (le-ltb (length s) (at + 3) (omega arith), ← is, le-ltb (length s) (at + 3 + size) (omega arith), same)
+
+pub ruleset field-at-laws = (needs, field-outside, field-short, field-cut, field-taken)
 
 -- what is known of a field that was taken
 pub record IsField (s : List ℕ) (at tag size next : ℕ) : Type 0 where

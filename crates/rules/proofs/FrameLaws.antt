@@ -7,7 +7,8 @@ use mathlib.Core.Bool.{Bool, true, false, not, _&&_, _||_, cond}
 use Prim.Native.Nat.{ℕ, suc, _+_, _-_, _*_, _/_, _%_, _<_, _≤_}
 use native.Mathlib.Omega.{arith}
 use native.Mathlib.Nat.{add-zero}
-use borrow.Author.Tests.{lt-ltb, le-ltb, eq-eqb, ne-eqb, ltb-false, leb-false, eqb-true, eqb-false, not-true, not-false}
+use borrow.Author.Needs.{needs}
+use borrow.Author.Tests.{lt-ltb, le-ltb, ne-eqb, ltb-false, leb-false, eqb-true, eqb-false, not-true, not-false}
 use lib.Dec.{ltb, leb, eqb}
 use lib.ListN.{length, drop, length-append}
 use lib.Seq.{take-at, drop-at, drop-drop, drop-append-add}
@@ -15,7 +16,7 @@ use Rattle.rules.specs.Octets.{be16, be48, octets16}
 use Rattle.rules.specs.Settings.{Ways}
 use Rattle.rules.specs.Link.{linkLength, linkEthertype, outerTag, link, ethertypeTag, ethertypeTrill}
 use Rattle.rules.specs.Header.{version, reserved, multi, opLength, hopCount, headerWord, readFrame, innerStart, areaOf, innerOf, headerRefusal}
-use Rattle.rules.specs.Options.{AreaRead, WellFormed, draftRead}
+use Rattle.rules.specs.Options.{WellFormed, draftRead}
 use Rattle.rules.specs.Extension.{areaRead, areaSent}
 use Rattle.rules.specs.Handling.{forwardedRest}
 use Rattle.rules.specs.declared.NextHop.{NextHop}
@@ -52,6 +53,18 @@ pub link-length : (f : List ℕ) → (14 ≤ linkLength f) × (linkLength f ≤ 
 unfolding linkLength
 link-length f = by-test (eqb (be16 f 12) ethertypeTag) (λ e. rw e (omega arith, omega arith)) (λ e. rw e (omega arith, omega arith))
 
+-- the link header's length as the code reads it
+module _ (f : List ℕ) (e : ℕ) (is : e ≡ be16 f 12) where
+  pub length-tagged : e ≡ ethertypeTag → 18 ≡ linkLength f
+  unfolding linkLength
+  length-tagged t = rw (← is, t)
+
+  pub length-plain : (e ≡ ethertypeTag → ⊥) → 14 ≡ linkLength f
+  unfolding linkLength
+  length-plain n = rw (← is, ne-eqb e ethertypeTag n)
+
+pub ruleset link-length-laws = (needs, length-tagged, length-plain)
+
 -- a link header of TRILL, with a tag or without
 pub record IsLink (l : List ℕ) : Type 0 where
   pub long : length l ≡ linkLength l
@@ -76,31 +89,40 @@ module _ (l t : List ℕ) (is : IsLink l) where
   ethertype-kept : linkEthertype (l ++ t) ≡ ethertypeTrill
   ethertype-kept = rw (link-kept, be16-before l t (linkLength l - 2) (omega (arith, is .long, link-length l))) (is .trill)
 
--- reading a frame, by outcome
+-- reading a frame as the code does, by outcome: n is the link header's length, e the Ethertype at its end
 module _ (f : List ℕ) where
   pub read-short : length f < 14 → Unreadable 10 ≡ readFrame f
   unfolding readFrame
-  read-short h = simp (lt-ltb (length f) 14 h)
+  read-short h = rw (lt-ltb (length f) 14 h)
 
-  module _ (a : 14 ≤ length f) where
-    pub read-tag-short : length f < linkLength f → Unreadable 10 ≡ readFrame f
-    unfolding readFrame
-    read-tag-short h = simp (le-ltb (length f) 14 a, lt-ltb (length f) (linkLength f) h)
+  module _ (n : ℕ) (is : n ≡ linkLength f) where
+    pub read-from : 2 ≤ n
+    read-from = omega (arith, link-length f)
 
-    module _ (b : linkLength f ≤ length f) where
-      pub read-other : (linkEthertype f ≡ ethertypeTrill → ⊥) → Unreadable 11 ≡ readFrame f
+    pub read-near : n + 6 < 18446744073709551616
+    read-near = omega (arith, link-length f)
+
+    module _ (a : 14 ≤ length f) where
+      pub read-tag-short : length f < n → Unreadable 10 ≡ readFrame f
       unfolding readFrame
-      read-other h = simp (le-ltb (length f) 14 a, le-ltb (length f) (linkLength f) b, ne-eqb (linkEthertype f) ethertypeTrill h)
+      read-tag-short h = rw (le-ltb (length f) 14 a, ← is, lt-ltb (length f) n h)
 
-      module _ (c : linkEthertype f ≡ ethertypeTrill) where
-        pub read-cut : length f < linkLength f + 6 → Unreadable 10 ≡ readFrame f
+      module _ (b : n ≤ length f) (e : ℕ) where
+        pub read-other : e ≡ be16 f (n - 2) → (e ≡ ethertypeTrill → ⊥) → Unreadable 11 ≡ readFrame f
         unfolding readFrame
-        read-cut h = simp (le-ltb (length f) 14 a, le-ltb (length f) (linkLength f) b, eq-eqb (linkEthertype f) ethertypeTrill c, lt-ltb (length f) (linkLength f + 6) h)
+        read-other its h = rw (le-ltb (length f) 14 a, ← is, le-ltb (length f) n b, ← its, ne-eqb e ethertypeTrill h)
 
-        pub read-trill : linkLength f + 6 ≤ length f
-            → Trill (record { place = linkLength f; word = be16 f (linkLength f); egress = be16 f (linkLength f + 2); ingress = be16 f (linkLength f + 4) }) ≡ readFrame f
-        unfolding readFrame
-        read-trill h = simp (le-ltb (length f) 14 a, le-ltb (length f) (linkLength f) b, eq-eqb (linkEthertype f) ethertypeTrill c, le-ltb (length f) (linkLength f + 6) h)
+        module _ (c : e ≡ ethertypeTrill) (its : e ≡ be16 f (n - 2)) where
+          pub read-cut : length f < n + 6 → Unreadable 10 ≡ readFrame f
+          unfolding readFrame
+          read-cut h = rw (le-ltb (length f) 14 a, ← is, le-ltb (length f) n b, ← its, c, lt-ltb (length f) (n + 6) h)
+
+          pub read-trill : (w g i : ℕ) → n + 6 ≤ length f → w ≡ be16 f n → g ≡ be16 f (n + 2) → i ≡ be16 f (n + 4)
+              → Trill (record { place = n; word = w; egress = g; ingress = i }) ≡ readFrame f
+          unfolding readFrame
+          read-trill w g i h ew eg ei = rw (le-ltb (length f) 14 a, ← is, le-ltb (length f) n b, ← its, c, le-ltb (length f) (n + 6) h, ew, eg, ei)
+
+pub ruleset read-frame-laws = (needs, read-from, read-near, read-short, read-tag-short, read-other, read-cut, read-trill)
 
 -- what is known of a frame that was read
 pub record IsTrill (f : List ℕ) (h : Header) : Type 0 where
@@ -111,7 +133,8 @@ pub record IsTrill (f : List ℕ) (h : Header) : Type 0 where
   pub egress-fits : h .egress < 65536
   pub ingress-fits : h .ingress < 65536
 
-all-read : (a b c d : Bool) (x : FrameRead) (h : Header) → cond a (Unreadable 10) (cond b (Unreadable 10) (cond c (Unreadable 11) (cond d (Unreadable 10) x))) ≡ Trill h
+all-read : (a b c d : Bool) (x : FrameRead) (h : Header)
+    → cond a (Unreadable 10) (cond b (Unreadable 10) (cond c (Unreadable 11) (cond d (Unreadable 10) x))) ≡ Trill h
     → (d ≡ false) × (x ≡ Trill h)
 all-read false false false false x h e = (refl, e)
 all-read true b c d x h e = let z : _≡_ {A = ℕ} 0 1 = cc in absurd (omega arith)
@@ -151,21 +174,28 @@ module _ (l : List ℕ) (is : IsLink l) (w e i : ℕ) (hw : w < 65536) (he : e <
       let r0 : be16 f (length l + 0) ≡ w = be16-after l (withHeader w e i rest) 0 ∙ omega arith in
       let r2 : be16 f (length l + 2) ≡ e = be16-after l (withHeader w e i rest) 2 ∙ omega arith in
       let r4 : be16 f (length l + 4) ≡ i = be16-after l (withHeader w e i rest) 4 ∙ omega arith in
-      sym (read-trill f (omega (arith, n)) (omega (arith, n, k)) (ethertype-kept l (withHeader w e i rest) is) (omega (arith, n, k)))
-      ∙ (rw (k, rw add-zero at r0, r2, r4))
+      let t : ethertypeTrill ≡ be16 f (length l - 2) = rw (← k) (sym (ethertype-kept l (withHeader w e i rest) is)) in
+      sym
+      (read-trill f (length l) (sym k) (omega (arith, n)) (omega (arith, n)) ethertypeTrill refl t w e i
+      (omega (arith, n)) (sym (rw add-zero at r0)) (sym r2) (sym r4))
 
 -- options area and inner frame of such a frame
 pub after-header : (l : List ℕ) (w e i : ℕ) (rest : List ℕ) → drop (length l + 6) (l ++ withHeader w e i rest) ≡ rest
 after-header l w e i rest = drop-append-add l (withHeader w e i rest) 6
 
 module _ (l : List ℕ) (h : Header) (area inner : List ℕ) (place : h .place ≡ length l) (whole : length area ≡ 4 * opLength (h .word)) where
+  abbrev framed : List ℕ
+  framed = l ++ withHeader (h .word) (h .egress) (h .ingress) (area ++ inner)
+
+  behind : drop (length l + 6) framed ≡ area ++ inner
+  behind = after-header l (h .word) (h .egress) (h .ingress) (area ++ inner)
+
   pub area-with-header : areaOf (l ++ withHeader (h .word) (h .egress) (h .ingress) (area ++ inner)) h ≡ area
-  area-with-header = rw (place, after-header l (h .word) (h .egress) (h .ingress) (area ++ inner)) (take-at area inner (4 * opLength (h .word)) whole)
+  area-with-header = rw (place, behind) (take-at area inner (4 * opLength (h .word)) whole)
 
   pub inner-with-header : innerOf (l ++ withHeader (h .word) (h .egress) (h .ingress) (area ++ inner)) h ≡ inner
   inner-with-header =
-      rw (← drop-drop (4 * opLength (h .word)) (h .place + 6) (l ++ withHeader (h .word) (h .egress) (h .ingress) (area ++ inner)), place, after-header l (h .word) (h .egress) (h .ingress) (area ++ inner))
-      (drop-at area inner (4 * opLength (h .word)) whole)
+      rw (← drop-drop (4 * opLength (h .word)) (h .place + 6) framed, place, behind) (drop-at area inner (4 * opLength (h .word)) whole)
 
 -- a received frame of which none of 12 to 18 is given
 pub record Passed (S : Ways) (f : List ℕ) (h : Header) : Type 0 where
@@ -242,7 +272,9 @@ module _ (S : Ways) (f : List ℕ) (h : Header) (read : readFrame f ≡ Trill h)
       (omega (arith, s, area-length), omega (arith, m))
 
   sent-split : Split sentWord (version (h .word)) (reserved (h .word)) (multi (h .word)) (length sentArea / 4) (hopCount (h .word) - 1)
-  sent-split = word-split (version (h .word)) (reserved (h .word)) (multi (h .word)) (length sentArea / 4) (hopCount (h .word) - 1) (omega arith) (omega arith) (omega arith) (sent-op .0) (omega arith)
+  sent-split =
+      word-split (version (h .word)) (reserved (h .word)) (multi (h .word)) (length sentArea / 4) (hopCount (h .word) - 1) (omega arith) (omega arith)
+      (omega arith) (sent-op .0) (omega arith)
 
   pub sent-hop : suc (hopCount sentWord) ≡ hopCount (h .word)
   sent-hop = ap suc (sent-split .its-hop) ∙ omega (arith, passed .hops-left)
@@ -256,7 +288,9 @@ module _ (S : Ways) (f : List ℕ) (h : Header) (read : readFrame f ≡ Trill h)
 
     pub forwarded-read : readFrame (l ++ forwardedRest S f h) ≡ Trill sentHeader
     unfolding forwardedRest
-    forwarded-read = read-with-header l is sentWord (h .egress) (h .ingress) (sent-split .fits) (frame-read f h read .egress-fits) (frame-read f h read .ingress-fits) (sentArea ++ innerOf f h)
+    forwarded-read =
+        read-with-header l is sentWord (h .egress) (h .ingress) (sent-split .fits) (frame-read f h read .egress-fits) (frame-read f h read .ingress-fits)
+        (sentArea ++ innerOf f h)
 
     pub forwarded-area : areaOf (l ++ forwardedRest S f h) sentHeader ≡ sentArea
     unfolding forwardedRest

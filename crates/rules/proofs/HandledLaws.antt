@@ -1,21 +1,23 @@
 -- How a handling came out, for any frame: 50 with what was forwarded, 53 or 54 with the reply, or another number and nothing written; so every
 -- answer's number is under 64 and it writes at most 2,048 octets. By the tests in their order, and by lengths. Assumes nothing.
-use mathlib.Core.Path.{_≡_, refl, ap, _∙_}
+use mathlib.Core.Path.{_≡_, refl, ap}
 use mathlib.Core.List.{List, []}
 use mathlib.Core.Bool.{Bool, true, false, not, _&&_, _||_, cond, true≢false}
 use mathlib.Core.Option.{Option, none, some}
-use Prim.Native.Nat.{ℕ, _+_, _-_, _*_, _<_, _≤_}
+use Prim.Native.Nat.{ℕ, _<_, _≤_}
 use native.Mathlib.Omega.{arith}
-use borrow.Author.Tests.{le-leb, lt-leb, ltb-true, ltb-false, eqb-true, eqb-false}
+use borrow.Author.Tests.{le-leb, ltb-true, ltb-false, eqb-true, eqb-false}
 use lib.Dec.{ltb, eqb}
-use lib.ListN.{length, length-drop}
+use lib.ListN.{length}
 use Rattle.rules.specs.Settings.{Settings, Ways, waysOf, settingsOf}
-use Rattle.rules.specs.Header.{opLength, anyRBridge, readFrame, innerStart, areaOf, innerOf, headerRefusal, weAreEgress}
-use Rattle.rules.specs.Options.{AreaRead, WellFormed, Faulty, draftRead}
+use Rattle.rules.specs.Header.{anyRBridge, readFrame, areaOf, innerOf, headerRefusal, weAreEgress}
+use Rattle.rules.specs.Options.{AreaRead, WellFormed, Faulty}
 use Rattle.rules.specs.Extension.{flagsWord, flagUnsummarized, summaryBare, extensionRead, areaRead, areaStops, criticalAlert, nonCriticalAlert}
 use Rattle.rules.specs.Answer.{Handled, dropped, wrote, wroteBoth, given}
-use Rattle.rules.specs.Channel.{ethertypeChannel, ethertypeIsIs, protocolError, protocolEcho, innerEthertype, chv, protocol, na, err, bodyOf, replyMode, spid, spidRequest, spidReply, echoRead, channelRead, silenced, returnPath, errorReply, echoReply}
-use Rattle.rules.specs.Handling.{forwarded, onward, channelMessage, alertTo, alertOf, alerted, transit, faulted, echoed, channelled, untagged, toAllEgressRBridges, decapsulated, routed, handling, frameMost, besideLeast, handledWith, handled}
+use Rattle.rules.specs.Channel.{ethertypeChannel, ethertypeIsIs, protocolError, protocolEcho, innerEthertype, chv, protocol, na, err, bodyOf}
+use Rattle.rules.specs.Channel.{replyMode, spid, spidRequest, spidReply, echoRead, channelRead, silenced, returnPath, errorReply, echoReply}
+use Rattle.rules.specs.Handling.{forwarded, onward, channelMessage, alertTo, alertOf, alerted, transit, faulted, echoed, channelled, untagged}
+use Rattle.rules.specs.Handling.{toAllEgressRBridges, decapsulated, routed, handling, frameMost, besideLeast, handledWith, handled}
 use Rattle.rules.specs.declared.NextHop.{NextHop}
 use Rattle.rules.specs.declared.Header.{Header}
 use Rattle.rules.specs.declared.Ruling.{Ruling}
@@ -26,11 +28,14 @@ use Rattle.rules.specs.declared.Alert.{Alert}
 use Rattle.rules.specs.declared.Alert.the-variants.{NoAlert, AlertFault, AlertErr, AlertRequest}
 use Rattle.rules.specs.declared.ChannelRead.{ChannelRead}
 use Rattle.rules.specs.declared.ChannelRead.the-variants.{Fault, BadErr, ErrorHeard, BadEcho, EchoHeard, EchoRequest}
-use Rattle.rules.proofs.TestLaws.{by-test, and-true}
-use Rattle.rules.proofs.OctetLaws.{length-part}
+use Rattle.rules.proofs.TestLaws.{by-test, and-true, or-yes}
 use Rattle.rules.proofs.FrameLaws.{link-most}
 use Rattle.rules.proofs.OptionLaws.{area-number}
-use Rattle.rules.proofs.HandlingLaws.{transit-none, transit-over, onward-long, onward-sent, faulted-silent, faulted-none, faulted-over, echoed-mode, echoed-none, echoed-over, inner-short, inner-up, inner-channel, inner-any, inner-delivered, inner-untagged, routed-faulty, routed-stopped, routed-egress, routed-transit, handling-unread, unread-number, handling-routed, handling-refused, header-number, length-forwarded, length-error, length-echo, echo-ranged, channel-echo, clock-bad, room-short, beside-short, frame-long, frame-handled, settings-bad, settings-good}
+use Rattle.rules.proofs.HandlingLaws.{transit-none, transit-over, onward-long, onward-sent, faulted-silent, faulted-none, faulted-over, echoed-mode}
+use Rattle.rules.proofs.HandlingLaws.{echoed-none, echoed-over, inner-short, inner-up, inner-channel, inner-any, inner-delivered, inner-untagged}
+use Rattle.rules.proofs.HandlingLaws.{routed-faulty, routed-stopped, routed-egress, routed-transit, handling-unread, unread-number, handling-routed}
+use Rattle.rules.proofs.HandlingLaws.{handling-refused, header-number, length-error, length-echo, echo-ranged, channel-echo}
+use Rattle.rules.proofs.HandlingLaws.{clock-bad, room-short, beside-short, frame-long, frame-handled, settings-bad, settings-good}
 
 -- an answer that writes nothing, and after which no run goes on
 pub record Final (a : Handled) : Type 0 where
@@ -69,9 +74,11 @@ pub data Beside (S : Ways) (clock f : List ℕ) (h : Header) : List ℕ → ℕ 
 -- an error reply is made at the egress, and in edition 2 for a critical alert at transit too
 pub data How (S : Ways) (clock f : List ℕ) (a : Handled) : Type 0 where
   ends : Final a → How S clock f a
-  forwards : (h : Header) (r : NextHop) (beside : List ℕ) (via : ℕ) → Cleared S f h false → S .hop (h .egress) ≡ Found r → length (forwarded S r f h) ≤ frameMost → Beside S clock f h beside via
+  forwards : (h : Header) (r : NextHop) (beside : List ℕ) (via : ℕ) → Cleared S f h false → S .hop (h .egress) ≡ Found r
+      → length (forwarded S r f h) ≤ frameMost → Beside S clock f h beside via
       → a ≡ wroteBoth 50 (forwarded S r f h) (r .neighbour) beside via → How S clock f a
-  faults : (egress : Bool) (h : Header) (r : NextHop) (code : ℕ) → Cleared S f h egress → (egress ≡ false → S .rfc7179 ≡ true) → returnPath S (h .ingress) ≡ Found r
+  faults : (egress : Bool) (h : Header) (r : NextHop) (code : ℕ) → Cleared S f h egress → (egress ≡ false → S .rfc7179 ≡ true)
+      → returnPath S (h .ingress) ≡ Found r
       → channelRead (innerOf f h) ≡ Fault code → a ≡ wrote 53 (errorReply S r f h code) (r .neighbour) → How S clock f a
   echoes : (h : Header) (r : NextHop) → Cleared S f h true → returnPath S (h .ingress) ≡ Found r → channelRead (innerOf f h) ≡ EchoRequest
       → a ≡ wrote 54 (echoReply S r h clock (bodyOf (innerOf f h))) (r .neighbour) → How S clock f a
@@ -118,10 +125,14 @@ heard : (S : Ways) (f : List ℕ) (h : Header) → Heard S f h (alertOf S f h)
 unfolding alertOf alertTo
 heard S f h =
     by-test (S .rfc7179 && (criticalAlert (flagsWord (areaOf f h)) || nonCriticalAlert (flagsWord (areaOf f h))) && channelMessage (innerOf f h))
-    (λ e. rw e (said (and-true (S .rfc7179) _ (and-true (S .rfc7179 && (criticalAlert (flagsWord (areaOf f h)) || nonCriticalAlert (flagsWord (areaOf f h)))) _ e .0) .0) (channelRead (innerOf f h)) refl))
+    (λ e.
+    let some-alert : Bool = criticalAlert (flagsWord (areaOf f h)) || nonCriticalAlert (flagsWord (areaOf f h)) in
+    let two = and-true (S .rfc7179) some-alert (and-true (S .rfc7179 && some-alert) _ e .0) .0 in
+    rw e (said two (channelRead (innerOf f h)) refl))
     (λ e. rw e Prim.tt)
   where
-    said : S .rfc7179 ≡ true → (c : ChannelRead) → channelRead (innerOf f h) ≡ c → Heard S f h (alertTo (criticalAlert (flagsWord (areaOf f h))) (not (areaStops S true (areaOf f h))) c)
+    said : S .rfc7179 ≡ true → (c : ChannelRead) → channelRead (innerOf f h) ≡ c
+        → Heard S f h (alertTo (criticalAlert (flagsWord (areaOf f h))) (not (areaStops S true (areaOf f h))) c)
     said two (Fault code) e = by-test (criticalAlert (flagsWord (areaOf f h))) (λ b. rw b (two, e)) (λ b. rw b Prim.tt)
     said two BadErr e = by-test (criticalAlert (flagsWord (areaOf f h))) (λ b. rw b Prim.tt) (λ b. rw b Prim.tt)
     said two ErrorHeard e = Prim.tt
@@ -147,7 +158,8 @@ area-refused S area n p e =
     extended false e = let z : _≡_ {A = ℕ} 0 1 = cc e in absurd (omega arith)
 
 module _ (S : Ways) (clock f : List ℕ) (h : Header) where
-  how-faulted : (egress : Bool) → Cleared S f h egress → (egress ≡ false → S .rfc7179 ≡ true) → (code : ℕ) → channelRead (innerOf f h) ≡ Fault code → How S clock f (faulted S f h code)
+  how-faulted : (egress : Bool) → Cleared S f h egress → (egress ≡ false → S .rfc7179 ≡ true) → (code : ℕ) → channelRead (innerOf f h) ≡ Fault code
+      → How S clock f (faulted S f h code)
   how-faulted egress t two code c =
       by-test (silenced code (innerOf f h)) (λ e. rw (faulted-silent S f h code e) (ends (omega arith))) (λ e. go e (returnPath S (h .ingress)) refl)
     where
@@ -162,7 +174,8 @@ module _ (S : Ways) (clock f : List ℕ) (h : Header) where
       (λ e. go (eqb-true _ 2 e) (returnPath S (h .ingress)) refl)
       (λ e. rw (echoed-mode S f h clock (eqb-false _ 2 e)) alone)
     where
-      go : replyMode (bodyOf (innerOf f h)) ≡ 2 → (w : Ruling) → returnPath S (h .ingress) ≡ w → Beside S clock f h (echoed S clock f h .octets) (echoed S clock f h .via)
+      go : replyMode (bodyOf (innerOf f h)) ≡ 2 → (w : Ruling) → returnPath S (h .ingress) ≡ w
+          → Beside S clock f h (echoed S clock f h .octets) (echoed S clock f h .via)
       go q Absent e = rw (echoed-none S f h clock q e) alone
       go q (Found r) e = rw (echoed-over S f h clock q r e) (replied r two e c)
 
@@ -208,7 +221,8 @@ module _ (S : Ways) (clock f : List ℕ) (h : Header) where
     how-channelled EchoRequest e = how-echoed e
 
     how-decapsulated : How S clock f (decapsulated S clock f h)
-    how-decapsulated = by-test (ltb (length (innerOf f h)) 18) (λ a. rw (inner-short S clock f h (ltb-true _ 18 a)) (ends (omega arith))) (λ a. tagged (ltb-false _ 18 a))
+    how-decapsulated =
+        by-test (ltb (length (innerOf f h)) 18) (λ a. rw (inner-short S clock f h (ltb-true _ 18 a)) (ends (omega arith))) (λ a. tagged (ltb-false _ 18 a))
       where
         up : (a : 18 ≤ length (innerOf f h)) (b : untagged (innerOf f h) ≡ false)
             → toAllEgressRBridges (innerOf f h) ≡ true → How S clock f (decapsulated S clock f h)
@@ -257,60 +271,38 @@ how S clock f = go (readFrame f) refl
         (λ a. rw (handling-refused S clock f h e (eqb-false _ 0 a)) (ends (refused-final S f h (eqb-false _ 0 a))))
 
 -- a number outside the gaps is listed
-module _ (n : ℕ) (least : 1 ≤ n) where
-  listed-3 : n ≤ 3 → given n ≡ true
+module _ (n : ℕ) where
+  listed-3 : 1 ≤ n → n ≤ 3 → given n ≡ true
   unfolding given
-  listed-3 h = simp (le-leb 1 n least, le-leb n 3 h)
+  listed-3 l h = simp (le-leb 1 n l, le-leb n 3 h)
 
   listed-18 : 10 ≤ n → n ≤ 18 → given n ≡ true
   unfolding given
-  listed-18 l h = simp (le-leb 1 n least, lt-leb n 3 (omega arith), le-leb 10 n l, le-leb n 18 h)
+  listed-18 l h = simp (le-leb 10 n l, le-leb n 18 h, or-yes)
 
   listed-35 : 20 ≤ n → n ≤ 35 → given n ≡ true
   unfolding given
-  listed-35 l h = simp (le-leb 1 n least, lt-leb n 3 (omega arith), le-leb 10 n (omega arith), lt-leb n 18 (omega arith), le-leb 20 n l, le-leb n 35 h)
+  listed-35 l h = simp (le-leb 20 n l, le-leb n 35 h, or-yes)
 
   listed-38 : 37 ≤ n → n ≤ 38 → given n ≡ true
   unfolding given
-  listed-38 l h =
-      simp (
-        le-leb 1 n least,
-        lt-leb n 3 (omega arith),
-        le-leb 10 n (omega arith),
-        lt-leb n 18 (omega arith),
-        le-leb 20 n (omega arith),
-        lt-leb n 35 (omega arith),
-        le-leb 37 n l,
-        le-leb n 38 h,
-      )
+  listed-38 l h = simp (le-leb 37 n l, le-leb n 38 h, or-yes)
 
   listed-56 : 50 ≤ n → n ≤ 56 → given n ≡ true
   unfolding given
-  listed-56 l h =
-      simp (
-        le-leb 1 n least,
-        lt-leb n 3 (omega arith),
-        le-leb 10 n (omega arith),
-        lt-leb n 18 (omega arith),
-        le-leb 20 n (omega arith),
-        lt-leb n 35 (omega arith),
-        le-leb 37 n (omega arith),
-        lt-leb n 38 (omega arith),
-        le-leb 50 n l,
-        le-leb n 56 h,
-      )
+  listed-56 l h = simp (le-leb 50 n l, le-leb n 56 h, or-yes)
 
 final-listed : (a : Handled) → Final a → given (a .number) ≡ true
 final-listed a f =
     let n = a .number in
     by-test (ltb n 4) (λ t. listed-3 n (f .least) (omega (arith, ltb-true n 4 t))) (λ t.
     let t′ = ltb-false n 4 t in
-    by-test (ltb n 20) (λ u. listed-18 n (f .least) (at-least-10 t′) (omega (arith, ltb-true n 20 u, f .not-19))) (λ u.
+    by-test (ltb n 20) (λ u. listed-18 n (at-least-10 t′) (omega (arith, ltb-true n 20 u, f .not-19))) (λ u.
     let u′ = ltb-false n 20 u in
-    by-test (ltb n 37) (λ v. listed-35 n (f .least) u′ (omega (arith, ltb-true n 37 v, f .not-36))) (λ v.
+    by-test (ltb n 37) (λ v. listed-35 n u′ (omega (arith, ltb-true n 37 v, f .not-36))) (λ v.
     let v′ = ltb-false n 37 v in
-    by-test (ltb n 39) (λ w. listed-38 n (f .least) v′ (omega (arith, ltb-true n 39 w))) (λ w.
-    listed-56 n (f .least) (at-least-50 (ltb-false n 39 w)) (f .most)))))
+    by-test (ltb n 39) (λ w. listed-38 n v′ (omega (arith, ltb-true n 39 w))) (λ w.
+    listed-56 n (at-least-50 (ltb-false n 39 w)) (f .most)))))
   where
     at-least-10 : 4 ≤ a .number → 10 ≤ a .number
     at-least-10 h = by-test (ltb (a .number) 10) (λ t. absurd (f .not-4-to-9 h (omega (arith, ltb-true (a .number) 10 t)))) (ltb-false (a .number) 10)
@@ -325,18 +317,26 @@ pub record Bounded (a : Handled) : Type 0 where
   pub fits : length (a .octets) ≤ frameMost
   pub fits-beside : length (a .beside) ≤ besideLeast
 
-pub echo-fits : (S : Ways) (r : NextHop) (clock f : List ℕ) (h : Header) → length clock ≡ 6 → channelRead (innerOf f h) ≡ EchoRequest → length (echoReply S r h clock (bodyOf (innerOf f h))) ≤ 576
+pub echo-fits : (S : Ways) (r : NextHop) (clock f : List ℕ) (h : Header) → length clock ≡ 6 → channelRead (innerOf f h) ≡ EchoRequest
+    → length (echoReply S r h clock (bodyOf (innerOf f h))) ≤ 576
 echo-fits S r clock f h six c =
     let ranged = echo-ranged (bodyOf (innerOf f h)) (channel-echo (innerOf f h) c) in
     omega (arith, length-echo S r f h clock (bodyOf (innerOf f h)) six (ranged .0), ranged .1, link-most S r)
 
-beside-fits : (S : Ways) (clock f : List ℕ) (h : Header) (beside : List ℕ) (via : ℕ) → length clock ≡ 6 → Beside S clock f h beside via → length beside ≤ besideLeast
+beside-fits : (S : Ways) (clock f : List ℕ) (h : Header) (beside : List ℕ) (via : ℕ) → length clock ≡ 6 → Beside S clock f h beside via
+    → length beside ≤ besideLeast
 beside-fits S clock f h beside via six alone = omega arith
 beside-fits S clock f h beside via six (replied r two e c) = echo-fits S r clock f h six c
 
 how-bounded : (S : Ways) (clock f : List ℕ) (a : Handled) → length clock ≡ 6 → length f ≤ frameMost → How S clock f a → Bounded a
 unfolding given
-how-bounded S clock f a six short (ends n) = record { listed = final-listed a n; number-small = omega (arith, n .most); fits = omega (arith, n .nothing); fits-beside = omega (arith, n .nothing-beside) }
+how-bounded S clock f a six short (ends n) =
+    record {
+      listed = final-listed a n;
+      number-small = omega (arith, n .most);
+      fits = omega (arith, n .nothing);
+      fits-beside = omega (arith, n .nothing-beside);
+    }
 how-bounded S clock f a six short (forwards h r beside via t found fits b e) =
     rw e (record { listed = refl; number-small = omega arith; fits = fits; fits-beside = beside-fits S clock f h beside via six b })
 how-bounded S clock f a six short (faults egress h r code t two found c e) =
@@ -354,7 +354,9 @@ dropped-bounded n g h = record { listed = g; number-small = h; fits = omega arit
 pub handled-with-bounded : (S : Ways) (clock : List ℕ) (room besideRoom : ℕ) (f : List ℕ) → Bounded (handledWith S clock room besideRoom f)
 unfolding given
 handled-with-bounded S clock room besideRoom f =
-    by-test (eqb (length clock) 6) (λ a. clocked (eqb-true _ 6 a)) (λ a. rw (clock-bad S clock room besideRoom f (eqb-false _ 6 a)) (dropped-bounded 1 refl (omega arith)))
+    by-test (eqb (length clock) 6)
+    (λ a. clocked (eqb-true _ 6 a))
+    (λ a. rw (clock-bad S clock room besideRoom f (eqb-false _ 6 a)) (dropped-bounded 1 refl (omega arith)))
   where
     both : length clock ≡ 6 → frameMost ≤ room → besideLeast ≤ besideRoom → Bounded (handledWith S clock room besideRoom f)
     both a b c =

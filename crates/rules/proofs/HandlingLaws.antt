@@ -9,15 +9,17 @@ use native.Mathlib.Omega.{arith}
 use borrow.Author.Tests.{lt-ltb, le-ltb, eq-eqb, ne-eqb, ltb-false}
 use lib.Dec.{ltb, leb, eqb}
 use lib.ListN.{length, length-append, length-take}
-use Rattle.rules.specs.Octets.{be16, be48}
+use Rattle.rules.specs.Octets.{be48}
 use Rattle.rules.specs.Settings.{Settings, Ways, waysOf, settingsOf}
-use Rattle.rules.specs.Link.{link, linkLength, linkEthertype, ethertypeTag, ethertypeTrill}
+use Rattle.rules.specs.Link.{link, linkLength, linkEthertype, ethertypeTrill}
 use Rattle.rules.specs.Header.{version, multi, hopCount, anyRBridge, readFrame, innerStart, areaOf, innerOf, headerRefusal, weAreEgress}
 use Rattle.rules.specs.Options.{WellFormed, Faulty}
 use Rattle.rules.specs.Extension.{areaRead, areaStops, areaSent}
 use Rattle.rules.specs.Answer.{dropped, droppedAt, wrote, wroteBoth, delivered}
-use Rattle.rules.specs.Channel.{ethertypeChannel, ethertypeIsIs, protocolError, protocolEcho, innerEthertype, chv, protocol, na, err, bodyOf, replyMode, echoRead, channelRead, silenced, returnPath, errorReply, echoReply}
-use Rattle.rules.specs.Handling.{forwardedRest, forwarded, onward, alertOf, alerted, transit, faulted, echoed, channelled, untagged, toAllEgressRBridges, decapsulated, routed, handling, frameMost, besideLeast, handledWith, handled}
+use Rattle.rules.specs.Channel.{ethertypeChannel, ethertypeIsIs, protocolError, protocolEcho, innerEthertype, chv, protocol, na}
+use Rattle.rules.specs.Channel.{err, bodyOf, replyMode, echoRead, channelRead, silenced, returnPath, errorReply, echoReply}
+use Rattle.rules.specs.Handling.{forwardedRest, forwarded, onward, alertOf, alerted, transit, faulted, echoed, channelled, untagged}
+use Rattle.rules.specs.Handling.{toAllEgressRBridges, decapsulated, routed, handling, frameMost, besideLeast, handledWith, handled}
 use Rattle.rules.specs.declared.NextHop.{NextHop}
 use Rattle.rules.specs.declared.Header.{Header}
 use Rattle.rules.specs.declared.Ruling.the-variants.{Found, Absent}
@@ -43,7 +45,8 @@ module _ (S : Ways) (f : List ℕ) (h : Header) where
     unfolding onward
     onward-long n = rw (lt-ltb frameMost (length (forwarded S r f h)) n)
 
-    pub onward-sent : length (forwarded S r f h) ≤ frameMost → onward S r f h beside besideVia ≡ wroteBoth 50 (forwarded S r f h) (r .neighbour) beside besideVia
+    pub onward-sent : length (forwarded S r f h) ≤ frameMost
+        → onward S r f h beside besideVia ≡ wroteBoth 50 (forwarded S r f h) (r .neighbour) beside besideVia
     unfolding onward
     onward-sent n = rw (le-ltb frameMost (length (forwarded S r f h)) n)
 
@@ -71,7 +74,8 @@ module _ (S : Ways) (f : List ℕ) (h : Header) where
       unfolding echoed
       echoed-none e = rw (echoed, eq-eqb (replyMode (bodyOf (innerOf f h))) 2 asked, e)
 
-      pub echoed-over : (r : NextHop) → returnPath S (h .ingress) ≡ Found r → echoed S clock f h ≡ wrote 54 (echoReply S r h clock (bodyOf (innerOf f h))) (r .neighbour)
+      pub echoed-over : (r : NextHop) → returnPath S (h .ingress) ≡ Found r
+          → echoed S clock f h ≡ wrote 54 (echoReply S r h clock (bodyOf (innerOf f h))) (r .neighbour)
       unfolding echoed
       echoed-over r e = rw (echoed, eq-eqb (replyMode (bodyOf (innerOf f h))) 2 asked, e)
 
@@ -130,7 +134,8 @@ module _ (S : Ways) (clock f : List ℕ) (h : Header) where
       unfolding decapsulated
       inner-any c d = simp (le-ltb (length (innerOf f h)) 18 a, b, eq-eqb (h .egress) anyRBridge c, d)
 
-      pub inner-delivered : (h .egress ≡ anyRBridge → ⊥) → toAllEgressRBridges (innerOf f h) ≡ false → decapsulated S clock f h ≡ delivered 51 (innerStart h) (length (innerOf f h))
+      pub inner-delivered : (h .egress ≡ anyRBridge → ⊥) → toAllEgressRBridges (innerOf f h) ≡ false
+          → decapsulated S clock f h ≡ delivered 51 (innerStart h) (length (innerOf f h))
       unfolding decapsulated
       inner-delivered c d = simp (le-ltb (length (innerOf f h)) 18 a, b, ne-eqb (h .egress) anyRBridge c, d)
 
@@ -227,7 +232,8 @@ header-number S f h =
     (one-number (eqb (hopCount (h .word)) 0) 17 _ (omega arith) (omega arith)
     (one-number (ltb (length f) (innerStart h)) 18 0 (omega arith) (omega arith) (record { most = omega arith; least = λ k. omega arith })))))))
 
-unread-one : (a b c d : Bool) (g : Header) (n : ℕ) → cond a (Unreadable 10) (cond b (Unreadable 10) (cond c (Unreadable 11) (cond d (Unreadable 10) (Trill g)))) ≡ Unreadable n → (10 ≤ n) × (n ≤ 11)
+unread-one : (a b c d : Bool) (g : Header) (n : ℕ)
+    → cond a (Unreadable 10) (cond b (Unreadable 10) (cond c (Unreadable 11) (cond d (Unreadable 10) (Trill g)))) ≡ Unreadable n → (10 ≤ n) × (n ≤ 11)
 unread-one true b c d g n e = let q : 10 ≡ n = cc in (omega arith, omega arith)
 unread-one false true c d g n e = let q : 10 ≡ n = cc in (omega arith, omega arith)
 unread-one false false true d g n e = let q : 11 ≡ n = cc in (omega arith, omega arith)

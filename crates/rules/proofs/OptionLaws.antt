@@ -12,8 +12,10 @@ use lib.Dec.{ltb, leb, eqb}
 use lib.ListN.{length, take, drop, take-append-drop, length-append, length-drop, drop-of-length-le}
 use lib.Seq.{drop-append-seam, take-at, take-all, length-take-le}
 use Rattle.rules.specs.Octets.{octet, be16, part}
-use Rattle.rules.specs.Options.{chbh, cite, keyOf, lengthOf, ie, nc, mt, optionSize, optionAt, TlvOption, Options, options, fault, optionFirst, optionsFrom, optionsOf, hopByHopCritical, ingressToEgressCritical, some-key, summarized, draftRead, implemented, strippable, keptOptions, octetsOf, stripped}
-use Rattle.rules.specs.Options.{OptionRead, Taken, Fault, AreaRead, WellFormed, Faulty, Laid, none, one, WellFormedArea}
+use Rattle.rules.specs.Options.{chbh, cite, keyOf, lengthOf, ie, nc, mt, optionSize, optionAt, TlvOption, Options, options}
+use Rattle.rules.specs.Options.{fault, optionFirst, optionsFrom, optionsOf, hopByHopCritical, ingressToEgressCritical, some-key}
+use Rattle.rules.specs.Options.{summarized, draftRead, implemented, strippable, keptOptions, octetsOf, stripped}
+use Rattle.rules.specs.Options.{OptionRead, Taken, Fault, WellFormed, Faulty, Laid, none, one, WellFormedArea}
 use Rattle.rules.proofs.TestLaws.{by-test, and-true, and-no}
 use Rattle.rules.proofs.OctetLaws.{octet-before, octet-part, be16-before, be16-after, be16-part, drop-part, length-part}
 
@@ -24,22 +26,31 @@ module _ (area : List ℕ) (floor at : ℕ) where
   option-reserved h = simp (le-leb 119 (lengthOf (be16 area at)) h)
 
   module _ (s : lengthOf (be16 area at) < 119) where
+    past-30 : leb 119 (lengthOf (be16 area at)) ≡ false
+    past-30 = lt-leb 119 (lengthOf (be16 area at)) s
+
     pub option-past : length area < at + optionSize (lengthOf (be16 area at)) → Fault 31 at ≡ optionAt area floor at
     unfolding optionAt
-    option-past h = simp (lt-leb 119 (lengthOf (be16 area at)) s, lt-ltb (length area) (at + optionSize (lengthOf (be16 area at))) h)
+    option-past h = simp (past-30, lt-ltb (length area) (at + optionSize (lengthOf (be16 area at))) h)
 
     module _ (p : at + optionSize (lengthOf (be16 area at)) ≤ length area) where
+      past-31 : ltb (length area) (at + optionSize (lengthOf (be16 area at))) ≡ false
+      past-31 = le-ltb (length area) (at + optionSize (lengthOf (be16 area at))) p
+
       pub option-below : keyOf (be16 area at) + 1 < floor → Fault 32 at ≡ optionAt area floor at
       unfolding optionAt
-      option-below h = simp (lt-leb 119 (lengthOf (be16 area at)) s, le-ltb (length area) (at + optionSize (lengthOf (be16 area at))) p, lt-ltb (keyOf (be16 area at) + 1) floor h)
+      option-below h = simp (past-30, past-31, lt-ltb (keyOf (be16 area at) + 1) floor h)
 
       pub option-equal : keyOf (be16 area at) + 1 ≡ floor → Fault 33 at ≡ optionAt area floor at
       unfolding optionAt
-      option-equal h = simp (lt-leb 119 (lengthOf (be16 area at)) s, le-ltb (length area) (at + optionSize (lengthOf (be16 area at))) p, le-ltb (keyOf (be16 area at) + 1) floor (omega arith), eq-eqb (keyOf (be16 area at) + 1) floor h)
+      option-equal h =
+          simp (past-30, past-31, le-ltb (keyOf (be16 area at) + 1) floor (omega arith), eq-eqb (keyOf (be16 area at) + 1) floor h)
 
-      pub option-taken : floor ≤ keyOf (be16 area at) → Taken (keyOf (be16 area at)) (lengthOf (be16 area at)) (at + optionSize (lengthOf (be16 area at))) ≡ optionAt area floor at
+      pub option-taken : floor ≤ keyOf (be16 area at)
+          → Taken (keyOf (be16 area at)) (lengthOf (be16 area at)) (at + optionSize (lengthOf (be16 area at))) ≡ optionAt area floor at
       unfolding optionAt
-      option-taken h = simp (lt-leb 119 (lengthOf (be16 area at)) s, le-ltb (length area) (at + optionSize (lengthOf (be16 area at))) p, le-ltb (keyOf (be16 area at) + 1) floor (omega arith), ne-eqb (keyOf (be16 area at) + 1) floor (omega arith))
+      option-taken h =
+          simp (past-30, past-31, le-ltb (keyOf (be16 area at) + 1) floor (omega arith), ne-eqb (keyOf (be16 area at) + 1) floor (omega arith))
 
 -- what is known of an option that was taken
 pub record Read (area : List ℕ) (floor at key size next : ℕ) : Type 0 where
@@ -64,7 +75,9 @@ unfolding optionAt
 option-read area floor at k n m e =
     let w = be16 area at in
     let next = at + optionSize (lengthOf w) in
-    let p = all-passed (leb 119 (lengthOf w)) (ltb (length area) next) (ltb (keyOf w + 1) floor) (eqb (keyOf w + 1) floor) 30 31 32 33 at k n m (Taken (keyOf w) (lengthOf w) next) e in
+    let p =
+    all-passed (leb 119 (lengthOf w)) (ltb (length area) next) (ltb (keyOf w + 1) floor) (eqb (keyOf w + 1) floor) 30 31 32 33 at k n m
+    (Taken (keyOf w) (lengthOf w) next) e in
     let ek : keyOf w ≡ k = cc (p .4) in
     let en : lengthOf w ≡ n = cc (p .4) in
     let em : next ≡ m = cc (p .4) in
@@ -87,12 +100,14 @@ module _ (fuel : ℕ) (area : List ℕ) (floor at : ℕ) where
   unfolding optionsFrom
   options-end h = rw (optionsFrom, le-ltb at (length area) h)
 
-  pub options-fault : (number place : ℕ) → at < length area → optionAt area floor at ≡ Fault number place → optionsFrom (suc fuel) area floor at ≡ fault number place
+  pub options-fault : (number place : ℕ) → at < length area → optionAt area floor at ≡ Fault number place
+      → optionsFrom (suc fuel) area floor at ≡ fault number place
   unfolding optionsFrom
   options-fault number place h e = rw (optionsFrom, lt-ltb at (length area) h, e)
 
   pub options-on : (key size next : ℕ) → at < length area → optionAt area floor at ≡ Taken key size next
-      → optionsFrom (suc fuel) area floor at ≡ optionFirst (record { key = key; size = size; octets = part area at (next - at) }) (optionsFrom fuel area (key + 1) next)
+      → optionsFrom (suc fuel) area floor at
+      ≡ optionFirst (record { key = key; size = size; octets = part area at (next - at) }) (optionsFrom fuel area (key + 1) next)
   unfolding optionsFrom
   options-on key size next h e = rw (optionsFrom, lt-ltb at (length area) h, e)
 
@@ -114,7 +129,8 @@ pub data Walked (fuel : ℕ) (area : List ℕ) (floor at : ℕ) (os : List TlvOp
 pub walked : (fuel : ℕ) (area : List ℕ) (floor at : ℕ) (os : List TlvOption) → optionsFrom (suc fuel) area floor at ≡ options os → Walked fuel area floor at os
 walked fuel area floor at os e = go (ltb at (length area)) refl
   where
-    rest : (key size next : ℕ) → at < length area → optionAt area floor at ≡ Taken key size next → (w : Options) → optionsFrom fuel area (key + 1) next ≡ w → Walked fuel area floor at os
+    rest : (key size next : ℕ) → at < length area → optionAt area floor at ≡ Taken key size next → (w : Options) → optionsFrom fuel area (key + 1) next ≡ w
+        → Walked fuel area floor at os
     rest key size next lt q (options os′) f =
         let o : TlvOption = record { key = key; size = size; octets = part area at (next - at) } in
         let on : options os ≡ optionFirst o (options os′) = sym e ∙ options-on fuel area floor at key size next lt q ∙ ap (optionFirst o) f in
@@ -153,7 +169,8 @@ walk-laid zero area floor at os within enough e = absurd (omega arith)
 walk-laid (suc fuel) area floor at os within enough e = go (walked fuel area floor at os e) (λ key next os′. walk-laid fuel area (key + 1) next os′)
   where
     go : Walked fuel area floor at os
-        → ((key next : ℕ) (os′ : List TlvOption) → next ≤ length area → length area < next + fuel → optionsFrom fuel area (key + 1) next ≡ options os′ → Laid (key + 1) os′ × (drop next area ≡ octetsOf os′))
+        → ((key next : ℕ) (os′ : List TlvOption) → next ≤ length area → length area < next + fuel → optionsFrom fuel area (key + 1) next ≡ options os′
+        → Laid (key + 1) os′ × (drop next area ≡ octetsOf os′))
         → Laid floor os × (drop at area ≡ octetsOf os)
     go (ended le is) ih = rw is (none, drop-of-length-le area le)
     go (took key size next os′ lt r is f) ih =
@@ -162,11 +179,15 @@ walk-laid (suc fuel) area floor at os within enough e = go (walked fuel area flo
         let e1 : be16 (part area at (next - at)) 0 ≡ be16 area at = be16-part area at (next - at) (omega arith) in
         let e2 : at + (next - at) ≡ next = omega (arith, r .ends) in
         let joined : drop at area ≡ part area at (next - at) ++ octetsOf os′ = sym (drop-part area at (next - at)) ∙ rw (e2, h .1) in
-        rw is
-        (one (ap keyOf e1 ∙ r .its-key) (ap lengthOf e1 ∙ r .its-size) (r .small) (length-part area at (next - at) (omega (arith, r .within)) ∙ n) (r .above) (h .0), joined)
+        rw is (
+          one (ap keyOf e1 ∙ r .its-key) (ap lengthOf e1 ∙ r .its-size) (r .small)
+              (length-part area at (next - at) (omega (arith, r .within)) ∙ n) (r .above) (h .0),
+          joined,
+        )
 
 -- options that are laid out are what a walk finds
-pub laid-walk : (floor : ℕ) (os : List TlvOption) → Laid floor os → (p : List ℕ) (fuel : ℕ) → length os < fuel → optionsFrom fuel (p ++ octetsOf os) floor (length p) ≡ options os
+pub laid-walk : (floor : ℕ) (os : List TlvOption) → Laid floor os → (p : List ℕ) (fuel : ℕ) → length os < fuel
+    → optionsFrom fuel (p ++ octetsOf os) floor (length p) ≡ options os
 unfolding octetsOf
 laid-walk floor os l p zero h = absurd (omega arith)
 laid-walk floor [] none p (suc fuel) h = options-end fuel (p ++ []) floor (length p) (rw append-nil (omega arith))
@@ -177,13 +198,15 @@ laid-walk floor (o ∷ os) (one k s small n above l) p (suc fuel) h =
     let w0 : be16 area at ≡ be16 (o .octets) 0 = rw add-zero at w in
     let ek : keyOf (be16 area at) ≡ o .key = ap keyOf w0 ∙ k in
     let es : lengthOf (be16 area at) ≡ o .size = ap lengthOf w0 ∙ s in
-    let long : length area ≡ at + (length (o .octets) + length (octetsOf os)) = length-append p (o .octets ++ octetsOf os) ∙ ap (λ (x : ℕ). at + x) (length-append (o .octets) (octetsOf os)) in
+    let long : length area ≡ at + (length (o .octets) + length (octetsOf os)) =
+    length-append p (o .octets ++ octetsOf os) ∙ ap (λ (x : ℕ). at + x) (length-append (o .octets) (octetsOf os)) in
     let next : ℕ = at + length (o .octets) in
     let taken : optionAt area floor at ≡ Taken (o .key) (o .size) next =
     sym (option-taken area floor at (omega (arith, es)) (omega (arith, es, long, n)) (omega (arith, ek))) ∙ cc (ek, es, n) in
     let cutOut : part area at (next - at) ≡ o .octets =
     ap (λ (x : List ℕ). take (next - at) x) (drop-append-seam p (o .octets ++ octetsOf os)) ∙ take-at (o .octets) (octetsOf os) (next - at) (omega arith) in
-    let ih : optionsFrom fuel (p ++ o .octets ++ octetsOf os) (o .key + 1) (length (p ++ o .octets)) ≡ options os = laid-walk (o .key + 1) os l (p ++ o .octets) fuel (omega arith) in
+    let ih : optionsFrom fuel (p ++ o .octets ++ octetsOf os) (o .key + 1) (length (p ++ o .octets)) ≡ options os =
+    laid-walk (o .key + 1) os l (p ++ o .octets) fuel (omega arith) in
     options-on fuel area floor at (o .key) (o .size) next (omega (arith, long, n)) taken
     ∙ rw (cutOut, ← append-assoc p (o .octets) (octetsOf os), ← length-append p (o .octets), ih)
 
@@ -327,7 +350,8 @@ area-well area e = go (optionsOf area) refl
   where
     go : (w : Options) → optionsOf area ≡ w → Well area
     go (options os) f =
-        let p = both-summarized (some-key hopByHopCritical os && not (chbh area)) (some-key ingressToEgressCritical os && not (cite area)) (rw (f, summarized) at e) in
+        let p =
+        both-summarized (some-key hopByHopCritical os && not (chbh area)) (some-key ingressToEgressCritical os && not (cite area)) (rw (f, summarized) at e) in
         record { its-options = os; are = f; hop-by-hop = p .0; ingress-to-egress = p .1 }
     go (fault number place) f =
         let g : Faulty number place ≡ WellFormed = (rw (f, summarized) at e) in
@@ -359,7 +383,8 @@ module _ (area : List ℕ) (e : draftRead area ≡ WellFormed) where
         its-options = keptOptions (Its .its-options);
         are = read-again .again;
         hop-by-hop = rw (stripped-chbh, kept-some hopByHopCritical (λ k n. rw n (and-no (eqb (ie k) 0))) (Its .its-options)) (Its .hop-by-hop);
-        ingress-to-egress = rw (stripped-cite, kept-some ingressToEgressCritical (λ k n. rw n (and-no (eqb (ie k) 1))) (Its .its-options)) (Its .ingress-to-egress);
+        ingress-to-egress =
+            rw (stripped-cite, kept-some ingressToEgressCritical (λ k n. rw n (and-no (eqb (ie k) 1))) (Its .its-options)) (Its .ingress-to-egress);
       }
 
   pub stripped-twice : stripped (stripped area) ≡ stripped area
@@ -446,7 +471,8 @@ option-number : (area : List ℕ) (floor at n p : ℕ) → at ≤ length area �
 unfolding optionAt
 option-number area floor at n p h e =
     let w = be16 area at in
-    go (leb 119 (lengthOf w)) (ltb (length area) (at + optionSize (lengthOf w))) (ltb (keyOf w + 1) floor) (eqb (keyOf w + 1) floor) (Taken (keyOf w) (lengthOf w) (at + optionSize (lengthOf w))) refl e
+    go (leb 119 (lengthOf w)) (ltb (length area) (at + optionSize (lengthOf w))) (ltb (keyOf w + 1) floor) (eqb (keyOf w + 1) floor)
+    (Taken (keyOf w) (lengthOf w) (at + optionSize (lengthOf w))) refl e
   where
     is : (m : ℕ) → 30 ≤ m → m ≤ 33 → Fault m at ≡ Fault n p → Numbered 30 33 (length area) n p
     is m lo hi f =
@@ -469,7 +495,8 @@ options-number (suc fuel) area floor at n p e =
     (λ t. which (ltb-true at (length area) t) (optionAt area floor at) refl (λ key next. options-number fuel area (key + 1) next))
     (λ t. let z : _≡_ {A = ℕ} 0 1 = cc (sym (options-end fuel area floor at (ltb-false at (length area) t)) ∙ e) in absurd (omega arith))
   where
-    rest : (o : TlvOption) (w : Options) → ((m q : ℕ) → w ≡ fault m q → Numbered 30 33 (length area) m q) → optionFirst o w ≡ fault n p → Numbered 30 33 (length area) n p
+    rest : (o : TlvOption) (w : Options) → ((m q : ℕ) → w ≡ fault m q → Numbered 30 33 (length area) m q) → optionFirst o w ≡ fault n p
+        → Numbered 30 33 (length area) n p
     rest o (options os) ih f = let z : _≡_ {A = ℕ} 0 1 = cc f in absurd (omega arith)
     rest o (fault m q) ih f = ih n p f
 
@@ -498,7 +525,8 @@ area-number area n p e = go (optionsOf area) refl
     summed false false f = let z : _≡_ {A = ℕ} 0 1 = cc f in absurd (omega arith)
 
     go : (w : Options) → optionsOf area ≡ w → Numbered 30 35 (length area) n p
-    go (options os) f = summed (some-key hopByHopCritical os && not (chbh area)) (some-key ingressToEgressCritical os && not (cite area)) (rw (f, summarized) at e)
+    go (options os) f =
+        summed (some-key hopByHopCritical os && not (chbh area)) (some-key ingressToEgressCritical os && not (cite area)) (rw (f, summarized) at e)
     go (fault m q) f =
         let same : Faulty m q ≡ Faulty n p = (rw (f, summarized) at e) in
         let h = options-number (suc (length area)) area 0 4 n p (f ∙ cc same) in

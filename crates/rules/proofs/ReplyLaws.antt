@@ -12,13 +12,14 @@ use Rattle.rules.specs.Octets.{be16}
 use Rattle.rules.specs.Settings.{Ways}
 use Rattle.rules.specs.Link.{link}
 use Rattle.rules.specs.Header.{readFrame, innerOf}
-use Rattle.rules.specs.Channel.{protocolError, protocolEcho, protocol, na, spid, spidReply, echoRead, channelRead, silenced, replyInner, replyRest, echoBody}
+use Rattle.rules.specs.Channel.{protocolError, protocolEcho, protocol, na, spid, spidReply, echoRead}
+use Rattle.rules.specs.Channel.{channelRead, silenced, replyInner, replyRest, echoBody}
 use Rattle.rules.specs.declared.NextHop.{NextHop}
 use Rattle.rules.specs.declared.Header.{Header}
 use Rattle.rules.specs.declared.FrameRead.the-variants.{Trill}
 use Rattle.rules.specs.declared.ChannelRead.the-variants.{ErrorHeard, EchoHeard}
 use Rattle.rules.proofs.TestLaws.{by-test, or-yes}
-use Rattle.rules.proofs.FrameLaws.{IsLink, read-with-header, inner-with-header, length-link}
+use Rattle.rules.proofs.FrameLaws.{IsLink, read-with-header, inner-with-header}
 
 module _ (S : Ways) (own : S .nickname < 65536) (ingress : ℕ) (hi : ingress < 65536) (number code : ℕ) (body : List ℕ) (l : List ℕ) (is : IsLink l) where
   abbrev pub replyHeader : Header
@@ -42,7 +43,8 @@ error-heard S code body h =
     simp (le-ltb (length i) 22 (omega arith), ne-eqb (na i) 1 (rw (flags, high) (omega arith)))
 
 -- an echo reply that was written is heard as an echo reply
-pub echo-heard : (S : Ways) (body : List ℕ) → 18 ≤ length body → length body ≤ 530 → spid body ≡ spidReply → channelRead (replyInner S protocolEcho 0 body) ≡ EchoHeard
+pub echo-heard : (S : Ways) (body : List ℕ) → 18 ≤ length body → length body ≤ 530 → spid body ≡ spidReply
+    → channelRead (replyInner S protocolEcho 0 body) ≡ EchoHeard
 unfolding replyInner channelRead echoRead
 echo-heard S body h k e =
     simp (le-ltb (length (replyInner S protocolEcho 0 body)) 22 (omega arith), le-ltb (length body) 18 h, le-ltb 530 (length body) k, e)
@@ -60,8 +62,10 @@ echo-body-spid body clock = omega arith
 -- "Answering an error with an error": for codes 4 and 5 none is made
 pub error-unanswered : (code : ℕ) (inner : List ℕ) → 4 ≤ code → code ≤ 5 → protocol inner ≡ protocolError → silenced code inner ≡ true
 unfolding silenced
-error-unanswered code inner h k e = by-test (eqb code 4) (λ t. simp (t, e, or-yes)) (λ t. simp (t, eq-eqb code 5 (omega (arith, eqb-false code 4 t)), e, or-yes))
+error-unanswered code inner h k e =
+    by-test (eqb code 4) (λ t. simp (t, e, or-yes)) (λ t. simp (t, eq-eqb code 5 (omega (arith, eqb-false code 4 t)), e, or-yes))
 
-pub length-reply : (S : Ways) (r : NextHop) (ingress number code : ℕ) (body : List ℕ) → length (link S r ++ replyRest S ingress number code body) ≡ length (link S r) + 28 + length body
+pub length-reply : (S : Ways) (r : NextHop) (ingress number code : ℕ) (body : List ℕ)
+    → length (link S r ++ replyRest S ingress number code body) ≡ length (link S r) + 28 + length body
 unfolding replyRest replyInner
 length-reply S r ingress number code body = rw (length-append (link S r)) (omega arith)

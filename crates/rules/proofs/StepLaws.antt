@@ -159,7 +159,8 @@ module _ (S : Settings) (f : List ℕ) (h : Header) (r : NextHop) (t : Cleared (
         is-50 = refl;
         transit = ours-role S f h (t .read) ∙ t .role;
         one-less =
-            hop-read f h (t .read) ∙ sym (sent-hop (waysOf S) f h (t .read) passed (t .well)) ∙ ap suc (sym (hop-read (forwarded (waysOf S) r f h) sent sent-read));
+            hop-read f h (t .read) ∙ sym (sent-hop (waysOf S) f h (t .read) passed (t .well))
+            ∙ ap suc (sym (hop-read (forwarded (waysOf S) r f h) sent sent-read));
         same-egress = egress-read (forwarded (waysOf S) r f h) sent sent-read ∙ sym (egress-read f h (t .read));
         goes = λ switches. ap (λ (e : ℕ). towards switches e S) (egress-read f h (t .read)) ∙ towards-found switches (h .egress) S r found;
         next =
@@ -190,11 +191,14 @@ module _ (S : Settings) (own : S .nickname < 65536) (f : List ℕ) (h : Header) 
     abbrev written : List ℕ
     written = link (waysOf S) r ++ replyRest (waysOf S) (h .ingress) number code body
 
+    to-fits : h .ingress < 65536
+    to-fits = frame-read f h (t .read) .ingress-fits
+
     abbrev header-written : Header
-    header-written = replyHeader (waysOf S) own (h .ingress) (frame-read f h (t .read) .ingress-fits) number code body (link (waysOf S) r) (link-written (waysOf S) r)
+    header-written = replyHeader (waysOf S) own (h .ingress) to-fits number code body (link (waysOf S) r) (link-written (waysOf S) r)
 
     read-written : readFrame written ≡ Trill header-written
-    read-written = reply-read (waysOf S) own (h .ingress) (frame-read f h (t .read) .ingress-fits) number code body (link (waysOf S) r) (link-written (waysOf S) r)
+    read-written = reply-read (waysOf S) own (h .ingress) to-fits number code body (link (waysOf S) r) (link-written (waysOf S) r)
 
     written-full : hopReceived written ≡ 63
     written-full = hop-read written header-written read-written
@@ -208,7 +212,7 @@ module _ (S : Settings) (own : S .nickname < 65536) (f : List ℕ) (h : Header) 
         record {
           header = header-written;
           read = read-written;
-          inner = rw (reply-inner (waysOf S) own (h .ingress) (frame-read f h (t .read) .ingress-fits) number code body (link (waysOf S) r) (link-written (waysOf S) r)) is;
+          inner = rw (reply-inner (waysOf S) own (h .ingress) to-fits number code body (link (waysOf S) r) (link-written (waysOf S) r)) is;
         }
 
   error-answered : (code : ℕ) → channelRead (innerOf f h) ≡ Fault code → Answered S f (errorReply (waysOf S) r f h code) (r .neighbour)

@@ -16,7 +16,8 @@ use Rattle.rules.specs.Options.{implemented, strippable, keptOptions, oc
 use Rattle.rules.specs.Extension.{flagUnsummarized, summaryBare, extensionRead, extensionStops, areaRead, areaStops, areaSent}
 use Rattle.rules.specs.Channel.{echoRead, channelRead, silenced, returnPath, replyInner, replyRest, echoBody, errorReply, echoReply}
 use Rattle.rules.specs.Answer.{Handled}
-use Rattle.rules.specs.Handling.{forwardedRest, forwarded, onward, channelMessage, alertTo, alertOf, alerted, transit, faulted, echoed, channelled, decapsulated}
+use Rattle.rules.specs.Handling.{forwardedRest, forwarded, onward, channelMessage, alertTo, alertOf, alerted, transit, faulted, echoed, channelled}
+use Rattle.rules.specs.Handling.{decapsulated}
 use Rattle.rules.specs.Handling.{routed, handling, handledWith, handled, partOf}
 use Rattle.rules.specs.Campus.{switchNamed, placeGood, valueGood, nicknameNew, roomGood, serialNew, entryKnown, fieldRefusal}
 use Rattle.rules.specs.Campus.{withNext, describedFrom, described, clockOf, repliesMade, staying, sentOn, firstWaiting, nextAfter, runFrom, plainRun}
@@ -104,7 +105,11 @@ areaTaken name word area = delivers name settings1 (frameTo word (hex "0001") ar
 -- the same, dropped with a number and the place in the area
 abbrev pub areaRefused : String → List ℕ → List ℕ → ℕ → ℕ → Case
 areaRefused name word area number place =
-    record { name = name; computed = numbers (handled settings1 clock 2048 576 (frameTo word (hex "0001") area inner)); expected = number ∷ place ∷ 0 ∷ 0 ∷ 0 ∷ 0 ∷ [] }
+    record {
+      name = name;
+      computed = numbers (handled settings1 clock 2048 576 (frameTo word (hex "0001") area inner));
+      expected = number ∷ place ∷ 0 ∷ 0 ∷ 0 ∷ 0 ∷ [];
+    }
 
 -- forwarded to 0x0005 with the strip flag set: first word and area before and after
 abbrev pub strips : String → List ℕ → List ℕ → List ℕ → List ℕ → Case
@@ -477,8 +482,10 @@ unfoldable pub computedIn : List Case → List (List ℕ)
 unfolding digits pairs hex numbers ending sizes sizesIn ascii hexDigit decimalFrom entryText entriesText printed fieldAt fieldsFrom fields lengthGood
     hopGood newer ruling nextHop serialMet switchGood withField opens continues opened settingsFrom settingsOf linkLength outerTag link readFrame
     headerRefusal weAreEgress optionAt optionsFrom optionsOf some-key summarized draftRead draftStops implemented strippable
-    keptOptions octetsOf stripped flagUnsummarized summaryBare extensionRead extensionStops areaRead areaStops areaSent echoRead channelRead silenced returnPath replyInner replyRest echoBody errorReply echoReply
-    forwardedRest forwarded onward channelMessage alertTo alertOf alerted transit faulted echoed channelled decapsulated routed handling handledWith handled partOf switchNamed placeGood
+    keptOptions octetsOf stripped flagUnsummarized summaryBare extensionRead extensionStops areaRead areaStops areaSent
+    echoRead channelRead silenced returnPath replyInner replyRest echoBody errorReply echoReply
+    forwardedRest forwarded onward channelMessage alertTo alertOf alerted transit faulted echoed channelled
+    decapsulated routed handling handledWith handled partOf switchNamed placeGood
     valueGood nicknameNew roomGood serialNew entryKnown fieldRefusal withNext describedFrom described clockOf
     repliesMade staying sentOn firstWaiting nextAfter runFrom plainRun
     hopReceived egressReceived entryOctets traceOctets someEdition2 traceNeeded campus

@@ -1,60 +1,19 @@
 -- `part` meets its contract: the range lies within the frame, or the part is empty. Assumes nothing.
-use mathlib.Core.Path.{_≡_}
-use Prim.Native.Nat.{_+_, _-_}
-use native.Mathlib.Omega.{arith}
-use borrow.Author.Tests.{le-leb, lt-leb}
-use lib.ListN.{length}
-use Rattle.rules.specs.Handling.{partOf}
-use borrow.Author.Needs.{needs}
+use Rattle.handler.proofs.Bodies.{part-laws as laws}
 use Rattle.handler.proofs.part.Statement.{statement}
 use Rattle.handler.proofs.part.Tie as tie
-
-slice-aggregate-result : tie.Need-slice-aggregate-result
-slice-aggregate-result c = search needs
-
-returns : tie.Need-returns
-unfolding partOf
-returns c = simp (lt-leb (c .before .before .args .start + c .before .before .args .size) (length (c .before .before .args .frame .now)) (omega arith))
-
-sub-if2 : tie.Need-sub-if2
-sub-if2 c = search needs
-
-slice-aggregate-result-2 : tie.Need-slice-aggregate-result-2
-slice-aggregate-result-2 c = search needs
-
-returns-2 : tie.Need-returns-2
-unfolding partOf
-returns-2 c = simp (lt-leb (c .before .before .before .args .start + c .before .before .before .args .size) (length (c .before .before .before .args .frame .now)) (omega arith))
-
-add-result : tie.Need-add-result
-add-result c = search needs
-
-sub-result : tie.Need-sub-result
-sub-result c = search needs
-
-part-result-start : tie.Need-part-result-start
-part-result-start c = search needs
-
-part-result-end : tie.Need-part-result-end
-part-result-end c = search needs
-
-returns-3 : tie.Need-returns-3
-unfolding partOf
-returns-3 c =
-    let n : c .before .before .before .args .start + c .before .before .before .args .size - c .before .before .before .args .start ≡ c .before .before .before .args .size = omega arith in
-    rw n (simp (le-leb (c .before .before .before .args .start + c .before .before .before .args .size) (length (c .before .before .before .args .frame .now)) (omega arith)))
 
 pub part-spec : {M : Type 1} → statement M
 part-spec =
     tie.close
     (tie.spec
-    slice-aggregate-result
-    returns
-    sub-if2
-    slice-aggregate-result-2
-    returns-2
-    add-result
-    sub-result
-    part-result-start
-    part-result-end
-    returns-3)
+    (λ c. search laws)
+    (λ c. search laws)
+    (λ c. search laws)
+    (λ c. search laws)
+    (λ c. search laws)
+    (λ c. search laws)
+    (λ c. search laws)
+    (λ c. search laws)
+    (λ c. search laws)
+    (λ c. search laws))

@@ -1,11 +1,9 @@
 -- `octets::fill` meets its contract. The invariant: `out` has the first i octets of `s` in it from `at` on. Assumes nothing.
-use mathlib.Core.Path.{_≡_, refl, _∙_}
+use mathlib.Core.Path.{_≡_}
 use Prim.Native.Nat.{_-_, _≤_}
-use native.Mathlib.Omega.{arith}
-use native.Mathlib.Numerals.{add-one}
-use lib.ListN.{length, length-set}
-use lib.Seq.{paste, paste-zero, paste-suc, take-length}
-use Rattle.rules.specs.Octets.{put}
+use lib.ListN.{length}
+use lib.Seq.{paste}
+use Rattle.octets.proofs.Ends.{fill-laws as laws}
 use Rattle.octets.proofs.fill.Statement.{statement}
 use Rattle.octets.proofs.fill.Tie as tie
 
@@ -15,52 +13,18 @@ Inv-loop out₀ at s i₀ out i = (i ≤ length s) × (out ≡ paste out₀ at s
 abbrev μ-loop : tie.MeasureT-loop
 μ-loop out₀ at s i₀ out i = length s - i
 
-loop-holds : tie.Need-loop-holds Inv-loop μ-loop
-loop-holds c = (omega arith, paste-zero (c .args .out .now) (c .args .at) (c .args .s .now), refl)
-
-shared-slice-read-out : tie.Need-shared-slice-read-out Inv-loop μ-loop
-shared-slice-read-out c = omega arith
-
-add-out : tie.Need-add-out Inv-loop μ-loop
-add-out c = omega arith
-
-slice-write-out : tie.Need-slice-write-out Inv-loop μ-loop
-slice-write-out c = omega arith
-
-add-i : tie.Need-add-i Inv-loop μ-loop
-add-i c = omega arith
-
-loop-less : tie.Need-loop-less Inv-loop μ-loop
-loop-less c = omega arith
-
-loop-again : tie.Need-loop-again Inv-loop μ-loop
-loop-again c =
-    let l = c .before .before .loop in
-    let a = c .before .before .before .args in
-    (omega arith, rw (l .inv .1, add-one, paste-suc (a .out .now) (a .at) (a .s .now) (l .i) 0 (omega arith) (omega arith)), simp length-set (omega arith))
-
-same-length : tie.Need-same-length Inv-loop μ-loop
-same-length c = omega arith
-
-returns : tie.Need-returns Inv-loop μ-loop
-unfolding put
-returns c =
-    let l = c .before .loop in
-    let e : l .i ≡ length (c .before .before .args .s .now) = omega arith in
-    l .inv .1 ∙ rw (e, take-length)
-
 pub fill-spec : {M : Type 1} → statement M
 fill-spec =
     tie.close
     (tie.spec
     Inv-loop
     μ-loop
-    loop-holds
-    shared-slice-read-out
-    add-out
-    slice-write-out
-    add-i
-    loop-less
-    loop-again
-    same-length
-    returns)
+    (λ c. search laws)
+    (λ c. search laws)
+    (λ c. search laws)
+    (λ c. search laws)
+    (λ c. search laws)
+    (λ c. search laws)
+    (λ c. search laws)
+    (λ c. search laws)
+    (λ c. search laws))

@@ -7,7 +7,9 @@ use Rattle.handler.proofs.judged.fresh.Statement.{statement}
 use Rattle.handler.proofs.judged.fresh.Tie as tie
 
 returns : tie.Need-returns
-returns c = ap not (sym (c .before .before .before .pre .1 (uncovered (c .before .before .before .args .old) (c .before .before .before .args .mark) (c .before .if1 .taken) (c .if2 .taken))))
+returns c =
+    let start = c .before .before .before in
+    ap not (sym (start .pre .1 (uncovered (start .args .old) (start .args .mark) (c .before .if1 .taken) (c .if2 .taken))))
 
 met-requires : tie.Need-met-requires
 met-requires c κs = search needs
