@@ -7,5 +7,3 @@ pub mod QueueLaws
 pub mod LoopLaws
 pub mod AlikeLaws
 pub mod DoneLaws
-pub mod PrintLaws
-pub mod TextLaws

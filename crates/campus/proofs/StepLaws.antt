@@ -65,11 +65,13 @@ header-is : (f : List ℕ) (h : Header) → readFrame f ≡ Trill h
 header-is f h e =
     by-test (eqb (linkEthertype f) ethertypeTrill)
     (λ t.
-    let there = read-trill f (omega (arith, i)) (omega (arith, i)) (eqb-true (linkEthertype f) ethertypeTrill t) (omega (arith, i)) ∙ e in
-    cc there)
+    let trill = eqb-true (linkEthertype f) ethertypeTrill t in
+    let n = linkLength f in
+    let there = read-trill f n refl (omega (arith, i)) (omega (arith, i)) (linkEthertype f) trill refl (be16 f n) (be16 f (n + 2)) (be16 f (n + 4)) in
+    cc (there (omega (arith, i)) refl refl refl ∙ e))
     (λ t.
-    let other = read-other f (omega (arith, i)) (omega (arith, i)) (eqb-false (linkEthertype f) ethertypeTrill t) ∙ e in
-    absurd (no-trill other))
+    let other = read-other f (linkLength f) refl (omega (arith, i)) (omega (arith, i)) (linkEthertype f) refl in
+    absurd (no-trill (other (eqb-false (linkEthertype f) ethertypeTrill t) ∙ e)))
   where
     i : (14 ≤ linkLength f) × (linkLength f + 6 ≤ length f)
     i = let x = frame-read f h e in (omega (arith, x .its-place, x .from), omega (arith, x .its-place, x .whole))

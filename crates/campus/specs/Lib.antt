@@ -4,4 +4,3 @@ pub mod Stores
 pub mod Steps
 pub mod Queue
 pub mod Done
-pub mod Print

@@ -1,18 +1,16 @@
 // A campus of switches over one frame (document 01, "Campus description and run").
-mod printing;
 mod reading;
 mod received;
 mod refusals;
 mod running;
 mod switches;
 
-ghost use Prim.Native.Nat.{_+_, _*_, _≤_};
+ghost use Prim.Native.Nat.{_≤_};
 ghost use lib.ListN.{length};
-ghost use Rattle.campus.specs.Print.{textOf, Printable, Written};
 ghost use Rattle.campus.specs.Stores.{wordsFor};
 ghost use mathlib.Core.Path.{_≡_};
 ghost use Rattle.campus.specs.Steps.{neededBy};
-ghost use Rattle.campus.specs.Done.{CampusDone, TextDone};
+ghost use Rattle.campus.specs.Done.{CampusDone};
 
 // What the caller is answered: 0 or the code that refuses, and the number of trace entries.
 #[repr(C)]
@@ -73,72 +71,4 @@ pub extern "C" fn campus_run(description: &[u8], trace: &mut [u8]) -> Outcome
     }
     let mut words = [0u64; 2118];
     run_in(description, &mut words, trace)
-}
-
-// What is written, 0 where the text does not fit, and how long the text is.
-#[repr(C)]
-pub struct Printed {
-    pub written: u32,
-    pub needed: u32,
-}
-
-// Writes the text of an outcome to `out` first, since it might not fit.
-fn put_apart(code: u32, count: u32, trace: &[u8], out: &mut [u8], text: &mut [u8]) -> Printed
-    requires { ⌜ Printable code count (now trace) × (count * 20 + 13 ≤ length (now out)) ⌝ }
-    ensures { λ r. ⌜ Written (textOf code count (now (trace .entry))) (now (text .entry)) (now (text .exit)) (r .written) (r .needed) ⌝ }
-{
-    let size = printing::put_text(out, code, count, trace);
-    if text.len() < size {
-        return Printed {
-            written: 0,
-            needed: size as u32,
-        };
-    }
-    octets::copy(text, 0, &out[..size]);
-    Printed {
-        written: size as u32,
-        needed: size as u32,
-    }
-}
-
-// Writes the text of an outcome: at once where no text of so many lines is too long.
-fn put_printed(code: u32, count: u32, trace: &[u8], text: &mut [u8]) -> Printed
-    requires { ⌜ Printable code count (now trace) ⌝ }
-    ensures { λ r. ⌜ Written (textOf code count (now (trace .entry))) (now (text .entry)) (now (text .exit)) (r .written) (r .needed) ⌝ }
-{
-    if count as usize * 20 + 13 <= text.len() {
-        let size = printing::put_text(text, code, count, trace);
-        return Printed {
-            written: size as u32,
-            needed: size as u32,
-        };
-    }
-    if count <= 80 {
-        let mut out = [0u8; 1613];
-        return put_apart(code, count, trace, &mut out, text);
-    }
-    let mut out = [0u8; 81933];
-    put_apart(code, count, trace, &mut out, text)
-}
-
-// What is printed for any campus.
-fn text_of(description: &[u8], text: &mut [u8]) -> Printed
-    ensures { λ r. ⌜ TextDone (now (description .entry)) (now (text .entry)) (now (text .exit)) (r .written) (r .needed) ⌝ }
-{
-    let mut trace = [0u8; 32768];
-    let o = campus_run(description, &mut trace);
-    put_printed(o.code, o.count, &trace, text)
-}
-
-// What the program prints for a description. The least trace buffer is too small only for a campus with an edition 2 switch.
-#[no_mangle]
-pub extern "C" fn campus_text(description: &[u8], text: &mut [u8]) -> Printed
-    ensures { λ r. ⌜ TextDone (now (description .entry)) (now (text .entry)) (now (text .exit)) (r .written) (r .needed) ⌝ }
-{
-    let mut trace = [0u8; 640];
-    let o = campus_run(description, &mut trace);
-    if o.code == 49 {
-        return text_of(description, text);
-    }
-    put_printed(o.code, o.count, &trace, text)
 }

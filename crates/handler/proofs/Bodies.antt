@@ -1,43 +1,20 @@
--- The part of a frame that an answer names, and the two replies behind their link headers, cited and copied. By laws of parts and of buffers
--- written in stages. Assumes nothing.
+-- The two replies behind their link headers, cited and copied. By laws of parts and of buffers written in stages. Assumes nothing.
 use mathlib.Core.Path.{_≡_, refl, sym, ap, _∙_}
 use mathlib.Core.List.{List, [], _∷_, _++_, append-assoc}
 use Prim.Native.Nat.{ℕ, suc, _+_, _-_, _/_, _%_, _<_, _≤_}
 use native.Mathlib.Omega.{arith}
 use borrow.Author.Needs.{needs}
-use borrow.Author.Tests.{le-leb, lt-leb}
 use lib.ListN.{length, getD, take, drop, length-append, length-drop, length-take}
 use lib.Seq.{take-all}
 use Rattle.rules.specs.Octets.{octet, octets48, part, put}
 use Rattle.rules.specs.Channel as Ch
 use Rattle.rules.specs.Channel.{echoBody}
-use Rattle.rules.specs.Handling as Hn
-use Rattle.rules.specs.Handling.{partOf}
 use Rattle.rules.proofs.OctetLaws.{length-part, length-put}
 use Rattle.rules.proofs.ReplyLaws.{echo-body-length}
 use Rattle.octets.specs.Copy.{putFitting}
 use Rattle.handler.specs.Shapes.{timesBy, replyOctets}
 use Rattle.handler.specs.declared.way.Own.{Own}
 use Rattle.handler.proofs.Stages.{lent-rest, copied, copied-after, after}
-
--- the part of a frame that an answer names
-module _ (f : List ℕ) (start size : ℕ) where
-  pub part-outside : length f < start → [] ≡ partOf f start size
-  unfolding Hn.partOf
-  part-outside h = rw (lt-leb (start + size) (length f) (omega arith))
-
-  module _ (from : start ≤ length f) where
-    pub part-over : length f - start < size → [] ≡ partOf f start size
-    unfolding Hn.partOf
-    part-over h = rw (lt-leb (start + size) (length f) (omega arith))
-
-    pub part-within : size ≤ length f - start → take (start + size - start) (drop start f) ≡ partOf f start size
-    unfolding Hn.partOf
-    part-within h =
-        let e : start + size - start ≡ size = omega arith in
-        rw (e, le-leb (start + size) (length f) (omega arith))
-
-pub ruleset part-laws = (needs, part-outside, part-over, part-within)
 
 -- the 28 octets of a reply, and its buffer
 module _ (own : Own) (ingress number code : ℕ) where

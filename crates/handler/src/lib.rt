@@ -1,4 +1,4 @@
-// One received frame at one switch: the handling call and the call for a delivered part (document 01).
+// One received frame at one switch: the handling call (document 01), by settings octets and by a store, and the way out.
 mod answers;
 mod channel;
 mod extension;
@@ -25,24 +25,11 @@ ghost use Prim.Native.Nat.{_≤_};
 ghost use lib.ListN.{length};
 ghost use Rattle.rules.specs.WayOut.{wayOut};
 ghost use Rattle.rules.specs.Settings.{settingsRead, waysOf};
-ghost use Rattle.rules.specs.Handling.{handled, routed, partOf};
+ghost use Rattle.rules.specs.Handling.{handled, routed};
 ghost use Rattle.stores.specs.Store.{handledIn, wayOutIn, waysIn, Whole};
 ghost use Rattle.handler.specs.Shapes.{ownOf, Ready, WayDone};
 ghost use Rattle.handler.specs.Tasks.{Both};
 ghost use Rattle.handler.specs.Calls.{ToldOf, RoutedBy, RoutedIn, Answers};
-
-// The part of a frame that an answer's start and length name, or an empty part if it does not lie within the frame.
-pub fn part(frame: &[u8], start: usize, size: usize) -> &[u8]
-    ensures { λ r. ⌜ now r ≡ partOf (now (frame .entry)) start size ⌝ }
-{
-    if frame.len() < start {
-        return &frame[..0];
-    }
-    if frame.len() - start < size {
-        return &frame[..0];
-    }
-    &frame[start..start + size]
-}
 
 #[no_mangle]
 pub extern "C" fn trill_handle(

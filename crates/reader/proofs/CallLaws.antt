@@ -9,7 +9,7 @@ use borrow.Author.Needs.{needs}
 use borrow.Author.Tests.{lt-ltb, le-ltb, eq-eqb, ne-eqb}
 use mir.Val.{Fits}
 use mir.Syntax.{w8}
-use lib.Dec.{eqb}
+use lib.Dec.{ltb, eqb}
 use lib.ListN.{length, getD, set, take, drop, length-drop, length-set}
 use borrow.Rule.Slice.PartMut.{putMid, postOf, post-is}
 use lib.Seq.{drop-at, drop-length, take-all, take-length, length-take-le}
@@ -123,42 +123,31 @@ module _ (w g b : List ℕ) where
   burst-few a = simp (lt-ltb (length w) 168 a)
 
   module _ (a : 168 ≤ length w) where
+    past-few : ltb (length w) 168 ≡ false
+    past-few = le-ltb (length w) 168 a
+
     pub burst-ended : (getD w 3 0 ≡ 0 → ⊥) → burst w g b ≡ saying 36 w g
     unfolding burst
-    burst-ended e = simp (le-ltb (length w) 168 a, ne-eqb (getD w 3 0) 0 e)
+    burst-ended e = rw (past-few, ne-eqb (getD w 3 0) 0 e)
 
     module _ (o : getD w 3 0 ≡ 0) where
       pub burst-early : (getD w 2 0 % 65536 ≡ 0 → ⊥) → burst w g b ≡ saying (getD w 2 0 % 65536) w g
       unfolding burst
-      burst-early e = simp (le-ltb (length w) 168 a, eq-eqb (getD w 3 0) 0 o, ne-eqb (getD w 2 0 % 65536) 0 e)
+      burst-early e = rw (past-few, o, ne-eqb (getD w 2 0 % 65536) 0 e)
 
       module _ (s : getD w 2 0 % 65536 ≡ 0) where
         pub burst-short : length g < 2048 → burst w g b ≡ saying 2 w g
         unfolding burst
-        burst-short e = simp (le-ltb (length w) 168 a, eq-eqb (getD w 3 0) 0 o, eq-eqb (getD w 2 0 % 65536) 0 s, lt-ltb (length g) 2048 e)
+        burst-short e = rw (past-few, o, s, lt-ltb (length g) 2048 e)
 
         module _ (l : 2048 ≤ length g) where
           pub burst-over : 2048 < getD w 1 0 + length b → burst w g b ≡ saying 3 (set w 2 3) g
           unfolding burst
-          burst-over e =
-              simp (
-                le-ltb (length w) 168 a,
-                eq-eqb (getD w 3 0) 0 o,
-                eq-eqb (getD w 2 0 % 65536) 0 s,
-                le-ltb (length g) 2048 l,
-                lt-ltb 2048 (getD w 1 0 + length b) e,
-              )
+          burst-over e = rw (past-few, o, s, le-ltb (length g) 2048 l, lt-ltb 2048 (getD w 1 0 + length b) e)
 
           pub burst-on : getD w 1 0 + length b ≤ 2048 → burst w g b ≡ saying 0 (set w 1 (getD w 1 0 + length b)) (put g (getD w 1 0) b)
           unfolding burst
-          burst-on e =
-              simp (
-                le-ltb (length w) 168 a,
-                eq-eqb (getD w 3 0) 0 o,
-                eq-eqb (getD w 2 0 % 65536) 0 s,
-                le-ltb (length g) 2048 l,
-                le-ltb 2048 (getD w 1 0 + length b) e,
-              )
+          burst-on e = rw (past-few, o, s, le-ltb (length g) 2048 l, le-ltb 2048 (getD w 1 0 + length b) e)
 
           pub burst-far : 2048 < getD w 1 0 → burst w g b ≡ saying 3 (set w 2 3) g
           burst-far e = burst-over (omega arith)

@@ -41,17 +41,17 @@ module _ (mac : ℕ) (f : List ℕ) (h : Header) (own : Bool) (its-own : own ≡
     unfolding headerRefusal
     refuse-13 n = rw (past-12, ← its-v, ne-eqb v 0 n)
 
-    module _ (zero : v ≡ 0) (m : ℕ) (its-m : m ≡ multi (h .word)) where
+    module _ (is-0 : v ≡ 0) (m : ℕ) (its-m : m ≡ multi (h .word)) where
       past-13 : version (h .word) ≡ 0
-      past-13 = sym its-v ∙ zero
+      past-13 = sym its-v ∙ is-0
 
       pub refuse-14 : m ≡ 1 → 14 ≡ headerRefusal mac f h
       unfolding headerRefusal
       refuse-14 e = rw (past-12, past-13, sym its-m ∙ e)
 
-      module _ (one : m ≡ 1 → ⊥) where
+      module _ (not-1 : m ≡ 1 → ⊥) where
         past-14 : eqb (multi (h .word)) 1 ≡ false
-        past-14 = rw (← its-m) (ne-eqb m 1 one)
+        past-14 = rw (← its-m) (ne-eqb m 1 not-1)
 
         pub refuse-15-zero : h .ingress ≡ 0 → 15 ≡ headerRefusal mac f h
         unfolding headerRefusal

@@ -16,8 +16,8 @@ use Rattle.rules.specs.Options.{implemented, strippable, keptOptions, oc
 use Rattle.rules.specs.Extension.{flagUnsummarized, summaryBare, extensionRead, extensionStops, areaRead, areaStops, areaSent}
 use Rattle.rules.specs.Channel.{echoRead, channelRead, silenced, returnPath, replyInner, replyRest, echoBody, errorReply, echoReply}
 use Rattle.rules.specs.Answer.{Handled}
-use Rattle.rules.specs.Handling.{forwardedRest, forwarded, onward, channelMessage, alertTo, alertOf, alerted, transit, faulted, echoed, channelled}
-use Rattle.rules.specs.Handling.{decapsulated}
+use Rattle.rules.specs.Handling.{forwardedRest, forwarded, onward, channelMessage, alertTo, alertOf}
+use Rattle.rules.specs.Handling.{alerted, transit, faulted, echoed, channelled, decapsulated}
 use Rattle.rules.specs.Handling.{routed, handling, handledWith, handled, partOf}
 use Rattle.rules.specs.Campus.{switchNamed, placeGood, valueGood, nicknameNew, roomGood, serialNew, entryKnown, fieldRefusal}
 use Rattle.rules.specs.Campus.{withNext, describedFrom, described, clockOf, repliesMade, staying, sentOn, firstWaiting, nextAfter, runFrom, plainRun}
@@ -484,8 +484,8 @@ unfolding digits pairs hex numbers ending sizes sizesIn ascii hexDigit decimalFr
     headerRefusal weAreEgress optionAt optionsFrom optionsOf some-key summarized draftRead draftStops implemented strippable
     keptOptions octetsOf stripped flagUnsummarized summaryBare extensionRead extensionStops areaRead areaStops areaSent
     echoRead channelRead silenced returnPath replyInner replyRest echoBody errorReply echoReply
-    forwardedRest forwarded onward channelMessage alertTo alertOf alerted transit faulted echoed channelled
-    decapsulated routed handling handledWith handled partOf switchNamed placeGood
+    forwardedRest forwarded onward channelMessage alertTo alertOf alerted transit faulted echoed channelled decapsulated routed
+    handling handledWith handled partOf switchNamed placeGood
     valueGood nicknameNew roomGood serialNew entryKnown fieldRefusal withNext describedFrom described clockOf
     repliesMade staying sentOn firstWaiting nextAfter runFrom plainRun
     hopReceived egressReceived entryOctets traceOctets someEdition2 traceNeeded campus

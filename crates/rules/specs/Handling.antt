@@ -8,13 +8,13 @@ use lib.Dec.{ltb, leb, eqb}
 use Rattle.rules.specs.Octets.{if_then_else_, be16, be48, octets16, part, put}
 use Rattle.rules.specs.Settings.{Ways, waysOf, settingsOf}
 use Rattle.rules.specs.Link.{link, ethertypeTag}
-use Rattle.rules.specs.Header.{version, reserved, multi, hopCount, headerWord, anyRBridge, readFrame, innerStart, areaOf, innerOf, headerRefusal}
-use Rattle.rules.specs.Header.{weAreEgress}
+use Rattle.rules.specs.Header.{version, reserved, multi, hopCount, headerWord, anyRBridge, readFrame}
+use Rattle.rules.specs.Header.{innerStart, areaOf, innerOf, headerRefusal, weAreEgress}
 use Rattle.rules.specs.Options.{WellFormed, Faulty}
 use Rattle.rules.specs.Extension.{flagsWord, criticalAlert, nonCriticalAlert, areaRead, areaStops, areaSent}
 use Rattle.rules.specs.Answer.{Handled, dropped, droppedAt, wrote, wroteBoth, delivered}
-use Rattle.rules.specs.Channel.{ethertypeChannel, ethertypeIsIs, allEgressRBridges, innerEthertype, bodyOf, replyMode, channelRead, silenced, returnPath}
-use Rattle.rules.specs.Channel.{errorReply, echoReply}
+use Rattle.rules.specs.Channel.{ethertypeChannel, ethertypeIsIs, allEgressRBridges, innerEthertype, bodyOf}
+use Rattle.rules.specs.Channel.{replyMode, channelRead, silenced, returnPath, errorReply, echoReply}
 use Rattle.rules.specs.declared.NextHop.{NextHop}
 use Rattle.rules.specs.declared.Header.{Header}
 use Rattle.rules.specs.declared.Ruling.the-variants.{Found, Absent}

@@ -1,6 +1,6 @@
 -- `main` is safe: the text written lies within its buffer. Assumes nothing.
 use borrow.Author.Needs.{needs}
-use Rattle.campus.proofs.TextLaws.{text-size}
+use Rattle.text.proofs.TextLaws.{text-size}
 use Rattle.staffripple.proofs.main.Statement.{statement}
 use Rattle.staffripple.proofs.main.Tie as tie
 

@@ -1,6 +1,6 @@
 -- `text_of` meets its contract: 73,741 octets are room for every text. Assumes nothing.
 use borrow.Author.Needs.{needs}
-use Rattle.campus.proofs.TextLaws.{text-whole}
+use Rattle.text.proofs.TextLaws.{text-whole}
 use Rattle.staffripple.proofs.text_of.Statement.{statement}
 use Rattle.staffripple.proofs.text_of.Tie as tie
 

@@ -1,0 +1,2 @@
+-- What the contracts of `text` cite beside the rules.
+pub mod Print
