@@ -29,27 +29,24 @@ module _ (own : Own) (ingress number code : ℕ) where
       let e2 : (0xC000 + code) % 256 ≡ code = omega arith in
       rw (em, ea, eb, ec, ed, ee, ef, e1, e2)
 
+  -- with what is written behind them
   module _ (at : ℕ) (d d1 d2 head : List ℕ) where
-    -- what is written behind them
-    behind : (rest : List ℕ) → d1 ≡ putFitting d at head → head ≡ replyOctets own ingress number code → d2 ≡ put d1 (at + 28) rest
-        → at + 28 + length rest ≤ length d → d2 ≡ put d at (replyOctets own ingress number code ++ rest)
-    behind rest p is q room =
-        let reply : List ℕ = replyOctets own ingress number code in
-        after d d1 d2 at (at + 28) reply rest (copied d d1 at head reply p is (omega arith)) q refl room
+    abbrev reply : List ℕ
+    reply = replyOctets own ingress number code
 
     pub error-written : (f : List ℕ) (n : ℕ) (body : List ℕ) → d2 ≡ putFitting d1 (at + 28) body → body ≡ take 128 (drop n f) → d1 ≡ putFitting d at head
         → head ≡ replyOctets own ingress number code → at + 156 ≤ length d
         → d2 ≡ put d at (replyOctets own ingress number code ++ take 128 (drop n f))
     error-written f n body q eb p is room =
         let few : length (take 128 (drop n f)) ≤ 128 = omega (arith, length-take 128 (drop n f)) in
-        let reply : List ℕ = replyOctets own ingress number code in
-        let same : length d1 ≡ length d = ap length (copied d d1 at head reply p is (omega arith)) ∙ length-put d at reply (omega arith) in
-        behind (take 128 (drop n f)) p is (copied d1 d2 (at + 28) body (take 128 (drop n f)) q eb (omega arith)) (omega arith)
+        copied-after d d1 d2 at (at + 28) reply (take 128 (drop n f)) body (copied d d1 at head reply p is (omega arith)) q eb refl (omega arith)
 
     pub echo-written : (body clock : List ℕ) → d2 ≡ put d1 (at + 28) (echoBody body clock) → d1 ≡ putFitting d at head
         → head ≡ replyOctets own ingress number code → 18 ≤ length body → length clock ≡ 6 → at + 28 + length body ≤ length d
         → d2 ≡ put d at (replyOctets own ingress number code ++ echoBody body clock)
-    echo-written body clock q p is long six room = behind (echoBody body clock) p is q (omega (arith, echo-body-length body clock long six))
+    echo-written body clock q p is long six room =
+        after d d1 d2 at (at + 28) reply (echoBody body clock) (copied d d1 at head reply p is (omega arith)) q refl
+        (omega (arith, echo-body-length body clock long six))
 
 pub ruleset reply-octets-laws = (needs, head-made)
 

@@ -39,58 +39,21 @@ module _ (a b : Bool) where
 
 pub ruleset some-alert-laws = (needs, either-first, either-second)
 
--- three tests in their order
+-- three tests in their order, as `flag_unsummarized` and `summary_bare` make them
 module _ (A A′ B B′ C C′ : Bool) (a a′ : Bool) (is-a : a ≡ A) (is-a′ : a′ ≡ A′) (x : Bool) (tx : x ≡ (a && not a′)) where
-  abbrev Three : Bool
-  Three = (A && not A′) || (B && not B′) || (C && not C′)
-
-  three-1 : x ≡ true → true ≡ Three
+  pub three-1 : x ≡ true → true ≡ ((A && not A′) || (B && not B′) || (C && not C′))
   three-1 t = rw (← is-a, ← is-a′, ← tx, t)
 
   module _ (f : x ≡ false) (b b′ : Bool) (is-b : b ≡ B) (is-b′ : b′ ≡ B′) (y : Bool) (ty : y ≡ (b && not b′)) where
-    three-2 : y ≡ true → true ≡ Three
+    pub three-2 : y ≡ true → true ≡ ((A && not A′) || (B && not B′) || (C && not C′))
     three-2 t = rw (← is-a, ← is-a′, ← tx, f, ← is-b, ← is-b′, ← ty, t)
 
-    three-3 : y ≡ false → (c c′ : Bool) → c ≡ C → c′ ≡ C′ → (z : Bool) → z ≡ (c && not c′) → z ≡ Three
+    pub three-3 : y ≡ false → (c c′ : Bool) → c ≡ C → c′ ≡ C′ → (z : Bool) → z ≡ (c && not c′) → z ≡ ((A && not A′) || (B && not B′) || (C && not C′))
     three-3 g c c′ is-c is-c′ z tz = rw (← is-a, ← is-a′, ← tx, f, ← is-b, ← is-b′, ← ty, g, ← is-c, ← is-c′) tz
 
+pub ruleset three-laws = (needs, three-1, three-2, three-3)
+
 module _ (w : ℕ) where
-  module _ (a a′ : Bool) (is-a : a ≡ E.hopByHopFlag w) (is-a′ : a′ ≡ E.crHbH w) (x : Bool) (tx : x ≡ (a && not a′)) where
-    pub unsummarized-1 : x ≡ true → true ≡ E.flagUnsummarized w
-    unfolding E.flagUnsummarized
-    unsummarized-1 = three-1 (E.hopByHopFlag w) (E.crHbH w) (E.ingressToEgressFlag w) (E.crItE w) (E.reservedFlag w) (E.crRsv w) a a′ is-a is-a′ x tx
-
-    module _ (f : x ≡ false) (b b′ : Bool) (is-b : b ≡ E.ingressToEgressFlag w) (is-b′ : b′ ≡ E.crItE w) (y : Bool) (ty : y ≡ (b && not b′)) where
-      pub unsummarized-2 : y ≡ true → true ≡ E.flagUnsummarized w
-      unfolding E.flagUnsummarized
-      unsummarized-2 =
-          three-2 (E.hopByHopFlag w) (E.crHbH w) (E.ingressToEgressFlag w) (E.crItE w) (E.reservedFlag w)
-          (E.crRsv w) a a′ is-a is-a′ x tx f b b′ is-b is-b′ y ty
-
-      pub unsummarized-3 : y ≡ false → (c c′ : Bool) → c ≡ E.reservedFlag w → c′ ≡ E.crRsv w → (z : Bool) → z ≡ (c && not c′) → z ≡ E.flagUnsummarized w
-      unfolding E.flagUnsummarized
-      unsummarized-3 =
-          three-3 (E.hopByHopFlag w) (E.crHbH w) (E.ingressToEgressFlag w) (E.crItE w) (E.reservedFlag w)
-          (E.crRsv w) a a′ is-a is-a′ x tx f b b′ is-b is-b′ y ty
-
-  module _ (a a′ : Bool) (is-a : a ≡ E.crHbH w) (is-a′ : a′ ≡ E.hopByHopFlag w) (x : Bool) (tx : x ≡ (a && not a′)) where
-    pub bare-1 : x ≡ true → true ≡ E.summaryBare w
-    unfolding E.summaryBare
-    bare-1 = three-1 (E.crHbH w) (E.hopByHopFlag w) (E.crItE w) (E.ingressToEgressFlag w) (E.crRsv w) (E.reservedFlag w) a a′ is-a is-a′ x tx
-
-    module _ (f : x ≡ false) (b b′ : Bool) (is-b : b ≡ E.crItE w) (is-b′ : b′ ≡ E.ingressToEgressFlag w) (y : Bool) (ty : y ≡ (b && not b′)) where
-      pub bare-2 : y ≡ true → true ≡ E.summaryBare w
-      unfolding E.summaryBare
-      bare-2 =
-          three-2 (E.crHbH w) (E.hopByHopFlag w) (E.crItE w) (E.ingressToEgressFlag w) (E.crRsv w)
-          (E.reservedFlag w) a a′ is-a is-a′ x tx f b b′ is-b is-b′ y ty
-
-      pub bare-3 : y ≡ false → (c c′ : Bool) → c ≡ E.crRsv w → c′ ≡ E.reservedFlag w → (z : Bool) → z ≡ (c && not c′) → z ≡ E.summaryBare w
-      unfolding E.summaryBare
-      bare-3 =
-          three-3 (E.crHbH w) (E.hopByHopFlag w) (E.crItE w) (E.ingressToEgressFlag w) (E.crRsv w)
-          (E.reservedFlag w) a a′ is-a is-a′ x tx f b b′ is-b is-b′ y ty
-
   pub refused-flag : (one : Bool) (u : Bool) → u ≡ E.flagUnsummarized w → u ≡ true → true ≡ (E.flagUnsummarized w || (one && E.summaryBare w))
   refused-flag one u e t = rw (← e, t)
 
@@ -119,10 +82,6 @@ module _ (w : ℕ) where
         pub stops-not : egress ≡ false → false ≡ E.extensionStops egress w
         unfolding E.extensionStops
         stops-not t = rw (← e, f, ← is-a, ← is-a′, ← tx, g, t, and-no)
-
-pub ruleset flag-unsummarized-laws = (needs, unsummarized-1, unsummarized-2, unsummarized-3)
-
-pub ruleset summary-bare-laws = (needs, bare-1, bare-2, bare-3)
 
 pub ruleset refused-laws = (needs, refused-flag, refused-bare, refused-long)
 
