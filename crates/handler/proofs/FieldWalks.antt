@@ -10,7 +10,7 @@ use borrow.Author.Tests.{lt-ltb, le-ltb, ltb-true, ltb-false, eq-eqb, ne-eqb, eq
 use lib.Dec.{ltb, eqb}
 use lib.ListN.{length}
 use Rattle.rules.specs.Octets.{octet, be16, be48, part}
-use Rattle.rules.specs.Fields.{Field, field, cut, fieldAt, fieldsFrom, fields}
+use Rattle.rules.specs.Fields.{Field, field, cut, fieldAt, fieldsAt, fields}
 use Rattle.rules.specs.Settings.{Settings, newer, ruling, switchOf, hopOf, withField, opened, settingsRead, waysOf}
 use Rattle.rules.specs.declared.NextHop.{NextHop}
 use Rattle.rules.specs.declared.Ruling.{Ruling}
@@ -18,7 +18,7 @@ use Rattle.rules.specs.declared.Ruling.the-variants.{Found, Absent}
 use Rattle.rules.specs.declared.FieldRead.{FieldRead}
 use Rattle.rules.specs.declared.FieldRead.the-variants.{Taken, Cut}
 use Rattle.rules.proofs.TestLaws.{by-test}
-use Rattle.rules.proofs.FieldLaws.{field-read, fields-end, fields-cut, fields-on}
+use Rattle.rules.proofs.FieldLaws.{field-read, fields-at-end, fields-at-cut, fields-at-on}
 use Rattle.handler.specs.Shapes.{ownOf, ruledBy, noFlags, flaggedBy, FoldedFrom}
 use Rattle.octets.specs.Flags.{flagTag}
 use Rattle.handler.specs.declared.judged.Flags.{Flags}
@@ -89,26 +89,18 @@ module _ (flags : Flags) (tag : ℕ) (v : List ℕ) where
 
 pub ruleset flagged-laws = (needs, flagged-strip, flagged-edition)
 
--- fuel with which the fields from `at` on, folded from `acc`, give `whole`
-pub record Left {A : Type 0} (step : A → Field → A) (s : List ℕ) (whole : A) (at : ℕ) (acc : A) : Type 0 where
-  pub fuel : ℕ
-  pub enough : length s ≤ at + fuel
-  pub gives : foldl step acc (fieldsFrom (suc fuel) s at) ≡ whole
-
 -- what the loop keeps
 pub record Folding {A : Type 0} (step : A → Field → A) (start : A) (s : List ℕ) (from at : ℕ) (acc : A) : Type 0 where
   pub within : at ≤ length s
-  pub left : (g : ℕ) → length s ≤ from + g → Left step s (foldl step start (fieldsFrom (suc g) s from)) at acc
+  pub gives : foldl step acc (fieldsAt s at) ≡ foldl step start (fieldsAt s from)
 
 module _ {A : Type 0} (step : A → Field → A) (start : A) (s : List ℕ) (from : ℕ) where
   pub fold-begin : from ≤ length s → Folding step start s from from start
-  fold-begin h = record { within = h; left = λ g k. record { fuel = g; enough = k; gives = refl } }
+  fold-begin h = record { within = h; gives = refl }
 
   module _ (at : ℕ) (acc : A) (w : Folding step start s from at acc) where
     pub fold-end : length s ≤ at → FoldedFrom step start s from acc
-    fold-end h g k =
-        let l = w .left g k in
-        ap (foldl step acc) (sym (fields-end (l .fuel) s at h)) ∙ l .gives
+    fold-end h = ap (foldl step acc) (sym (fields-at-end s at h)) ∙ w .gives
 
     module _ (h : at < length s) (read : FieldRead) (f : read ≡ fieldAt s at) where
       module _ (tag size next : ℕ) (t : read ≡ Taken tag size next) where
@@ -118,14 +110,7 @@ module _ {A : Type 0} (step : A → Field → A) (start : A) (s : List ℕ) (fro
             let the-size : next - (at + 3) ≡ size = omega (arith, i) in
             record {
               within = i .within;
-              left = λ g k.
-                  let l = w .left g k in
-                  let less : suc (l .fuel - 1) ≡ l .fuel = omega (arith, l .enough) in
-                  record {
-                    fuel = l .fuel - 1;
-                    enough = omega (arith, l .enough, i);
-                    gives = rw (a, the-size, less) (ap (foldl step acc) (sym (fields-on (l .fuel) s at tag size next h (sym f ∙ t))) ∙ l .gives);
-                  };
+              gives = rw (a, the-size) (ap (foldl step acc) (sym (fields-at-on s at tag size next h (sym f ∙ t))) ∙ w .gives);
             }
 
 -- the settings read, by the first field
@@ -146,21 +131,15 @@ module _ (s : List ℕ) where
   unfolding fields
   read-cut e =
       by-test (ltb 0 (length s))
-      (λ t. read-first cut [] (fields-cut (length s) s 0 (ltb-true 0 (length s) t) e) ∙ opened-cut)
-      (λ t. read-none (fields-end (length s) s 0 (ltb-false 0 (length s) t)))
+      (λ t. read-first cut [] (fields-at-cut s 0 (ltb-true 0 (length s) t) e) ∙ opened-cut)
+      (λ t. read-none (fields-at-end s 0 (ltb-false 0 (length s) t)))
 
   module _ {tag size next : ℕ} (e : fieldAt s 0 ≡ Taken tag size next) where
-    read-on : settingsRead s ≡ foldl withField (switchOf (part s 3 (next - 3))) (fieldsFrom (length s) s next)
+    read-on : settingsRead s ≡ foldl withField (switchOf (part s 3 (next - 3))) (fieldsAt s next)
     read-on =
         let v = part s 3 (next - 3) in
-        read-first (field tag v) (fieldsFrom (length s) s next) (first s e)
-        ∙ ap (λ (S : Settings). foldl withField S (fieldsFrom (length s) s next)) (opened-field tag v)
-
-    rest-folded : {A : Type 0} (step : A → Field → A) (start r : A) → FoldedFrom step start s next r → r ≡ foldl step start (fieldsFrom (length s) s next)
-    rest-folded step start r f =
-        let i = field-read s 0 tag size next e in
-        let less : suc (length s - 1) ≡ length s = omega (arith, i) in
-        (rw less at (f (length s - 1) (omega (arith, i))))
+        read-first (field tag v) (fieldsAt s next) (first s e)
+        ∙ ap (λ (S : Settings). foldl withField S (fieldsAt s next)) (opened-field tag v)
 
 -- what one more field does to the nickname and MAC, the flags and the record that rules
 abbrev pub flagsOf : Settings → Flags
@@ -213,20 +192,20 @@ ruling-fold d S (f ∷ fs) = ruling-fold d (withField S f) fs ∙ ap (λ (b : Ru
 -- of settings whose first field is taken
 module _ (s : List ℕ) {tag size next : ℕ} (e : fieldAt s 0 ≡ Taken tag size next) where
   own-taken : ownOf (waysOf (switchOf (part s 3 (next - 3)))) ≡ ownOf (waysOf (settingsRead s))
-  own-taken = sym (ap (λ (S : Settings). ownOf (waysOf S)) (read-on s e) ∙ own-fold (switchOf (part s 3 (next - 3))) (fieldsFrom (length s) s next))
+  own-taken = sym (ap (λ (S : Settings). ownOf (waysOf S)) (read-on s e) ∙ own-fold (switchOf (part s 3 (next - 3))) (fieldsAt s next))
 
   pub flags-read : (r : Flags) → FoldedFrom flaggedBy noFlags s next r → r ≡ flagsOf (settingsRead s)
   flags-read r f =
-      rest-folded s e flaggedBy noFlags r f
-      ∙ sym (ap flagsOf (read-on s e) ∙ flags-fold (switchOf (part s 3 (next - 3))) (fieldsFrom (length s) s next))
+      f
+      ∙ sym (ap flagsOf (read-on s e) ∙ flags-fold (switchOf (part s 3 (next - 3))) (fieldsAt s next))
 
   module _ (d : ℕ) (b : Ruling) (f : FoldedFrom (ruledBy d) Absent s next b) where
     pub rules : ruling (settingsRead s .hops) d ≡ b
     rules =
         ap (λ (S : Settings). ruling (S .hops) d) (read-on s e)
-        ∙ ruling-fold d (switchOf (part s 3 (next - 3))) (fieldsFrom (length s) s next)
-        ∙ ap (λ (c : Ruling). foldl (ruledBy d) c (fieldsFrom (length s) s next)) (ruling-none d)
-        ∙ sym (rest-folded s e (ruledBy d) Absent b f)
+        ∙ ruling-fold d (switchOf (part s 3 (next - 3))) (fieldsAt s next)
+        ∙ ap (λ (c : Ruling). foldl (ruledBy d) c (fieldsAt s next)) (ruling-none d)
+        ∙ sym f
 
 -- our nickname and MAC, as the code reads the first field
 module _ (s : List ℕ) (read : FieldRead) (is : read ≡ fieldAt s 0) where

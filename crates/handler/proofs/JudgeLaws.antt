@@ -12,14 +12,14 @@ use lib.Dec.{eqb}
 use lib.ListN.{length, take, replicate, length-replicate, length-append}
 use lib.Seq.{length-take-le}
 use Rattle.rules.specs.Octets.{part}
-use Rattle.rules.specs.Fields.{field, cut, fieldAt, fieldsFrom, lengthGood}
+use Rattle.rules.specs.Fields.{field, cut, fieldAt, fieldsAt, lengthGood}
 use Rattle.rules.specs.Settings.{Settings, hopOf, serialMet, withField, opens, opened, continues, settingsFrom, settingsOf}
 use Rattle.rules.specs.Campus.{known}
 use Rattle.rules.specs.declared.NextHop.{NextHop}
 use Rattle.rules.specs.declared.FieldRead.{FieldRead}
 use Rattle.rules.specs.declared.FieldRead.the-variants.{Taken, Cut}
 use Rattle.rules.proofs.TestLaws.{by-test, or-no}
-use Rattle.rules.proofs.FieldLaws.{field-read, fields-end, fields-cut, fields-on}
+use Rattle.rules.proofs.FieldLaws.{field-read, fields-at-end, fields-at-cut, fields-at-on}
 use Rattle.rules.proofs.SettingsLaws.{from-on, from-bad}
 use Rattle.octets.specs.Flags.{flagBy}
 use Rattle.handler.specs.Keys.{keyOf, keyMet, Kept, hopTaken, fieldTaken, withKey, keysWith, Taking, Verdict}
@@ -90,18 +90,16 @@ from-end T = refl
 -- some settings with these keys, from which the fields from `at` on decide as the whole does
 pub record Rest (s : List ℕ) (whole : Option Settings) (met : List ℕ) (at : ℕ) : Type 0 where
   pub read : Settings
-  pub fuel : ℕ
-  pub enough : length s ≤ at + fuel
-  pub decides : settingsFrom read (fieldsFrom (suc fuel) s at) ≡ whole
+  pub decides : settingsFrom read (fieldsAt s at) ≡ whole
   pub agree : Agree (read .hops) met
 
 module _ (s : List ℕ) (whole : Option Settings) (met : List ℕ) (at : ℕ) (w : Rest s whole met at) where
   rest-end : length s ≤ at → true ≡ known whole
-  rest-end h = rw (← w .decides, fields-end (w .fuel) s at h, from-end (w .read))
+  rest-end h = rw (← w .decides, fields-at-end s at h, from-end (w .read))
 
   module _ (h : at < length s) where
     rest-cut : fieldAt s at ≡ Cut → false ≡ known whole
-    rest-cut e = rw (← w .decides, fields-cut (w .fuel) s at h e, from-bad (w .read) cut [] (continues-cut (w .read)))
+    rest-cut e = rw (← w .decides, fields-at-cut s at h e, from-bad (w .read) cut [] (continues-cut (w .read)))
 
     module _ (tag size next : ℕ) (e : fieldAt s at ≡ Taken tag size next) (n : ℕ) (c : length met ≡ n) where
       judged-so : (b : Bool) → fieldTaken met n tag (part s (at + 3) size) ≡ b → continues (w .read) (field tag (part s (at + 3) size)) ≡ b
@@ -110,19 +108,15 @@ module _ (s : List ℕ) (whole : Option Settings) (met : List ℕ) (at : ℕ) (w
       rest-bad : fieldTaken met n tag (part s (at + 3) size) ≡ false → false ≡ known whole
       rest-bad g =
           let f = field tag (part s (at + 3) size) in
-          rw (← w .decides, fields-on (w .fuel) s at tag size next h e, from-bad (w .read) f (fieldsFrom (w .fuel) s next) (judged-so false g))
+          rw (← w .decides, fields-at-on s at tag size next h e, from-bad (w .read) f (fieldsAt s next) (judged-so false g))
 
       rest-on : fieldTaken met n tag (part s (at + 3) size) ≡ true → Rest s whole (keysWith met tag (part s (at + 3) size)) next
       rest-on g =
           let f = field tag (part s (at + 3) size) in
-          let i = field-read s at tag size next e in
-          let less : suc (w .fuel - 1) ≡ w .fuel = omega arith in
           record {
             read = withField (w .read) f;
-            fuel = w .fuel - 1;
-            enough = omega arith;
             decides =
-                rw (less, ← from-on (w .read) f (fieldsFrom (w .fuel) s next) (judged-so true g), ← fields-on (w .fuel) s at tag size next h e) (w .decides);
+                rw (← from-on (w .read) f (fieldsAt s next) (judged-so true g), ← fields-at-on s at tag size next h e) (w .decides);
             agree = agree-with (w .read) tag (part s (at + 3) size) met (w .agree);
           }
 
@@ -130,7 +124,7 @@ module _ (s : List ℕ) (whole : Option Settings) (met : List ℕ) (at : ℕ) (w
 pub record Judging (s : List ℕ) (from : ℕ) (keys seen : List ℕ) (n at : ℕ) : Type 0 where
   pub kept : Kept keys seen n
   pub within : at ≤ length s
-  pub rest : (T : Settings) (g : ℕ) → T .hops ≡ [] → length s ≤ from + g → Rest s (settingsFrom T (fieldsFrom (suc g) s from)) (take n keys) at
+  pub rest : (T : Settings) → T .hops ≡ [] → Rest s (settingsFrom T (fieldsAt s from)) (take n keys) at
 
 -- what the field at a place does to the first n keys
 abbrev pub Step : List ℕ → ℕ → List ℕ → ℕ → ℕ → ℕ → ℕ → List ℕ → List ℕ → Type 0
@@ -148,7 +142,7 @@ begins s from h =
             marked = λ i below. absurd (omega arith);
           };
       within = h;
-      rest = λ T g e k. record { read = T; fuel = g; enough = k; decides = refl; agree = rw e agree-none };
+      rest = λ T e. record { read = T; decides = refl; agree = rw e agree-none };
     }
 
 module _ {s : List ℕ} {from : ℕ} {keys seen : List ℕ} {n at : ℕ} (j : Judging s from keys seen n at) where
@@ -156,11 +150,11 @@ module _ {s : List ℕ} {from : ℕ} {keys seen : List ℕ} {n at : ℕ} (j : Ju
   many = length-take-le n keys (omega (arith, j .kept))
 
   pub ends : length s ≤ at → Verdict s from true
-  ends h T g e k = rest-end s (settingsFrom T (fieldsFrom (suc g) s from)) (take n keys) at (j .rest T g e k) h
+  ends h T e = rest-end s (settingsFrom T (fieldsAt s from)) (take n keys) at (j .rest T e) h
 
   module _ (h : at < length s) {read : FieldRead} (q : read ≡ fieldAt s at) where
     pub cut-off : read ≡ Cut → Verdict s from false
-    cut-off c T g e k = rest-cut s (settingsFrom T (fieldsFrom (suc g) s from)) (take n keys) at (j .rest T g e k) h (sym q ∙ c)
+    cut-off c T e = rest-cut s (settingsFrom T (fieldsAt s from)) (take n keys) at (j .rest T e) h (sym q ∙ c)
 
     module _ {tag size next : ℕ} (taken : read ≡ Taken tag size next) where
       f : fieldAt s at ≡ Taken tag size next
@@ -170,8 +164,8 @@ module _ {s : List ℕ} {from : ℕ} {keys seen : List ℕ} {n at : ℕ} (j : Ju
       the-size = omega (arith, field-read s at tag size next f)
 
       stops : {r : ℕ} {keys′ seen′ : List ℕ} → Step s at keys n tag next r keys′ seen′ → 64 < r → Verdict s from false
-      stops {r} t b T g e k =
-          rest-bad s (settingsFrom T (fieldsFrom (suc g) s from)) (take n keys) at (j .rest T g e k) h tag size next f n many
+      stops {r} t b T e =
+          rest-bad s (settingsFrom T (fieldsAt s from)) (take n keys) at (j .rest T e) h tag size next f n many
           (rw the-size at (t .judged ∙ lt-leb r 64 b))
 
       goes-on : {r : ℕ} {keys′ seen′ : List ℕ} → Step s at keys n tag next r keys′ seen′ → r ≤ 64 → Judging s from keys′ seen′ r next
@@ -179,9 +173,9 @@ module _ {s : List ℕ} {from : ℕ} {keys seen : List ℕ} {n at : ℕ} (j : Ju
           record {
             kept = t .kept b;
             within = field-read s at tag size next f .within;
-            rest = λ T g e k.
+            rest = λ T e.
                 rw (t .now-met b, the-size)
-                (rest-on s (settingsFrom T (fieldsFrom (suc g) s from)) (take n keys) at (j .rest T g e k) h tag size next f n many
+                (rest-on s (settingsFrom T (fieldsAt s from)) (take n keys) at (j .rest T e) h tag size next f n many
                 (rw the-size at (t .judged ∙ le-leb r 64 b)));
           }
 
@@ -224,7 +218,4 @@ module _ (s : List ℕ) {tag size next : ℕ} (e : fieldAt s 0 ≡ Taken tag siz
   pub settings-so : (r : Bool) → opens (field tag (part s 3 (next - 3))) ≡ true → Verdict s next r → r ≡ known (settingsOf s)
   settings-so r o d =
       let f = field tag (part s 3 (next - 3)) in
-      let i = field-read s 0 tag size next e in
-      let less : suc (length s - 1) ≡ length s = omega arith in
-      rw (settings-open s f (fieldsFrom (length s) s next) (first s e) o)
-      (rw less at (d (opened f) (length s - 1) (opened-none tag (part s 3 (next - 3))) (omega arith)))
+      rw (settings-open s f (fieldsAt s next) (first s e) o) (d (opened f) (opened-none tag (part s 3 (next - 3))))

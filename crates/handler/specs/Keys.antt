@@ -6,7 +6,7 @@ use mathlib.Core.Bool.{Bool, true, false, not, _&&_, _||_}
 use lib.ListN.{length, getD, take}
 use lib.Dec.{ltb, leb, eqb}
 use Rattle.rules.specs.Octets.{if_then_else_}
-use Rattle.rules.specs.Fields.{fieldsFrom, hopSize}
+use Rattle.rules.specs.Fields.{fieldsAt, hopSize}
 use Rattle.rules.specs.Settings.{Settings, hopGood, hopOf, hopsMost, settingsFrom, settingsOf, settingsRead, waysOf}
 use Rattle.rules.specs.Campus.{known}
 use Rattle.rules.specs.declared.NextHop.{NextHop}
@@ -71,9 +71,9 @@ pub record Taking (good : Bool) (met : List ℕ) (r : ℕ) (keys seen : List ℕ
   pub now-met : r ≤ 64 → take r keys ≡ met
   pub kept : r ≤ 64 → Kept keys seen r
 
--- r: whether the fields from a place on go with settings that have no records yet, by any fuel that reaches the end
+-- r: whether the fields from a place on go with settings that have no records yet
 abbrev pub Verdict : List ℕ → ℕ → Bool → Type 0
-Verdict s from r = (T : Settings) (g : ℕ) → T .hops ≡ [] → length s ≤ from + g → r ≡ known (settingsFrom T (fieldsFrom (suc g) s from))
+Verdict s from r = (T : Settings) → T .hops ≡ [] → r ≡ known (settingsFrom T (fieldsAt s from))
 
 -- one pass over the fields from a place on: the verdict, and what the fields say if they are good
 pub record Scanned (s : List ℕ) (from d : ℕ) (r : Scan) : Type 0 where

@@ -6,7 +6,7 @@ use mathlib.Core.Bool.{Bool, false, not, _&&_, _||_}
 use lib.ListN.{length, drop}
 use lib.Dec.{eqb}
 use Rattle.rules.specs.Octets.{if_then_else_, octet, octets16, octets48, part, put}
-use Rattle.rules.specs.Fields.{Field, field, cut, fieldsFrom}
+use Rattle.rules.specs.Fields.{Field, field, cut, fieldsAt}
 use Rattle.rules.specs.Settings.{Ways, newer, hopOf}
 use Rattle.rules.specs.Link.{ethertypeTag, ethertypeTrill}
 use Rattle.rules.specs.Header.{version, reserved, multi, hopCount, headerWord, readFrame, innerStart, innerOf}
@@ -102,9 +102,9 @@ flaggedBy flags (field tag v) =
     if eqb tag 6 then record { strip = flags .strip; rfc7179 = eqb (octet v 0) 2 }
     else flags
 
--- what the fields from a place on give, folded with any fuel that is enough for them
+-- what the fields from a place on give, folded
 abbrev pub FoldedFrom : {A : Type 0} → (A → Field → A) → A → List ℕ → ℕ → A → Type 0
-FoldedFrom step start s from r = (g : ℕ) → length s ≤ from + g → r ≡ foldl step start (fieldsFrom (suc g) s from)
+FoldedFrom step start s from r = r ≡ foldl step start (fieldsAt s from)
 
 -- the answer of whoever asks for the way out, and the buffer after it
 pub record WayDone (a : W.WayOut) (r : WayOut) (out out′ : List ℕ) : Type 0 where

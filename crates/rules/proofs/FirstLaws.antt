@@ -10,12 +10,12 @@ use borrow.Author.Tests.{ltb-true, ltb-false}
 use lib.Dec.{ltb, eqb}
 use lib.ListN.{length}
 use Rattle.rules.specs.Octets.{part}
-use Rattle.rules.specs.Fields.{Field, field, cut, fieldAt, fieldsFrom, fields}
+use Rattle.rules.specs.Fields.{Field, field, cut, fieldAt, fieldsAt, fields}
 use Rattle.rules.specs.Settings.{Settings, switchOf, withField, opens, opened, continues, settingsFrom, settingsOf}
 use Rattle.rules.specs.Campus.{known}
 use Rattle.rules.specs.declared.FieldRead.the-variants.{Taken, Cut}
 use Rattle.rules.proofs.TestLaws.{by-test}
-use Rattle.rules.proofs.FieldLaws.{field-read, fields-end, fields-cut, fields-on}
+use Rattle.rules.proofs.FieldLaws.{field-read, fields-at-end, fields-at-cut, fields-at-on}
 
 pub continues-cut : (T : Settings) → continues T cut ≡ false
 unfolding continues
@@ -47,19 +47,19 @@ pub settings-cut : (s : List ℕ) → fieldAt s 0 ≡ Cut → false ≡ known (s
 unfolding fields
 settings-cut s e =
     by-test (ltb 0 (length s))
-    (λ t. rw (settings-shut s cut [] (fields-cut (length s) s 0 (ltb-true 0 (length s) t) e) opens-cut))
-    (λ t. rw (settings-none s (fields-end (length s) s 0 (ltb-false 0 (length s) t))))
+    (λ t. rw (settings-shut s cut [] (fields-at-cut s 0 (ltb-true 0 (length s) t) e) opens-cut))
+    (λ t. rw (settings-none s (fields-at-end s 0 (ltb-false 0 (length s) t))))
 
 module _ (s : List ℕ) {tag size next : ℕ} (e : fieldAt s 0 ≡ Taken tag size next) where
-  pub first : fields s ≡ field tag (part s 3 (next - 3)) ∷ fieldsFrom (length s) s next
+  pub first : fields s ≡ field tag (part s 3 (next - 3)) ∷ fieldsAt s next
   unfolding fields
   first =
       let i = field-read s 0 tag size next e in
       let the-size : next - 3 ≡ size = omega arith in
-      rw the-size (fields-on (length s) s 0 tag size next (omega arith) e)
+      rw the-size (fields-at-on s 0 tag size next (omega arith) e)
 
   pub settings-bad : opens (field tag (part s 3 (next - 3))) ≡ false → false ≡ known (settingsOf s)
-  settings-bad o = rw (settings-shut s (field tag (part s 3 (next - 3))) (fieldsFrom (length s) s next) first o)
+  settings-bad o = rw (settings-shut s (field tag (part s 3 (next - 3))) (fieldsAt s next) first o)
 
 -- whatever is made of the nickname and the MAC, no later field changes it
 module _ {A : Type 0} (own : ℕ → ℕ → A) where

@@ -16,7 +16,7 @@ use lib.Seq.{getD-set-other, paste, paste-zero, paste-suc, take-length, drop-at}
 use Rattle.octets.proofs.Bits.{or-add}
 use Rattle.rules.specs.Octets as O
 use Rattle.rules.specs.Octets.{if_then_else_, put, octet, be16, be32, be48, part}
-use Rattle.rules.specs.Fields.{Field, field, cut, fieldAt, fieldsFrom, fields, hopSize, lengthGood}
+use Rattle.rules.specs.Fields.{Field, field, cut, fieldAt, fieldsAt, fields, hopSize, lengthGood}
 use Rattle.rules.specs.Settings as S
 use Rattle.rules.specs.Settings.{Settings, hopGood, withField, continues, settingsFrom, settingsOf, opens, opened, switchOf, waysOf, nicknameValid, macGood}
 use Rattle.rules.specs.Settings.{switchGood}
@@ -26,7 +26,7 @@ use Rattle.rules.specs.declared.FieldRead.{FieldRead}
 use Rattle.rules.specs.declared.FieldRead.the-variants.{Taken, Cut}
 use Rattle.rules.proofs.TestLaws.{by-test, and-true}
 use Rattle.rules.proofs.OctetLaws.{put-front, length-put}
-use Rattle.rules.proofs.FieldLaws.{field-read, fields-end, fields-cut, fields-on}
+use Rattle.rules.proofs.FieldLaws.{field-read, fields-at-end, fields-at-cut, fields-at-on}
 use Rattle.rules.proofs.SettingsLaws.{from-on, from-bad, from-read}
 use Rattle.rules.proofs.HandlingLaws.{settings-good}
 use Rattle.stores.specs.Store.{countIn, waysIn, storeGood, handledIn, Stands, Roomy, Filled, Fills, Hinted, preparing, Prepared}
@@ -364,29 +364,27 @@ roomy-ample w r = record { opened = omega (arith, r .size); room = λ h. omega (
 -- the fields from a place on: what is left decides as the whole does
 pub record Left (s : List ℕ) (whole : Option Settings) (w : List ℕ) (at : ℕ) : Type 0 where
   pub read : Settings
-  pub fuel : ℕ
-  pub enough : length s ≤ at + fuel
-  pub decides : settingsFrom read (fieldsFrom (suc fuel) s at) ≡ whole
+  pub decides : settingsFrom read (fieldsAt s at) ≡ whole
   pub stands : Stands w read
 
 pub record Filling (s : List ℕ) (from : ℕ) (w v : List ℕ) (at : ℕ) : Type 0 where
   pub within : at ≤ length s
   pub roomy : Roomy v
   pub size : length v ≡ length w
-  pub left : (T : Settings) (g : ℕ) → Stands w T → length s ≤ from + g → Left s (settingsFrom T (fieldsFrom (suc g) s from)) v at
+  pub left : (T : Settings) → Stands w T → Left s (settingsFrom T (fieldsAt s from)) v at
 
 module _ (s : List ℕ) (from : ℕ) (w : List ℕ) where
   pub filling-begin : from ≤ length s → Roomy w → Filling s from w w from
-  filling-begin h r = record { within = h; roomy = r; size = refl; left = λ T g t k. record { read = T; fuel = g; enough = k; decides = refl; stands = t } }
+  filling-begin h r = record { within = h; roomy = r; size = refl; left = λ T t. record { read = T; decides = refl; stands = t } }
 
   module _ (v : List ℕ) (at : ℕ) (l : Filling s from w v at) where
     pub filling-end : length s ≤ at → Fills s from w true v
     unfolding settingsFrom
     filling-end h =
         record {
-          filled = λ T g t k.
-              let r = l .left T g t k in
-              rw (← r .decides, fields-end (r .fuel) s at h) (refl, r .stands);
+          filled = λ T t.
+              let r = l .left T t in
+              rw (← r .decides, fields-at-end s at h) (refl, r .stands);
           roomy = λ e. l .roomy;
         }
 
@@ -394,9 +392,9 @@ module _ (s : List ℕ) (from : ℕ) (w : List ℕ) where
       pub filling-cut : read ≡ Cut → Fills s from w false v
       filling-cut c =
           record {
-            filled = λ T g t k.
-                let r = l .left T g t k in
-                rw (← r .decides, fields-cut (r .fuel) s at h (sym q ∙ c), from-bad (r .read) cut [] (continues-cut (r .read)));
+            filled = λ T t.
+                let r = l .left T t in
+                rw (← r .decides, fields-at-cut s at h (sym q ∙ c), from-bad (r .read) cut [] (continues-cut (r .read)));
             roomy = λ e. absurd (false≢true e);
           }
 
@@ -422,10 +420,10 @@ module _ (s : List ℕ) (from : ℕ) (w : List ℕ) where
         pub filling-bad : (r ≡ 0 → ⊥) → Fills s from w false u
         filling-bad n =
             record {
-              filled = λ T g st k.
-                  let x = l .left T g st k in
+              filled = λ T st.
+                  let x = l .left T st in
                   let bad : continues (x .read) f ≡ false = sym (judges (x .read) (x .stands)) ∙ ne-eqb r 0 n in
-                  rw (← x .decides, fields-on (x .fuel) s at tag size next h the-field, from-bad (x .read) f (fieldsFrom (x .fuel) s next) bad);
+                  rw (← x .decides, fields-at-on s at tag size next h the-field, from-bad (x .read) f (fieldsAt s next) bad);
               roomy = λ e. absurd (false≢true e);
             }
 
@@ -437,16 +435,13 @@ module _ (s : List ℕ) (from : ℕ) (w : List ℕ) where
               within = i .within;
               roomy = record { size = same ∙ l .roomy .size; most = rw (stepped .words) (extended-few v tag value (l .roomy .most)) };
               size = same ∙ l .size;
-              left = λ T g st k.
-                  let x = l .left T g st k in
-                  let less : suc (x .fuel - 1) ≡ x .fuel = omega (arith, x .enough) in
+              left = λ T st.
+                  let x = l .left T st in
                   let ok : continues (x .read) f ≡ true = sym (judges (x .read) (x .stands)) ∙ eq-eqb r 0 n in
                   record {
                     read = withField (x .read) f;
-                    fuel = x .fuel - 1;
-                    enough = omega (arith, x .enough, i);
                     decides =
-                        rw (less, ← from-on (x .read) f (fieldsFrom (x .fuel) s next) ok, ← fields-on (x .fuel) s at tag size next h the-field) (x .decides);
+                        rw (← from-on (x .read) f (fieldsAt s next) ok, ← fields-at-on s at tag size next h the-field) (x .decides);
                     stands = rw (stepped .words) (extended-stands v (x .read) (x .stands) (roomy-ample v (l .roomy)) value tag (sym (stepped .code) ∙ n));
                   };
             }
@@ -562,7 +557,7 @@ module _ (s : List ℕ) (from : ℕ) (w : List ℕ) (r : Bool) (u : List ℕ) (f
       let g : Fills s from w true u = rw (not-false r n) at f in
       let roomy = g .roomy refl in
       record {
-        filled = λ T k st e. hinted-filled u y roomy h (settingsFrom T (fieldsFrom (suc k) s from)) (g .filled T k st e);
+        filled = λ T st. hinted-filled u y roomy h (settingsFrom T (fieldsAt s from)) (g .filled T st);
         roomy = λ e. record { size = h .size ∙ roomy .size; most = omega (arith, h .before 3 (omega arith), roomy .most) };
       }
 
@@ -587,17 +582,15 @@ module _ (s : List ℕ) (read : FieldRead) (q : read ≡ fieldAt s 0) where
     pub prepare-shut : (w : List ℕ) → not o ≡ true → Filled w (settingsOf s) false
     prepare-shut w n =
         let none-is : settingsOf s ≡ none =
-        settings-shut s (field tag (part s 3 (next - 3))) (fieldsFrom (length s) s next) (first s the-first) (sym (rw held at is) ∙ not-true o n) in
+        settings-shut s (field tag (part s 3 (next - 3))) (fieldsAt s next) (first s the-first) (sym (rw held at is) ∙ not-true o n) in
         rw none-is
 
     pub prepare-filled : not o ≡ false → (w : List ℕ) → Stands w (switchOf v) → (r : Bool) (u : List ℕ) → Fills s next w r u → Filled u (settingsOf s) r
     prepare-filled n w stands r u fills =
-        let i = field-read s 0 tag size next the-first in
-        let less : suc (length s - 1) ≡ length s = omega (arith, i) in
-        let is-from : settingsOf s ≡ settingsFrom (switchOf v) (fieldsFrom (length s) s next) =
-        settings-open s (field tag (part s 3 (next - 3))) (fieldsFrom (length s) s next) (first s the-first) (sym (rw held at is) ∙ not-false o n)
-        ∙ ap (λ (T : Settings). settingsFrom T (fieldsFrom (length s) s next)) (opened-field tag (part s 3 (next - 3)) ∙ ap switchOf (sym held)) in
-        rw is-from (rw less at (fills .filled (switchOf v) (length s - 1) stands (omega (arith, i))))
+        let is-from : settingsOf s ≡ settingsFrom (switchOf v) (fieldsAt s next) =
+        settings-open s (field tag (part s 3 (next - 3))) (fieldsAt s next) (first s the-first) (sym (rw held at is) ∙ not-false o n)
+        ∙ ap (λ (T : Settings). settingsFrom T (fieldsAt s next)) (opened-field tag (part s 3 (next - 3)) ∙ ap switchOf (sym held)) in
+        rw is-from (fills .filled (switchOf v) stands)
 
 pub ruleset prepare-laws = (needs, taken, taken-first, open-stands, open-roomy, prepare-cut, prepare-shut, prepare-filled)
 

@@ -7,7 +7,7 @@ use mathlib.Core.Option.{Option, none, some}
 use lib.ListN.{length, getD, drop}
 use lib.Dec.{ltb, leb, eqb}
 use Rattle.rules.specs.Octets.{if_then_else_}
-use Rattle.rules.specs.Fields.{fieldsFrom}
+use Rattle.rules.specs.Fields.{fieldsAt}
 use Rattle.rules.specs.Settings as S
 use Rattle.rules.specs.Handling.{handledWith, handled}
 use Rattle.rules.specs.Answer as A
@@ -138,9 +138,9 @@ abbrev pub Filled : List ℕ → Option S.Settings → Bool → Type 0
 Filled w none r = r ≡ false
 Filled w (some T) r = (r ≡ true) × Stands w T
 
--- the fields from a place on, by any fuel that reaches the end
+-- the fields from a place on
 pub record Fills (s : List ℕ) (from : ℕ) (w : List ℕ) (r : Bool) (v : List ℕ) : Type 0 where
-  pub filled : (T : S.Settings) (g : ℕ) → Stands w T → length s ≤ from + g → Filled v (S.settingsFrom T (fieldsFrom (suc g) s from)) r
+  pub filled : (T : S.Settings) → Stands w T → Filled v (S.settingsFrom T (fieldsAt s from)) r
   pub roomy : r ≡ true → Roomy v
 
 -- other hints: no word before them moves
