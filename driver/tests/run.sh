@@ -50,7 +50,8 @@ counted 'staffripple sanitized' sh ../examples/check "$build/sanitized/staffripp
 results 'README.md' sh tests/readme.sh "$build"
 results 'dissector' sh tests/dissector.sh "$build"
 results 'installed' sh tests/installed.sh "$version"
-results 'checkout' sh tests/checkout.sh "$PWD/$build"
+# A job in the background ignores interrupts, which these tests send.
+results 'checkout' env --default-signal=INT sh tests/checkout.sh "$PWD/$build"
 
 failed=$(grep -c '^not ok ' "$log")
 echo "driver: $(grep -c '^ok ' "$log") passed, $failed failed"
