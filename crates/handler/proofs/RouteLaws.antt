@@ -169,7 +169,7 @@ pub ruleset alert-of-laws = (needs, alert-draft, alert-none, alert-other, alert-
 module _ {f : List ℕ} {h : Header} {stage : Ways → List ℕ → A.Handled} {r : Answer} where
   comes-answered : (a : A.Handled) → a .octets ≡ [] → a .beside ≡ [] → ((S : Ways) (clock : List ℕ) → stage S clock ≡ a) → r ≡ answerOf a
       → Comes f h stage (Answered r)
-  comes-answered a nothing alone e is = record { same = λ S B clock. e S clock ∙ rw is (answers a nothing alone); ends = rw (is, nothing, alone) (refl, refl) }
+  comes-answered a nothing alone e is = record { same = λ S clock. e S clock ∙ rw is (answers a nothing alone); ends = rw (is, nothing, alone) (refl, refl) }
     where
       written : A.Handled → List ℕ → List ℕ → A.Handled
       written a o y = record { number = a .number; octets = o; start = a .start; size = a .size; via = a .via; beside = y; besideVia = a .besideVia }
@@ -190,13 +190,13 @@ module _ (f : List ℕ) (h : Header) (inner : List ℕ) (held : inner ≡ innerO
 
   pub found-fault : (code : ℕ) → read ≡ Fault code → Ready f h → Channel (Error code)
   unfolding channelled
-  found-fault code e ready = record { same = λ S B clock. rw (found e); ends = ready }
+  found-fault code e ready = record { same = λ S clock. rw (found e); ends = ready }
 
   pub found-request : read ≡ EchoRequest → Ready f h → Channel Echo
   unfolding channelled
   found-request e ready =
       let ranged = echo-ranged (bodyOf (innerOf f h)) (channel-echo (innerOf f h) (found e)) in
-      record { same = λ S B clock. rw (found e); ends = ((ranged .0, ranged .1), ready) }
+      record { same = λ S clock. rw (found e); ends = ((ranged .0, ranged .1), ready) }
 
   module _ (r : Answer) where
     pub found-bad-err : read ≡ BadErr → r ≡ answerOf (A.dropped 26) → Channel (Answered r)
@@ -257,7 +257,7 @@ module _ (f : List ℕ) (h : Header) (inner : List ℕ) (held : inner ≡ innerO
         egress-channel t e d =
             record {
               same =
-                  λ S B clock. inner-channel S clock f h (rw held at a) (tagged b) (to-all (not-false all n)) (λ x. e (rw held at w ∙ x)) ∙ d .same S B clock;
+                  λ S clock. inner-channel S clock f h (rw held at a) (tagged b) (to-all (not-false all n)) (λ x. e (rw held at w ∙ x)) ∙ d .same S clock;
               ends = d .ends;
             }
 
@@ -308,7 +308,7 @@ module _ (nickname : ℕ) (rfc7179 : Bool) (f : List ℕ) (h : Header) (area : L
       pub route-egress : (t : Task) → egress ≡ true → Comes f h (λ S clock. decapsulated S clock f h) t → Routes nickname rfc7179 f h t
       route-egress t y d =
           record {
-            same = λ S clock named two. routed-egress S clock f h (well S two) (halted S named two x) (sym (role S named) ∙ y) ∙ d .same S S clock;
+            same = λ S clock named two. routed-egress S clock f h (well S two) (halted S named two x) (sym (role S named) ∙ y) ∙ d .same S clock;
             left = left-of t (d .ends);
             role = role-of t (d .ends);
           }

@@ -14,7 +14,7 @@ use Rattle.rules.specs.Octets.{octet, be16, part}
 use Rattle.rules.specs.Fields.{field, fieldAt}
 use Rattle.rules.specs.Settings.{Settings, Ways, newer, hopOf, opens, settingsOf, settingsRead, waysOf}
 use Rattle.rules.specs.Campus.{known}
-use Rattle.rules.specs.Handling.{routed, handled}
+use Rattle.rules.specs.Handling.{faulted, echoed, routed, handled}
 use Rattle.rules.specs.Answer as A
 use Rattle.rules.specs.declared.NextHop.{NextHop}
 use Rattle.rules.specs.declared.Ruling.{Ruling}
@@ -29,6 +29,8 @@ use Rattle.handler.specs.declared.answers.Answer.{Answer}
 use Rattle.handler.specs.declared.way.Own.{Own}
 use Rattle.handler.specs.declared.way.Told.{Told}
 use Rattle.handler.specs.declared.handling.Task.{Task}
+use Rattle.handler.specs.declared.handling.Task.the-variants.{Forward, Error, Echo}
+use Rattle.rules.specs.declared.Alert.{Alert}
 use Rattle.handler.specs.declared.handling.Received.{Received}
 use Rattle.handler.specs.declared.handling.Received.the-variants.{Answered, Trill}
 use Rattle.handler.specs.declared.judged.Flags.{Flags}
@@ -37,8 +39,8 @@ use Rattle.handler.specs.declared.judged.Scan.{Scan}
 use Rattle.handler.specs.declared.judged.Judged.{Judged}
 use Rattle.handler.specs.Keys.{hopTaken, withKey, Taking, Kept, Verdict, Scanned, JudgedBy}
 use Rattle.handler.specs.Shapes.{answerOf, droppedBy, ownOf, onlyFor, waysBy, ruledBy, noFlags, flaggedBy, Ready, Done}
-use Rattle.handler.specs.Tasks.{answerBy, quietBy, wantedBy, askedBy, alertsBy, Left, Routes, receivedBy, Receiving, AlertAnswered, Both}
-use Rattle.handler.specs.Calls.{ToldOf, RoutedBy, Answers}
+use Rattle.handler.specs.Tasks.{answerBy, wantedBy, askedBy, Forwardable, Routes, receivedBy, Receiving, Both}
+use Rattle.handler.specs.Calls.{ToldOf}
 use Rattle.rules.proofs.Taken.{taken, taken-first}
 use Rattle.rules.proofs.FirstLaws.{settings-cut, settings-bad as not-opened}
 use Rattle.octets.specs.Flags.{flagTag, flagBy}
@@ -49,7 +51,7 @@ use Rattle.handler.proofs.JudgeLaws.{Judging, keys-count, seen-count}
 use Rattle.handler.proofs.FieldWalks.{Folding, fold-begin, fold-end, fold-on, newer-other, ruled-hop, ruled-other, flagged-hop, rules, flags-read}
 use Rattle.stores.proofs.LookupLaws.{next-hop}
 use Rattle.handler.proofs.RouteLaws.{received-lent}
-use Rattle.handler.proofs.TaskLaws.{kept, tells, answers-quiet, answers-so, answers-left, answered, left-so}
+use Rattle.handler.proofs.TaskLaws.{kept, tells, task-laws, back-error, back-echo, replies-none, replies-so, replied, said-forwardable}
 
 -- what the loop keeps
 pub record Scanning (s : List ℕ) (from d : ℕ) (keys seen : List ℕ) (n : ℕ) (best : Ruling) (flags : Flags) (at : ℕ) : Type 0 where
@@ -205,14 +207,11 @@ module _ (s clock f out beside : List ℕ) (d : ℕ) (j : Judged) (is : JudgedBy
         rw same (record { answer = kept a (got .0) (got .1); after = sym (put-none out 0); after-beside = sym (put-none beside 0) })
 
     module _ (h : Header) (e : received ≡ Trill h) where
-      pub trill-told : d ≡ askedBy (own .nickname) received → ToldOf s h (j .told)
+      pub trill-told : d ≡ askedBy (own .nickname) received → ToldOf s (wantedBy (j .told .own .nickname) h) (j .told)
       trill-told wants =
-          let asked : d ≡ wantedBy (waysOf (settingsRead s) .nickname) h = rw (e, o) at wants in
           let said = is .tells (not-false (j .good) n) in
-          record {
-            good = sym (is .judged) ∙ not-false (j .good) n;
-            tells = record { its-own = ap ownOf said; told = rw asked at said };
-          }
+          let asked : d ≡ wantedBy (j .told .own .nickname) h = rw (e, o ∙ sym (ap ownOf said)) at wants in
+          record { good = sym (is .judged) ∙ not-false (j .good) n; told = rw asked at said }
 
       pub trill-good : (r : Answer) (out2 beside2 : List ℕ) → Both (routed (waysOf (settingsRead s)) clock f h) r out out2 beside beside2
           → Both answer r out out2 beside beside2
@@ -223,29 +222,48 @@ module _ (s clock f out beside : List ℕ) (d : ℕ) (j : Judged) (is : JudgedBy
 pub ruleset trill-handle-laws = (needs, received-lent, trill-bad, trill-early, trill-told, trill-good)
 
 -- what good settings have told
-module _ (s : List ℕ) (h : Header) (t : Told) (x : ToldOf s h t) where
-  pub told-routed : (f : List ℕ) (task : Task) → Routes (t .own .nickname) (t .rfc7179) f h task → RoutedBy s t f h task
-  told-routed f task routes = record { good = x .good; tells = x .tells; routes = routes }
+module _ {s : List ℕ} {d : ℕ} {t : Told} (x : ToldOf s d t) where
+  pub told-own : t .own ≡ ownOf (waysOf (settingsRead s))
+  told-own = ap ownOf (x .told)
 
-pub ruleset handle-told-laws = (needs, left-so, told-routed, answered)
+  pub told-edition : t .rfc7179 ≡ waysOf (settingsRead s) .rfc7179
+  told-edition = ap (λ (y : Ways). y .rfc7179) (x .told)
 
--- what good settings tell of the ingress
-module _ (s : List ℕ) (t : Told) (f : List ℕ) (h : Header) (task : Task) (x : RoutedBy s t f h task) where
-  pub by-own : (own : Own) → own ≡ t .own → own ≡ ownOf (waysOf (settingsRead s))
-  by-own own e = e ∙ x .tells .its-own
+  pub told-ways : waysBy t ≡ onlyFor d (waysOf (settingsRead s))
+  told-ways = x .told
 
-  pub by-quiet : (clock : List ℕ) (a : Answer) (out beside : List ℕ) (asks : Bool) → asks ≡ alertsBy task → not asks ≡ true
-      → Answers (waysOf (settingsRead s)) t clock f h task a a out out beside beside
-  by-quiet clock = answers-quiet (waysOf (settingsRead s)) t clock f h task (x .tells) (x .routes)
+-- of our role's destination
+module _ {s f : List ℕ} {h : Header} {t : Told} {task : Task} (x : ToldOf s (wantedBy (t .own .nickname) h) t)
+    (routes : Routes (t .own .nickname) (t .rfc7179) f h task) where
+  module _ (clock : List ℕ) (r : Answer) (out out1 : List ℕ) where
+    pub told-error : (code : ℕ) → task ≡ Error code → Done (faulted (waysBy t) f h code) r out out1
+        → Done (faulted (waysOf (settingsRead s)) f h code) r out out1
+    told-error code e = back-error (waysOf (settingsRead s)) f h t (rw (rw e at (routes .role)) at (x .told)) r out out1 code
 
-  module _ (j : Judged) (is : JudgedBy s (h .ingress) j) where
-    pub by-left : Left (j .told .rfc7179) f h task
-    by-left = answers-left (waysOf (settingsRead s)) t [] f h task (x .tells) (x .routes) (j .told) (is .tells (is .judged ∙ x .good))
+    pub told-echo : task ≡ Echo → Done (echoed (waysBy t) clock f h) r out out1 → Done (echoed (waysOf (settingsRead s)) clock f h) r out out1
+    told-echo e = back-echo (waysOf (settingsRead s)) f h t (rw (rw e at (routes .role)) at (x .told)) r out out1 clock
 
-    pub by-answered : (clock : List ℕ) (a r : Answer) (out out1 beside beside1 : List ℕ)
-        → AlertAnswered (waysBy (j .told)) clock f h task a r out out1 beside beside1
-        → Answers (waysOf (settingsRead s)) t clock f h task a r out out1 beside beside1
-    by-answered clock a r out out1 beside beside1 =
-        answers-so (waysOf (settingsRead s)) t clock f h task (x .tells) (x .routes) a out beside (j .told) (is .tells (is .judged ∙ x .good)) r out1 beside1
+  pub told-onward : (alert : Alert) → task ≡ Forward alert → ToldOf s (h .egress) t
+  told-onward alert e = rw (rw e at (routes .role)) at x
 
-pub ruleset answer-alert-laws = (needs, by-own, by-quiet, by-left, by-answered)
+pub ruleset handle-told-laws = (task-laws, told-own, told-edition, told-error, told-echo, told-onward)
+
+-- of the egress, and of the ingress
+pub told-good : {s : List ℕ} {d : ℕ} {t : Told} → ToldOf s d t → known (settingsOf s) ≡ true
+told-good x = x .good
+
+pub told-forwardable : {s : List ℕ} {d : ℕ} {t : Told} {f : List ℕ} {h : Header} {alert : Alert} → ToldOf s d t → Forwardable (t .rfc7179) f h alert
+    → Forwardable (waysOf (settingsRead s) .rfc7179) f h alert
+told-forwardable x y = rw (told-edition x) at y
+
+pub ruleset forward-by-laws = (needs, replied, replies-none, told-ways, told-own, told-good, told-forwardable)
+
+module _ (s : List ℕ) (d : ℕ) (j : Judged) (is : JudgedBy s d j) (good : known (settingsOf s) ≡ true) where
+  pub judged-ways : waysBy (j .told) ≡ onlyFor d (waysOf (settingsRead s))
+  judged-ways = is .tells (is .judged ∙ good)
+
+  pub judged-forwardable : (f : List ℕ) (h : Header) (alert : Alert) → Forwardable (waysOf (settingsRead s) .rfc7179) f h alert
+      → Forwardable (j .told .rfc7179) f h alert
+  judged-forwardable f h alert = said-forwardable (waysOf (settingsRead s)) (j .told) f h alert d judged-ways
+
+pub ruleset reply-by-laws = (needs, replies-so, judged-ways, judged-forwardable)

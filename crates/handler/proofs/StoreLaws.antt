@@ -25,10 +25,9 @@ use Rattle.handler.specs.declared.handling.Task.the-variants as TaskIs
 use Rattle.handler.specs.declared.handling.Received.{Received}
 use Rattle.handler.specs.declared.handling.Received.the-variants.{Answered, Trill}
 use Rattle.handler.specs.Shapes.{answerOf, droppedBy, ownOf, onlyFor, waysBy, Ready, Done}
-use Rattle.handler.specs.Calls.{RoutedIn, Answers}
-use Rattle.handler.specs.Tasks.{answerBy, quietBy, wantedBy, alertsBy, Left, Routes, receivedBy, Receiving, AlertAnswered, Both}
+use Rattle.handler.specs.Tasks.{receivedBy, Receiving, Both}
 use Rattle.handler.proofs.RouteLaws.{received-lent}
-use Rattle.handler.proofs.TaskLaws.{kept, tells, answers-quiet, answers-so, answers-left, answered}
+use Rattle.handler.proofs.TaskLaws.{kept, tells, task-laws, replies-none, replies-so, replied, said-forwardable}
 use Rattle.stores.proofs.PlaceLaws.{step-past, step-up, step-stay, place-hinted, place-searched, for-past, for-other}
 use Rattle.stores.specs.Store.{nicknameIn, countIn, valueAt, destOf, destAt, hopOf, hopAt, stepped, searched, lastAt, hintAt, placeIn, hopFor}
 use Rattle.stores.specs.Store.{waysIn, storeGood, handledIn, Whole}
@@ -118,8 +117,6 @@ module _ (w : List ℕ) (d : ℕ) where
 
 pub ruleset hint-at-laws = (needs, hint-none, hint-so)
 
-pub ruleset place-in-laws = (needs, place-hinted, place-searched)
-
 -- the record there
 module _ (w : List ℕ) (n d i : ℕ) (a : i < n) (key : ℕ) (is : key ≡ destAt w i) (b : key ≡ d)
     (r : NextHop) (e : r ≡ hopOf (getD w (4 + 2 * i) 0) (getD w (5 + 2 * i) 0)) where
@@ -146,23 +143,21 @@ pub ruleset hop-of-laws = (needs, hop-made)
 
 pub ruleset hop-for-laws = (needs, for-past, for-other, for-withdrawn, for-found)
 
-pub next-so : (w : List ℕ) (n d i : ℕ) (r : Ruling) → r ≡ hopFor w n d i → i ≡ placeIn w n d → n ≡ countIn w
-    → r ≡ hopFor w (countIn w) d (placeIn w (countIn w) d)
-next-so w n d i r e p c = e ∙ rw (p, c)
-
 module _ {w : List ℕ} (whole : Whole w) where
-  pub whole-named : getD w 0 0 < 65536
-  whole-named = whole .named
-
   pub whole-four : 4 ≤ length w
   whole-four = omega (arith, whole .long)
 
   pub whole-long : (n : ℕ) → n ≡ countIn w → 4 + 2 * n ≤ length w
   whole-long n e = omega (arith, whole .long)
 
-pub ruleset next-hop-laws = (needs, next-so, whole-four, whole-long, whole-named)
+pub ruleset place-in-laws = (needs, place-hinted, place-searched, whole-four, whole-long)
 
-pub ruleset store-told-laws = (needs, tells, whole-four)
+pub told-at : (w : List ℕ) (d i n : ℕ) (own : Own) (strip rfc7179 : Bool) (hop : Ruling) → hop ≡ hopFor w n d i → n ≡ countIn w → i ≡ placeIn w (countIn w) d
+    → own ≡ ownOf (waysIn w) → strip ≡ waysIn w .strip → rfc7179 ≡ waysIn w .rfc7179
+    → waysBy (record { own = own; strip = strip; rfc7179 = rfc7179; hop = hop }) ≡ onlyFor d (waysIn w)
+told-at w d i n own strip rfc7179 hop e c p o s t = tells (waysIn w) d own strip rfc7179 hop o s t (e ∙ rw (c, p))
+
+pub ruleset store-told-laws = (needs, told-at, whole-four, whole-long)
 
 -- the call: a bad store, and a good one
 module _ (w clock f out beside : List ℕ) (ok : Bool) (is : ok ≡ storeGood w) where
@@ -195,46 +190,8 @@ module _ (w clock f out beside : List ℕ) (ok : Bool) (is : ok ≡ storeGood w)
 pub ruleset handle-prepared-laws = (needs, received-lent, good-store, store-bad, store-early, store-done)
 
 -- a frame that was received, by a good store
-module _ (w clock f out beside : List ℕ) (h : Header) (own : Own) (o : own ≡ ownOf (waysIn w)) (two : Bool) (t2 : two ≡ waysIn w .rfc7179) (task : Task)
-    (x : Routes (own .nickname) two f h task) where
-  pub received-answered : (a : Answer) → task ≡ TaskIs.Answered a → Both (routed (waysIn w) clock f h) a out out beside beside
-  received-answered a e =
-      let left = rw e at (x .left) in
-      let same : routed (waysIn w) clock f h ≡ answerBy a = x .same (waysIn w) clock (ap (λ (y : Own). y .nickname) o) t2 ∙ rw e in
-      rw same (record { answer = kept a (left .0) (left .1); after = sym (put-none out 0); after-beside = sym (put-none beside 0) })
+pub ruleset handle-received-laws = task-laws
 
-  pub received-in : Whole w → (t : Told) (d : ℕ) → waysBy t ≡ onlyFor d (waysIn w) → d ≡ wantedBy (own .nickname) h → RoutedIn w t f h task
-  received-in whole t d said wants =
-      let asked : d ≡ wantedBy (waysIn w .nickname) h = rw o at wants in
-      let named : own .nickname ≡ t .own .nickname = ap (λ (y : Own). y .nickname) (o ∙ sym (ap ownOf said)) in
-      let same : two ≡ t .rfc7179 = t2 ∙ sym (ap (λ (y : Ways). y .rfc7179) said) in
-      record { whole = whole; tells = record { its-own = ap ownOf said; told = rw asked at said }; routes = rw (named, same) at x }
+pub ruleset forward-in-laws = (needs, replied, replies-none, said-forwardable)
 
-pub ruleset handle-received-laws = (needs, received-answered, received-in)
-
--- its task, and what is told of the ingress
-module _ (w : List ℕ) (t : Told) (f : List ℕ) (h : Header) (task : Task) (x : RoutedIn w t f h task) where
-  pub in-whole : Whole w
-  in-whole = x .whole
-
-  pub in-own : (own : Own) → own ≡ t .own → own ≡ ownOf (waysIn w)
-  in-own own e = e ∙ x .tells .its-own
-
-  pub in-task : Left (t .rfc7179) f h task
-  in-task = x .routes .left
-
-  pub in-quiet : (clock : List ℕ) (a : Answer) (out beside : List ℕ) (asks : Bool) → asks ≡ alertsBy task → not asks ≡ true
-      → Answers (waysIn w) t clock f h task a a out out beside beside
-  in-quiet clock = answers-quiet (waysIn w) t clock f h task (x .tells) (x .routes)
-
-  module _ (b : Told) (said : waysBy b ≡ onlyFor (h .ingress) (waysIn w)) where
-    pub in-left : Left (b .rfc7179) f h task
-    in-left = answers-left (waysIn w) t [] f h task (x .tells) (x .routes) b said
-
-    pub in-answered : (clock : List ℕ) (a r : Answer) (out out1 beside beside1 : List ℕ) → AlertAnswered (waysBy b) clock f h task a r out out1 beside beside1
-        → Answers (waysIn w) t clock f h task a r out out1 beside beside1
-    in-answered clock a r out out1 beside beside1 = answers-so (waysIn w) t clock f h task (x .tells) (x .routes) a out beside b said r out1 beside1
-
-pub ruleset carry-out-in-laws = (needs, in-task, answered)
-
-pub ruleset answer-alert-in-laws = (needs, in-whole, in-own, in-quiet, in-left, in-answered)
+pub ruleset reply-in-laws = (needs, replies-so, said-forwardable)

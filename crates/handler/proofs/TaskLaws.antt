@@ -36,9 +36,9 @@ use Rattle.handler.specs.declared.way.Told.{Told}
 use Rattle.handler.specs.declared.handling.Task.{Task}
 use Rattle.handler.specs.declared.handling.Task.the-variants.{Answered, Forward, Error, Echo}
 use Rattle.handler.specs.Tasks as Tasks
-use Rattle.handler.specs.Tasks.{answerBy, alertRefusal, alertQuiet, transitQuiet, quietBy, alertedBy, transitBy, doneBy, wantedBy, alertsBy, Forwardable}
+use Rattle.handler.specs.Tasks.{answerBy, alertRefusal, alertQuiet, transitQuiet, alertedBy, transitBy, transitAt, doneAt, asksBack, Forwardable}
 use Rattle.handler.specs.Tasks.{Left, Role, Routes, FaultTold, EchoAnswered, AlertAnswered, Both}
-use Rattle.handler.specs.Calls.{Tells, Answers}
+use Rattle.handler.specs.Calls.{Replies}
 use Rattle.handler.specs.Shapes.{answerOf, droppedBy, wroteBy, repliedBy, besideBy, viaOf, neighbourOf, ownOf, onlyFor, waysBy, Ready, Replied, Done}
 use Rattle.handler.proofs.StageLaws.{done-dropped, reply-few}
 
@@ -143,48 +143,36 @@ module _ {rfc7179 : Bool} {f : List ℕ} {h : Header} {alert : Alert} (x : Forwa
 
 pub ruleset transit-laws = (needs, transit-lost, transit-refused, transit-sent, forward-ready, forward-well)
 
--- a task, but for what is replied to an alert
-module _ (t : Told) (clock f : List ℕ) (h : Header) (task : Task) (out : List ℕ) where
-  pub carry-answer : (a : Answer) → task ≡ Answered a → Left (t .rfc7179) f h task → Done (quietBy (waysBy t) clock f h task) a out out
-  carry-answer a e left = rw e (record { answer = kept a (rw e at left .0) (rw e at left .1); after = sym (put-none out 0); alone = refl })
+-- the answers of a reply that is made, or not
+module _ (t : Told) (f : List ℕ) (h : Header) (n via : ℕ) (v : via ≡ neighbourOf t) (r : Answer) (out out1 : List ℕ) where
+  pub error-answered : (code : ℕ) → Replied (faulted (waysBy t) f h code .octets) n out out1 → r ≡ repliedBy 25 53 n via
+      → Done (faulted (waysBy t) f h code) r out out1
+  error-answered code p is =
+      record { answer = is ∙ rw v (fault-answer t f h n code (p .long)); after = p .after; alone = faulted-alone (waysBy t) f h code }
 
-  module _ (r : Answer) (out1 : List ℕ) where
-    pub carry-forward : (alert : Alert) → task ≡ Forward alert → Done (transitQuiet (waysBy t) f h alert) r out out1
-        → Done (quietBy (waysBy t) clock f h task) r out out1
-    carry-forward alert e d = rw e d
+  pub echo-answered : (clock : List ℕ) → Replied (echoed (waysBy t) clock f h .octets) n out out1 → r ≡ repliedBy 28 54 n via
+      → Done (echoed (waysBy t) clock f h) r out out1
+  echo-answered clock p is =
+      record { answer = is ∙ rw v (echo-answer t f h n clock (p .long)); after = p .after; alone = echoed-alone (waysBy t) clock f h }
 
-    module _ (n via : ℕ) (v : via ≡ neighbourOf t) where
-      pub carry-error : (code : ℕ) → task ≡ Error code → Replied (faulted (waysBy t) f h code .octets) n out out1 → r ≡ repliedBy 25 53 n via
-          → Done (quietBy (waysBy t) clock f h task) r out out1
-      carry-error code e p is =
-          rw e (record { answer = is ∙ rw v (fault-answer t f h n code (p .long)); after = p .after; alone = faulted-alone (waysBy t) f h code })
+pub ruleset reply-answer-laws = (needs, error-answered, echo-answered, reply-few)
 
-      pub carry-echo : task ≡ Echo → Replied (echoed (waysBy t) clock f h .octets) n out out1 → r ≡ repliedBy 28 54 n via
-          → Done (quietBy (waysBy t) clock f h task) r out out1
-      carry-echo e p is =
-          rw e (record { answer = is ∙ rw v (echo-answer t f h n clock (p .long)); after = p .after; alone = echoed-alone (waysBy t) clock f h })
-
-module _ (rfc7179 : Bool) (f : List ℕ) (h : Header) (task : Task) (left : Left rfc7179 f h task) where
+-- what is left to do
+module _ {nickname : ℕ} {rfc7179 : Bool} {f : List ℕ} {h : Header} {task : Task} (x : Routes nickname rfc7179 f h task) where
   pub left-forward : (alert : Alert) → task ≡ Forward alert → Forwardable rfc7179 f h alert
-  left-forward alert e = rw e at left
+  left-forward alert e = rw e at (x .left)
 
-  pub left-error : (code : ℕ) → task ≡ Error code → Ready f h
-  left-error code e = rw e at left
-
-  pub left-echo : task ≡ Echo → Ready f h
-  left-echo e = rw e at left .1
+  pub left-onward : (edition : Bool) → rfc7179 ≡ edition → (alert : Alert) → task ≡ Forward alert → Forwardable edition f h alert
+  left-onward edition two alert e = rw two at (left-forward alert e)
 
   pub left-18 : task ≡ Echo → 18 ≤ length (bodyOf (innerOf f h))
-  left-18 e = rw e at left .0 .0
+  left-18 e = rw e at (x .left) .0 .0
 
   pub left-530 : task ≡ Echo → length (bodyOf (innerOf f h)) ≤ 530
-  left-530 e = rw e at left .0 .1
+  left-530 e = rw e at (x .left) .0 .1
 
 pub reply-room : (out : List ℕ) → 2048 ≤ length out → 576 ≤ length out
 reply-room out h = omega arith
-
-pub ruleset carry-laws =
-    (needs, carry-answer, carry-forward, carry-error, carry-echo, left-forward, left-error, left-echo, left-18, left-530, reply-room, reply-few)
 
 -- with nothing beside it
 both-of : {a : A.Handled} {r : Answer} {out out1 : List ℕ} (beside : List ℕ) → Done a r out out1 → Both a r out out1 beside beside
@@ -221,23 +209,18 @@ module _ (b : Told) (f : List ℕ) (h : Header) (code : ℕ) (a : Answer) (out :
       go T clock before d Absent q = rw (over-lost T clock before d q) (rw (quiet-lost T clock before d q) at d)
       go T clock before d (Found r) q = absurd (omega (arith, e, numbered 25 d (quiet-fault T clock before d r q)))
 
-  pub tell-so : (a .number ≡ 21 → ⊥) → (n via : ℕ) (out1 : List ℕ) → Replied (faulted (waysBy b) f h code .octets) n out out1 → via ≡ neighbourOf b
-      → (r : Answer) → r ≡ repliedBy 25 53 n via → FaultTold (waysBy b) f h code a r out out1
-  tell-so z n via out1 p v r is = record { over = λ T clock before d. go T clock before d (T .hop (h .egress)) refl }
+  pub tell-so : (a .number ≡ 21 → ⊥) → (r : Answer) (out1 : List ℕ) → Done (faulted (waysBy b) f h code) r out out1
+      → FaultTold (waysBy b) f h code a r out out1
+  tell-so z r out1 p = record { over = λ T clock before d. go T clock before d (T .hop (h .egress)) refl }
     where
       go : (T : Ways) (clock before : List ℕ) → Done (transitQuiet T f h (AlertFault code)) a before out → (R : Ruling) → T .hop (h .egress) ≡ R
           → Done (transitBy T (waysBy b) clock f h (AlertFault code)) r before out1
       go T clock before d Absent q = absurd (z (numbered 21 d (quiet-lost T clock before d q)))
       go T clock before d (Found hop) q =
           let same : out ≡ before = rw (quiet-fault T clock before d hop q, put-none before 0) at (d .after) in
-          rw (over-fault T clock before d hop q)
-          (record {
-            answer = is ∙ rw v (fault-answer b f h n code (p .long));
-            after = rw same at (p .after);
-            alone = faulted-alone (waysBy b) f h code;
-          })
+          rw (over-fault T clock before d hop q) (rw same at p)
 
-pub ruleset tell-fault-laws = (needs, tell-21, tell-so, reply-few)
+pub ruleset tell-fault-laws = (needs, tell-21, tell-so, error-answered, reply-few)
 
 -- an echo reply beside 50
 module _ (b : Told) (clock f : List ℕ) (h : Header) (a : Answer) (beside : List ℕ) where
@@ -305,64 +288,43 @@ module _ (b : Told) (clock f : List ℕ) (h : Header) (a : Answer) (beside : Lis
 pub ruleset answer-echo-laws = (needs, echo-not, echo-so, reply-few)
 
 -- an alert that asks for no reply, and one that does
-module _ (T B : Ways) (clock f : List ℕ) (h : Header) where
-  same-transit : (alert : Alert) → alertsBy (Forward alert) ≡ false → transitQuiet T f h alert ≡ transitBy T B clock f h alert
-  unfolding transitQuiet Tasks.transitBy
-  same-transit alert e = go (T .hop (h .egress)) refl alert e
-    where
-      go : (R : Ruling) → T .hop (h .egress) ≡ R → (alert : Alert) → alertsBy (Forward alert) ≡ false → transitQuiet T f h alert ≡ transitBy T B clock f h alert
-      go Absent q alert e = rw (transitQuiet, Tasks.transitBy, q)
-      go (Found r) q NoAlert e = rw (transitQuiet, Tasks.transitBy, q)
-      go (Found r) q (AlertFault code) e = absurd (true≢false e)
-      go (Found r) q AlertErr e = rw (transitQuiet, Tasks.transitBy, q)
-      go (Found r) q AlertRequest e = absurd (true≢false e)
+same-transit : (T B : Ways) (clock f : List ℕ) (h : Header) (alert : Alert) → asksBack alert ≡ false → transitQuiet T f h alert ≡ transitBy T B clock f h alert
+unfolding transitQuiet Tasks.transitBy
+same-transit T B clock f h alert e = go (T .hop (h .egress)) refl alert e
+  where
+    go : (R : Ruling) → T .hop (h .egress) ≡ R → (alert : Alert) → asksBack alert ≡ false → transitQuiet T f h alert ≡ transitBy T B clock f h alert
+    go Absent q alert e = rw (transitQuiet, Tasks.transitBy, q)
+    go (Found r) q NoAlert e = rw (transitQuiet, Tasks.transitBy, q)
+    go (Found r) q (AlertFault code) e = absurd (true≢false e)
+    go (Found r) q AlertErr e = rw (transitQuiet, Tasks.transitBy, q)
+    go (Found r) q AlertRequest e = absurd (true≢false e)
 
-  same-quiet : (task : Task) → alertsBy task ≡ false → quietBy T clock f h task ≡ doneBy T B clock f h task
-  same-quiet (Answered a) e = refl
-  same-quiet (Forward alert) e = same-transit alert e
-  same-quiet (Error code) e = refl
-  same-quiet Echo e = refl
+module _ (B : Ways) (clock f : List ℕ) (h : Header) (alert : Alert) (a : Answer) (out beside : List ℕ) where
+  unanswered : asksBack alert ≡ false → AlertAnswered B clock f h alert a a out out beside beside
+  unanswered e = record { over = λ T before d. both-of beside (rw (same-transit T B clock f h alert e) at d) }
 
-module _ (B : Ways) (clock f : List ℕ) (h : Header) (task : Task) (a : Answer) (out beside : List ℕ) where
-  unanswered : alertsBy task ≡ false → AlertAnswered B clock f h task a a out out beside beside
-  unanswered e = record { over = λ T before d. both-of beside (rw (same-quiet T B clock f h task e) at d) }
+  pub alert-none : alert ≡ NoAlert → AlertAnswered B clock f h alert a a out out beside beside
+  alert-none e = unanswered (ap asksBack e)
 
-  pub alert-answered : (x : Answer) → task ≡ Answered x → AlertAnswered B clock f h task a a out out beside beside
-  alert-answered x e = unanswered (ap alertsBy e)
+  pub alert-err : alert ≡ AlertErr → AlertAnswered B clock f h alert a a out out beside beside
+  alert-err e = unanswered (ap asksBack e)
 
-  pub alert-error : (code : ℕ) → task ≡ Error code → AlertAnswered B clock f h task a a out out beside beside
-  alert-error code e = unanswered (ap alertsBy e)
+  pub alert-fault : (code : ℕ) → alert ≡ AlertFault code → (r : Answer) (out1 : List ℕ) → FaultTold B f h code a r out out1
+      → AlertAnswered B clock f h alert a r out out1 beside beside
+  alert-fault code e r out1 x = rw e (record { over = λ T before d. both-of beside (x .over T clock before d) })
 
-  pub alert-echo : task ≡ Echo → AlertAnswered B clock f h task a a out out beside beside
-  alert-echo e = unanswered (ap alertsBy e)
+  pub alert-request : alert ≡ AlertRequest → (r : Answer) (beside1 : List ℕ) → EchoAnswered B clock f h a r beside beside1
+      → AlertAnswered B clock f h alert a r out out beside beside1
+  alert-request e r beside1 x = rw e (record { over = λ T before d. x .over T before out d })
 
-  module _ (alert : Alert) (e : task ≡ Forward alert) where
-    pub alert-none : alert ≡ NoAlert → AlertAnswered B clock f h task a a out out beside beside
-    alert-none q = unanswered (ap alertsBy (e ∙ ap Forward q))
+module _ {rfc7179 : Bool} {f : List ℕ} {h : Header} {alert : Alert} (x : Forwardable rfc7179 f h alert) (e : alert ≡ AlertRequest) where
+  pub alert-18 : 18 ≤ length (bodyOf (innerOf f h))
+  alert-18 = rw e at (x .answerable) .0
 
-    pub alert-err : alert ≡ AlertErr → AlertAnswered B clock f h task a a out out beside beside
-    alert-err q = unanswered (ap alertsBy (e ∙ ap Forward q))
+  pub alert-530 : length (bodyOf (innerOf f h)) ≤ 530
+  alert-530 = rw e at (x .answerable) .1
 
-    pub alert-fault : (code : ℕ) → alert ≡ AlertFault code → (r : Answer) (out1 : List ℕ) → FaultTold B f h code a r out out1
-        → AlertAnswered B clock f h task a r out out1 beside beside
-    alert-fault code q r out1 x = rw (e, q) (record { over = λ T before d. both-of beside (x .over T clock before d) })
-
-    pub alert-request : alert ≡ AlertRequest → (r : Answer) (beside1 : List ℕ) → EchoAnswered B clock f h a r beside beside1
-        → AlertAnswered B clock f h task a r out out beside beside1
-    alert-request q r beside1 x = rw (e, q) (record { over = λ T before d. x .over T before out d })
-
-module _ (rfc7179 : Bool) (f : List ℕ) (h : Header) (task : Task) (left : Left rfc7179 f h task) (alert : Alert) (e : task ≡ Forward alert) where
-  pub alert-ready : Ready f h
-  alert-ready = rw e at left .is-ready
-
-  pub alert-18 : alert ≡ AlertRequest → 18 ≤ length (bodyOf (innerOf f h))
-  alert-18 q = rw (e, q) at left .answerable .0
-
-  pub alert-530 : alert ≡ AlertRequest → length (bodyOf (innerOf f h)) ≤ 530
-  alert-530 q = rw (e, q) at left .answerable .1
-
-pub ruleset answer-alert-laws =
-    (needs, alert-answered, alert-error, alert-echo, alert-none, alert-err, alert-fault, alert-request, alert-ready, alert-18, alert-530, reply-room)
+pub ruleset answer-alert-laws = (needs, alert-none, alert-err, alert-fault, alert-request, forward-ready, alert-18, alert-530, reply-room)
 
 -- the answers of a reply
 module _ (written : ℕ) (r : Answer) where
@@ -392,19 +354,6 @@ beside-some a written via z = rw (ne-eqb written 0 z)
 
 pub ruleset answer-laws = (needs, replied-none, replied-some, beside-none, beside-some)
 
--- the destinations that a task asks for are all that it asks
-asks-two : (S : Ways) (clock f : List ℕ) (h : Header) (d : ℕ) (task : Task) (B : Ways) → Role (S .nickname) h task → d ≡ wantedBy (S .nickname) h
-    → (alertsBy task ≡ true → B ≡ onlyFor (h .ingress) S)
-    → doneBy S S clock f h task ≡ doneBy (onlyFor d S) B clock f h task
-unfolding Tasks.transitBy onward faulted echoed returnPath forwarded Rules.forwardedRest E.areaSent link errorReply echoReply replyRest Ch.replyInner
-asks-two S clock f h d (Answered a) B role e back = refl
-asks-two S clock f h d (Forward NoAlert) B role e back = rw (e, role)
-asks-two S clock f h d (Forward (AlertFault code)) B role e back = rw (back refl, e, role)
-asks-two S clock f h d (Forward AlertErr) B role e back = rw (e, role)
-asks-two S clock f h d (Forward AlertRequest) B role e back = rw (back refl, e, role)
-asks-two S clock f h d (Error code) B role e back = rw (e, role)
-asks-two S clock f h d Echo B role e back = rw (e, role)
-
 pub tells : (S : Ways) (d : ℕ) (own : Own) (strip rfc7179 : Bool) (hop : Ruling) → own ≡ ownOf S → strip ≡ S .strip → rfc7179 ≡ S .rfc7179 → hop ≡ S .hop d
     → waysBy (record { own = own; strip = strip; rfc7179 = rfc7179; hop = hop }) ≡ onlyFor d S
 tells S d own strip rfc7179 hop o s t p =
@@ -415,43 +364,78 @@ tells S d own strip rfc7179 hop o s t p =
 
 pub ruleset told-laws = (needs, tells)
 
--- a frame that was received, its task carried out, at a switch that has told of the destination it asks for
-module _ (S : Ways) (t : Told) (clock f : List ℕ) (h : Header) (task : Task) (tells : Tells S h t)
-    (routes : Routes (t .own .nickname) (t .rfc7179) f h task) where
-  named : t .own .nickname ≡ S .nickname
-  named = ap (λ (y : Own). y .nickname) (tells .its-own)
+-- transit by what is told of the egress and, where an alert asks, of the ingress
+module _ (S : Ways) (clock f : List ℕ) (h : Header) where
+  asks-two : (alert : Alert) (B : Ways) → (asksBack alert ≡ true → B ≡ onlyFor (h .ingress) S)
+      → transitAt S clock f h alert ≡ transitBy (onlyFor (h .egress) S) B clock f h alert
+  unfolding Tasks.transitBy onward faulted echoed returnPath forwarded Rules.forwardedRest E.areaSent link errorReply echoReply replyRest Ch.replyInner
+  asks-two NoAlert B back = refl
+  asks-two (AlertFault code) B back = rw (back refl)
+  asks-two AlertErr B back = refl
+  asks-two AlertRequest B back = rw (back refl)
 
-  two : t .rfc7179 ≡ S .rfc7179
-  two = ap (λ (y : Ways). y .rfc7179) (tells .told)
-
-  routed-so : (B : Ways) → (alertsBy task ≡ true → B ≡ onlyFor (h .ingress) S) → routed S clock f h ≡ doneBy (waysBy t) B clock f h task
-  routed-so B back =
-      routes .same S clock named two ∙ asks-two S clock f h (wantedBy (S .nickname) h) task B (rw named at (routes .role)) refl back ∙ rw (← tells .told)
-
-  module _ (a : Answer) (out beside : List ℕ) where
-    pub answers-quiet : (asks : Bool) → asks ≡ alertsBy task → not asks ≡ true → Answers S t clock f h task a a out out beside beside
-    answers-quiet asks is n =
-        let none : alertsBy task ≡ false = sym is ∙ not-true asks n in
+  module _ (alert : Alert) (a : Answer) (out beside : List ℕ) where
+    pub replies-none : (asks : Bool) → asks ≡ asksBack alert → not asks ≡ true → Replies S clock f h alert a a out out beside beside
+    replies-none asks is n =
+        let none : asksBack alert ≡ false = sym is ∙ not-true asks n in
         record {
-          over = λ before d.
-              rw (routed-so (waysBy t) (λ e. absurd (true≢false (sym e ∙ none))))
-              (both-of beside (rw (same-quiet (waysBy t) (waysBy t) clock f h task none) at d));
+          over = λ t before said d.
+              rw (asks-two alert (waysBy t) (λ e. absurd (true≢false (sym e ∙ none))), ← said)
+              (both-of beside (rw (same-transit (waysBy t) (waysBy t) clock f h alert none) at d));
         }
 
-    pub answers-so : (b : Told) → waysBy b ≡ onlyFor (h .ingress) S → (r : Answer) (out1 beside1 : List ℕ)
-        → AlertAnswered (waysBy b) clock f h task a r out out1 beside beside1
-        → Answers S t clock f h task a r out out1 beside beside1
-    answers-so b back r out1 beside1 y = record { over = λ before d. rw (routed-so (waysBy b) (λ e. back)) (y .over (waysBy t) before d) }
+    pub replies-so : (b : Told) → waysBy b ≡ onlyFor (h .ingress) S → (r : Answer) (out1 beside1 : List ℕ)
+        → AlertAnswered (waysBy b) clock f h alert a r out out1 beside beside1 → Replies S clock f h alert a r out out1 beside beside1
+    replies-so b back r out1 beside1 x =
+        record { over = λ t before said d. rw (asks-two alert (waysBy b) (λ e. back), ← said) (x .over (waysBy t) before d) }
 
-  pub answers-left : (b : Told) → waysBy b ≡ onlyFor (h .ingress) S → Left (b .rfc7179) f h task
-  answers-left b back =
-      let same : t .rfc7179 ≡ b .rfc7179 = two ∙ sym (ap (λ (y : Ways). y .rfc7179) back) in
-      rw (← same) (routes .left)
+    pub replied : (r : Answer) (out1 beside1 : List ℕ) → Replies S clock f h alert a r out out1 beside beside1 → (t : Told) → waysBy t ≡ onlyFor (h .egress) S
+        → (before : List ℕ) → Done (transitQuiet (waysBy t) f h alert) a before out → Both (transitAt S clock f h alert) r before out1 beside beside1
+    replied r out1 beside1 x t said before d = x .over t before said d
 
-module _ {S : Ways} {t : Told} {clock f : List ℕ} {h : Header} {task : Task} {a r : Answer} {out1 out2 beside beside2 : List ℕ} where
-  pub answered : Answers S t clock f h task a r out1 out2 beside beside2 → (out : List ℕ) → Done (quietBy (waysBy t) clock f h task) a out out1
-      → Both (routed S clock f h) r out out2 beside beside2
-  answered y out quiet = y .over out quiet
+-- a reply asks for the ingress alone
+module _ (S : Ways) (f : List ℕ) (h : Header) (t : Told) (said : waysBy t ≡ onlyFor (h .ingress) S) (r : Answer) (out out1 : List ℕ) where
+  same-error : (code : ℕ) → faulted S f h code ≡ faulted (waysBy t) f h code
+  unfolding faulted returnPath errorReply replyRest Ch.replyInner link
+  same-error code = sym (ap (λ (y : Ways). faulted y f h code) said)
 
-pub left-so : {nickname : ℕ} {rfc7179 : Bool} {f : List ℕ} {h : Header} {task : Task} → Routes nickname rfc7179 f h task → Left rfc7179 f h task
-left-so x = x .left
+  pub back-error : (code : ℕ) → Done (faulted (waysBy t) f h code) r out out1 → Done (faulted S f h code) r out out1
+  back-error code d = rw (same-error code) d
+
+  same-echo : (clock : List ℕ) → echoed S clock f h ≡ echoed (waysBy t) clock f h
+  unfolding echoed returnPath echoReply replyRest Ch.replyInner link
+  same-echo clock = sym (ap (λ (y : Ways). echoed y clock f h) said)
+
+  pub back-echo : (clock : List ℕ) → Done (echoed (waysBy t) clock f h) r out out1 → Done (echoed S clock f h) r out out1
+  back-echo clock d = rw (same-echo clock) d
+
+pub ruleset back-laws = (needs, back-error, back-echo)
+
+-- what is told has the edition, and a frame can be forwarded by it
+pub said-forwardable : (S : Ways) (t : Told) (f : List ℕ) (h : Header) (alert : Alert) (d : ℕ) → waysBy t ≡ onlyFor d S → Forwardable (S .rfc7179) f h alert
+    → Forwardable (t .rfc7179) f h alert
+said-forwardable S t f h alert d said x = rw (ap (λ (y : Ways). y .rfc7179) said) x
+
+-- a frame that was received, by its task
+module _ (S : Ways) (clock f : List ℕ) (h : Header) (own : Own) (o : own ≡ ownOf S) (rfc7179 : Bool) (two : rfc7179 ≡ S .rfc7179) (task : Task)
+    (x : Routes (own .nickname) rfc7179 f h task) (r : Answer) (out beside : List ℕ) where
+  comes : routed S clock f h ≡ doneAt S clock f h task
+  comes = x .same S clock (ap (λ (y : Own). y .nickname) o) two
+
+  pub task-answered : task ≡ Answered r → Both (routed S clock f h) r out out beside beside
+  task-answered e =
+      let left = rw e at (x .left) in
+      rw (comes, e) (record { answer = kept r (left .0) (left .1); after = sym (put-none out 0); after-beside = sym (put-none beside 0) })
+
+  module _ (out1 : List ℕ) where
+    pub task-forward : (alert : Alert) → task ≡ Forward alert → (beside1 : List ℕ) → Both (transitAt S clock f h alert) r out out1 beside beside1
+        → Both (routed S clock f h) r out out1 beside beside1
+    task-forward alert e beside1 d = rw (comes, e) d
+
+    pub task-error : (code : ℕ) → task ≡ Error code → Done (faulted S f h code) r out out1 → Both (routed S clock f h) r out out1 beside beside
+    task-error code e d = rw (comes, e) (both-of beside d)
+
+    pub task-echo : task ≡ Echo → Done (echoed S clock f h) r out out1 → Both (routed S clock f h) r out out1 beside beside
+    task-echo e d = rw (comes, e) (both-of beside d)
+
+pub ruleset task-laws = (needs, task-answered, task-forward, task-error, task-echo, left-forward, left-onward, left-18, left-530, reply-room)

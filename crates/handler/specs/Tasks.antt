@@ -62,14 +62,17 @@ alertedBy T B r clock f h AlertRequest = besideOf T B r clock f h
 unfoldable pub transitBy : Ways → Ways → List ℕ → List ℕ → Header → Alert → A.Handled
 transitBy T B clock f h alert = elim (T .hop (h .egress)) [ Absent ↦ A.dropped 21 | Found r ↦ alertedBy T B r clock f h alert ]
 
--- what a task comes to at a switch
-abbrev pub doneBy : Ways → Ways → List ℕ → List ℕ → Header → Task → A.Handled
-doneBy T B clock f h (Answered a) = answerBy a
-doneBy T B clock f h (Forward alert) = transitBy T B clock f h alert
-doneBy T B clock f h (Error code) = faulted T f h code
-doneBy T B clock f h Echo = echoed T clock f h
+abbrev pub transitAt : Ways → List ℕ → List ℕ → Header → Alert → A.Handled
+transitAt S = transitBy S S
 
--- the same without what is replied to an alert: a fault is dropped while no reply tells of it
+-- what a task comes to at a switch
+abbrev pub doneAt : Ways → List ℕ → List ℕ → Header → Task → A.Handled
+doneAt S clock f h (Answered a) = answerBy a
+doneAt S clock f h (Forward alert) = transitAt S clock f h alert
+doneAt S clock f h (Error code) = faulted S f h code
+doneAt S clock f h Echo = echoed S clock f h
+
+-- transit without what is replied to an alert: a fault is dropped while no reply tells of it
 abbrev pub alertRefusal : Alert → ℕ
 alertRefusal NoAlert = 0
 alertRefusal (AlertFault code) = 25
@@ -82,12 +85,6 @@ alertQuiet T r f h alert = if eqb (alertRefusal alert) 0 then onward T r f h [] 
 unfoldable pub transitQuiet : Ways → List ℕ → Header → Alert → A.Handled
 transitQuiet T f h alert = elim (T .hop (h .egress)) [ Absent ↦ A.dropped 21 | Found r ↦ alertQuiet T r f h alert ]
 
-abbrev pub quietBy : Ways → List ℕ → List ℕ → Header → Task → A.Handled
-quietBy T clock f h (Answered a) = answerBy a
-quietBy T clock f h (Forward alert) = transitQuiet T f h alert
-quietBy T clock f h (Error code) = faulted T f h code
-quietBy T clock f h Echo = echoed T clock f h
-
 -- the one destination that it asks for by itself, and whether an alert asks for the ingress too
 abbrev pub wantedBy : ℕ → Header → ℕ
 wantedBy nickname h = if weAreEgress nickname h then h .ingress else h .egress
@@ -96,14 +93,11 @@ abbrev pub askedBy : ℕ → Received → ℕ
 askedBy nickname (R.Answered a) = 0
 askedBy nickname (R.Trill h) = wantedBy nickname h
 
-abbrev pub alertsBy : Task → Bool
-alertsBy (Answered a) = false
-alertsBy (Forward NoAlert) = false
-alertsBy (Forward (AlertFault code)) = true
-alertsBy (Forward AlertErr) = false
-alertsBy (Forward AlertRequest) = true
-alertsBy (Error code) = false
-alertsBy Echo = false
+abbrev pub asksBack : Alert → Bool
+asksBack NoAlert = false
+asksBack (AlertFault code) = true
+asksBack AlertErr = false
+asksBack AlertRequest = true
 
 -- what is known of the frame
 abbrev pub EchoIn : List ℕ → Header → Type 0
@@ -135,7 +129,7 @@ Ends f h Echo = EchoIn f h × Ready f h
 
 -- a stage of the egress comes to a task
 pub record Comes (f : List ℕ) (h : Header) (stage : Ways → List ℕ → A.Handled) (t : Task) : Type 0 where
-  pub same : (S B : Ways) (clock : List ℕ) → stage S clock ≡ doneBy S B clock f h t
+  pub same : (S : Ways) (clock : List ℕ) → stage S clock ≡ doneAt S clock f h t
   pub ends : Ends f h t
 
 -- a task is that of our role
@@ -147,7 +141,7 @@ Role nickname h Echo = weAreEgress nickname h ≡ true
 
 -- a frame that was received comes to a task, at every switch of a nickname and an edition
 pub record Routes (nickname : ℕ) (rfc7179 : Bool) (f : List ℕ) (h : Header) (t : Task) : Type 0 where
-  pub same : (S : Ways) (clock : List ℕ) → nickname ≡ S .nickname → rfc7179 ≡ S .rfc7179 → routed S clock f h ≡ doneBy S S clock f h t
+  pub same : (S : Ways) (clock : List ℕ) → nickname ≡ S .nickname → rfc7179 ≡ S .rfc7179 → routed S clock f h ≡ doneAt S clock f h t
   pub left : Left rfc7179 f h t
   pub role : Role nickname h t
 
@@ -189,5 +183,5 @@ pub record EchoAnswered (B : Ways) (clock f : List ℕ) (h : Header) (a r : Answ
   pub over : (T : Ways) (before out : List ℕ) → Done (transitQuiet T f h AlertRequest) a before out
       → Both (transitBy T B clock f h AlertRequest) r before out beside beside′
 
-pub record AlertAnswered (B : Ways) (clock f : List ℕ) (h : Header) (task : Task) (a r : Answer) (out out′ beside beside′ : List ℕ) : Type 0 where
-  pub over : (T : Ways) (before : List ℕ) → Done (quietBy T clock f h task) a before out → Both (doneBy T B clock f h task) r before out′ beside beside′
+pub record AlertAnswered (B : Ways) (clock f : List ℕ) (h : Header) (alert : Alert) (a r : Answer) (out out′ beside beside′ : List ℕ) : Type 0 where
+  pub over : (T : Ways) (before : List ℕ) → Done (transitQuiet T f h alert) a before out → Both (transitBy T B clock f h alert) r before out′ beside beside′

@@ -30,7 +30,7 @@ ghost use Rattle.rules.specs.Channel.{bodyOf, channelRead};
 ghost use Rattle.rules.specs.Handling as Rules;
 ghost use Rattle.rules.specs.declared.FrameRead.the-variants.{Trill};
 ghost use Rattle.handler.specs.Shapes.{Ready, Replied, Done, waysBy};
-ghost use Rattle.handler.specs.Tasks.{ReadBy, stopsBy, alertBy, alertRefusal, wantedBy, askedBy, alertsBy, transitQuiet, quietBy, FaultTold, EchoAnswered, AlertAnswered, Forwardable, Left, Comes, Routes, Receives, Receiving};
+ghost use Rattle.handler.specs.Tasks.{ReadBy, stopsBy, alertBy, alertRefusal, wantedBy, askedBy, asksBack, transitQuiet, EchoIn, FaultTold, EchoAnswered, AlertAnswered, Forwardable, Comes, Routes, Receives, Receiving};
 
 // A frame as received: an answer with nothing written, or a TRILL frame of which none of 10 to 18 is given.
 pub enum Received {
@@ -285,19 +285,14 @@ pub fn asked(nickname: u16, received: Received) -> u16
 }
 
 // Whether a reply beside, or in place of, a forwarded frame asks for the next hop of the ingress too.
-pub fn alerts(task: Task) -> bool
-    ensures { λ r. ⌜ r ≡ alertsBy task ⌝ }
+pub fn asks_back(alert: Alert) -> bool
+    ensures { λ r. ⌜ r ≡ asksBack alert ⌝ }
 {
-    match task {
-        Task::Answered(_) => false,
-        Task::Forward(alert) => match alert {
-            Alert::NoAlert => false,
-            Alert::AlertFault { code: _ } => true,
-            Alert::AlertErr => false,
-            Alert::AlertRequest => true,
-        },
-        Task::Error { code: _ } => false,
-        Task::Echo => false,
+    match alert {
+        Alert::NoAlert => false,
+        Alert::AlertFault { code: _ } => true,
+        Alert::AlertErr => false,
+        Alert::AlertRequest => true,
     }
 }
 
@@ -314,7 +309,7 @@ fn alert_refusal(alert: Alert) -> u8
 }
 
 // 21, 25 and 26, 29 and 50, without what is replied to an alert.
-fn transit(t: Told, f: &[u8], h: Header, alert: Alert, out: &mut [u8]) -> Answer
+pub fn transit(t: Told, f: &[u8], h: Header, alert: Alert, out: &mut [u8]) -> Answer
     requires { ⌜ Forwardable (t .rfc7179) (now f) h alert × (2048 ≤ length (now out)) ⌝ }
     ensures { λ r. ⌜ Done (transitQuiet (waysBy t) (now (f .entry)) h alert) r (now (out .entry)) (now (out .exit)) ⌝ }
 {
@@ -413,7 +408,7 @@ fn faulted(t: Told, f: &[u8], h: Header, code: u8, out: &mut [u8]) -> usize
 
 // The reply of 54 and how long it is, 0 for 28.
 fn echoed(t: Told, clock: &[u8], f: &[u8], h: Header, out: &mut [u8]) -> usize
-    requires { ⌜ (18 ≤ length (bodyOf (innerOf (now f) h))) × (length (bodyOf (innerOf (now f) h)) ≤ 530) × (length (now clock) ≡ 6) × Ready (now f) h × (576 ≤ length (now out)) ⌝ }
+    requires { ⌜ EchoIn (now f) h × (length (now clock) ≡ 6) × Ready (now f) h × (576 ≤ length (now out)) ⌝ }
     ensures { λ n. ⌜ Replied (Rules.echoed (waysBy t) (now (clock .entry)) (now (f .entry)) h .octets) n (now (out .entry)) (now (out .exit)) ⌝ }
 {
     let start = header::inner_start(h) + 22;
@@ -428,23 +423,22 @@ fn echoed(t: Told, clock: &[u8], f: &[u8], h: Header, out: &mut [u8]) -> usize
     reply::echo_reply(t, r, h, clock, body, out)
 }
 
-// What is done with a frame once the next hop is told, but for what is replied to an alert.
-pub fn carry_out(t: Told, clock: &[u8], f: &[u8], h: Header, task: Task, out: &mut [u8]) -> Answer
-    requires { ⌜ Left (t .rfc7179) (now f) h task × (length (now clock) ≡ 6) × (2048 ≤ length (now out)) ⌝ }
-    ensures { λ r. ⌜ Done (quietBy (waysBy t) (now (clock .entry)) (now (f .entry)) h task) r (now (out .entry)) (now (out .exit)) ⌝ }
+// 53, or 25.
+pub fn error_answer(t: Told, f: &[u8], h: Header, code: u8, out: &mut [u8]) -> Answer
+    requires { ⌜ Ready (now f) h × (576 ≤ length (now out)) ⌝ }
+    ensures { λ r. ⌜ Done (Rules.faulted (waysBy t) (now (f .entry)) h code) r (now (out .entry)) (now (out .exit)) ⌝ }
 {
-    match task {
-        Task::Answered(a) => a,
-        Task::Forward(alert) => transit(t, f, h, alert, out),
-        Task::Error { code } => {
-            let n = faulted(t, f, h, code, out);
-            answers::replied(25, 53, n, way::neighbour(t))
-        }
-        Task::Echo => {
-            let n = echoed(t, clock, f, h, out);
-            answers::replied(28, 54, n, way::neighbour(t))
-        }
-    }
+    let n = faulted(t, f, h, code, out);
+    answers::replied(25, 53, n, way::neighbour(t))
+}
+
+// 54, or 28.
+pub fn echo_answer(t: Told, clock: &[u8], f: &[u8], h: Header, out: &mut [u8]) -> Answer
+    requires { ⌜ EchoIn (now f) h × (length (now clock) ≡ 6) × Ready (now f) h × (576 ≤ length (now out)) ⌝ }
+    ensures { λ r. ⌜ Done (Rules.echoed (waysBy t) (now (clock .entry)) (now (f .entry)) h) r (now (out .entry)) (now (out .exit)) ⌝ }
+{
+    let n = echoed(t, clock, f, h, out);
+    answers::replied(28, 54, n, way::neighbour(t))
 }
 
 // 53 or 25 in place of 50, once there is a next hop; `b` is told of the ingress.
@@ -461,7 +455,7 @@ fn tell_fault(a: Answer, b: Told, f: &[u8], h: Header, code: u8, out: &mut [u8])
 
 // An echo reply beside 50.
 fn answer_echo(a: Answer, b: Told, clock: &[u8], f: &[u8], h: Header, beside: &mut [u8]) -> Answer
-    requires { ⌜ (18 ≤ length (bodyOf (innerOf (now f) h))) × (length (bodyOf (innerOf (now f) h)) ≤ 530) × (length (now clock) ≡ 6) × Ready (now f) h × (576 ≤ length (now beside)) ⌝ }
+    requires { ⌜ EchoIn (now f) h × (length (now clock) ≡ 6) × Ready (now f) h × (576 ≤ length (now beside)) ⌝ }
     ensures { λ r. ⌜ EchoAnswered (waysBy b) (now (clock .entry)) (now (f .entry)) h a r (now (beside .entry)) (now (beside .exit)) ⌝ }
 {
     if a.number != 50 {
@@ -478,22 +472,17 @@ pub fn answer_alert(
     clock: &[u8],
     f: &[u8],
     h: Header,
-    task: Task,
+    alert: Alert,
     out: &mut [u8],
     beside: &mut [u8],
 ) -> Answer
-    requires { ⌜ Left (b .rfc7179) (now f) h task × (length (now clock) ≡ 6) × (2048 ≤ length (now out)) × (576 ≤ length (now beside)) ⌝ }
-    ensures { λ r. ⌜ AlertAnswered (waysBy b) (now (clock .entry)) (now (f .entry)) h task a r (now (out .entry)) (now (out .exit)) (now (beside .entry)) (now (beside .exit)) ⌝ }
+    requires { ⌜ Forwardable (b .rfc7179) (now f) h alert × (length (now clock) ≡ 6) × (2048 ≤ length (now out)) × (576 ≤ length (now beside)) ⌝ }
+    ensures { λ r. ⌜ AlertAnswered (waysBy b) (now (clock .entry)) (now (f .entry)) h alert a r (now (out .entry)) (now (out .exit)) (now (beside .entry)) (now (beside .exit)) ⌝ }
 {
-    match task {
-        Task::Answered(_) => a,
-        Task::Forward(alert) => match alert {
-            Alert::NoAlert => a,
-            Alert::AlertFault { code } => tell_fault(a, b, f, h, code, out),
-            Alert::AlertErr => a,
-            Alert::AlertRequest => answer_echo(a, b, clock, f, h, beside),
-        },
-        Task::Error { code: _ } => a,
-        Task::Echo => a,
+    match alert {
+        Alert::NoAlert => a,
+        Alert::AlertFault { code } => tell_fault(a, b, f, h, code, out),
+        Alert::AlertErr => a,
+        Alert::AlertRequest => answer_echo(a, b, clock, f, h, beside),
     }
 }

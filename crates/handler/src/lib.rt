@@ -18,18 +18,21 @@ use crate::handling::Task;
 use crate::way::Own;
 use crate::way::Told;
 pub use answers::Answer;
+use rules::Alert;
 use rules::Header;
 pub use way::WayOut;
 ghost use mathlib.Core.Path.{_≡_};
 ghost use Prim.Native.Nat.{_≤_};
 ghost use lib.ListN.{length};
 ghost use Rattle.rules.specs.WayOut.{wayOut};
-ghost use Rattle.rules.specs.Settings.{settingsRead, waysOf};
-ghost use Rattle.rules.specs.Handling.{handled, routed};
+ghost use mathlib.Core.Bool.{true};
+ghost use Rattle.rules.specs.Settings.{settingsOf, settingsRead, waysOf};
+ghost use Rattle.rules.specs.Campus.{known};
+ghost use Rattle.rules.specs.Handling.{faulted, echoed, routed, handled};
 ghost use Rattle.stores.specs.Store.{handledIn, wayOutIn, waysIn, Whole};
-ghost use Rattle.handler.specs.Shapes.{ownOf, Ready, WayDone};
-ghost use Rattle.handler.specs.Tasks.{Both};
-ghost use Rattle.handler.specs.Calls.{ToldOf, RoutedBy, RoutedIn, Answers};
+ghost use Rattle.handler.specs.Shapes.{ownOf, Ready, Done, WayDone};
+ghost use Rattle.handler.specs.Tasks.{EchoIn, Forwardable, wantedBy, transitAt, Both};
+ghost use Rattle.handler.specs.Calls.{ToldOf, Replies};
 
 #[no_mangle]
 pub extern "C" fn trill_handle(
@@ -64,37 +67,59 @@ fn handle_told(
     out: &mut [u8],
     beside: &mut [u8],
 ) -> Answer
-    requires { ⌜ ToldOf (now settings) h t × Ready (now frame) h × (length (now clock) ≡ 6) × (2048 ≤ length (now out)) × (576 ≤ length (now beside)) ⌝ }
+    requires { ⌜ ToldOf (now settings) (wantedBy (t .own .nickname) h) t × Ready (now frame) h × (length (now clock) ≡ 6) × (2048 ≤ length (now out)) × (576 ≤ length (now beside)) ⌝ }
     ensures { λ r. ⌜ Both (routed (waysOf (settingsRead (now (settings .entry)))) (now (clock .entry)) (now (frame .entry)) h) r (now (out .entry)) (now (out .exit)) (now (beside .entry)) (now (beside .exit)) ⌝ }
 {
     let task = handling::route(t.own.nickname, t.rfc7179, frame, h);
-    let a = handling::carry_out(t, clock, frame, h, task, out);
-    answer_alert(settings, t, a, clock, frame, h, task, out, beside)
+    match task {
+        Task::Answered(a) => a,
+        Task::Forward(alert) => forward_by(settings, t, clock, frame, h, alert, out, beside),
+        Task::Error { code } => handling::error_answer(t, frame, h, code, out),
+        Task::Echo => handling::echo_answer(t, clock, frame, h, out),
+    }
 }
 
-// With what is replied to an alert that asks for a reply.
-fn answer_alert(
+// A transit frame; an alert may ask for a reply too.
+fn forward_by(
     settings: &[u8],
     t: Told,
+    clock: &[u8],
+    frame: &[u8],
+    h: Header,
+    alert: Alert,
+    out: &mut [u8],
+    beside: &mut [u8],
+) -> Answer
+    requires { ⌜ ToldOf (now settings) (h .egress) t × Forwardable (t .rfc7179) (now frame) h alert × (length (now clock) ≡ 6) × (2048 ≤ length (now out)) × (576 ≤ length (now beside)) ⌝ }
+    ensures { λ r. ⌜ Both (transitAt (waysOf (settingsRead (now (settings .entry)))) (now (clock .entry)) (now (frame .entry)) h alert) r (now (out .entry)) (now (out .exit)) (now (beside .entry)) (now (beside .exit)) ⌝ }
+{
+    let a = handling::transit(t, frame, h, alert, out);
+    if !handling::asks_back(alert) {
+        return a;
+    }
+    reply_by(settings, t.own, a, clock, frame, h, alert, out, beside)
+}
+
+// With what is replied to its alert.
+fn reply_by(
+    settings: &[u8],
+    own: Own,
     a: Answer,
     clock: &[u8],
     frame: &[u8],
     h: Header,
-    task: Task,
+    alert: Alert,
     out: &mut [u8],
     beside: &mut [u8],
 ) -> Answer
-    requires { ⌜ RoutedBy (now settings) t (now frame) h task × (length (now clock) ≡ 6) × (2048 ≤ length (now out)) × (576 ≤ length (now beside)) ⌝ }
-    ensures { λ r. ⌜ Answers (waysOf (settingsRead (now (settings .entry)))) t (now (clock .entry)) (now (frame .entry)) h task a r
+    requires { ⌜ (known (settingsOf (now settings)) ≡ true) × (own ≡ ownOf (waysOf (settingsRead (now settings))))
+        × Forwardable (waysOf (settingsRead (now settings)) .rfc7179) (now frame) h alert × (length (now clock) ≡ 6) × (2048 ≤ length (now out)) × (576 ≤ length (now beside)) ⌝ }
+    ensures { λ r. ⌜ Replies (waysOf (settingsRead (now (settings .entry)))) (now (clock .entry)) (now (frame .entry)) h alert a r
         (now (out .entry)) (now (out .exit)) (now (beside .entry)) (now (beside .exit)) ⌝ }
 {
-    if !handling::alerts(task) {
-        return a;
-    }
-    let own = t.own;
     let j = judged::judge(settings, own, h.ingress);
     let b = j.told;
-    handling::answer_alert(a, b, clock, frame, h, task, out, beside)
+    handling::answer_alert(a, b, clock, frame, h, alert, out, beside)
 }
 
 // The handling of a frame by a store.
@@ -132,52 +157,76 @@ fn handle_received(
     ensures { λ r. ⌜ Both (routed (waysIn (now (store .entry))) (now (clock .entry)) (now (frame .entry)) h) r (now (out .entry)) (now (out .exit)) (now (beside .entry)) (now (beside .exit)) ⌝ }
 {
     let task = handling::route(own.nickname, store::rfc7179(store), frame, h);
-    if let Task::Answered(a) = task {
-        return a;
+    match task {
+        Task::Answered(a) => a,
+        Task::Forward(alert) => forward_in(store, own, clock, frame, h, alert, out, beside),
+        Task::Error { code } => error_in(store, own, frame, h, code, out),
+        Task::Echo => echo_in(store, own, clock, frame, h, out),
     }
-    let t = store::told(store, own, handling::wanted(own.nickname, h));
-    carry_out_in(store, t, clock, frame, h, task, out, beside)
 }
 
-// Its task, by what the store tells.
-fn carry_out_in(
+// 53, or 25.
+fn error_in(store: &[u64], own: Own, frame: &[u8], h: Header, code: u8, out: &mut [u8]) -> Answer
+    requires { ⌜ Whole (now store) × (own ≡ ownOf (waysIn (now store))) × Ready (now frame) h × (576 ≤ length (now out)) ⌝ }
+    ensures { λ r. ⌜ Done (faulted (waysIn (now (store .entry))) (now (frame .entry)) h code) r (now (out .entry)) (now (out .exit)) ⌝ }
+{
+    let place = store::place_in(store, h.ingress);
+    let t = store::told(store, own, h.ingress, place);
+    handling::error_answer(t, frame, h, code, out)
+}
+
+// 54, or 28.
+fn echo_in(store: &[u64], own: Own, clock: &[u8], frame: &[u8], h: Header, out: &mut [u8]) -> Answer
+    requires { ⌜ Whole (now store) × (own ≡ ownOf (waysIn (now store))) × EchoIn (now frame) h × (length (now clock) ≡ 6) × Ready (now frame) h × (576 ≤ length (now out)) ⌝ }
+    ensures { λ r. ⌜ Done (echoed (waysIn (now (store .entry))) (now (clock .entry)) (now (frame .entry)) h) r (now (out .entry)) (now (out .exit)) ⌝ }
+{
+    let place = store::place_in(store, h.ingress);
+    let t = store::told(store, own, h.ingress, place);
+    handling::echo_answer(t, clock, frame, h, out)
+}
+
+// A transit frame; an alert may ask for a reply too.
+fn forward_in(
     store: &[u64],
-    t: Told,
+    own: Own,
     clock: &[u8],
     frame: &[u8],
     h: Header,
-    task: Task,
+    alert: Alert,
     out: &mut [u8],
     beside: &mut [u8],
 ) -> Answer
-    requires { ⌜ RoutedIn (now store) t (now frame) h task × (length (now clock) ≡ 6) × (2048 ≤ length (now out)) × (576 ≤ length (now beside)) ⌝ }
-    ensures { λ r. ⌜ Both (routed (waysIn (now (store .entry))) (now (clock .entry)) (now (frame .entry)) h) r (now (out .entry)) (now (out .exit)) (now (beside .entry)) (now (beside .exit)) ⌝ }
+    requires { ⌜ Whole (now store) × (own ≡ ownOf (waysIn (now store))) × Forwardable (waysIn (now store) .rfc7179) (now frame) h alert × (length (now clock) ≡ 6) × (2048 ≤ length (now out)) × (576 ≤ length (now beside)) ⌝ }
+    ensures { λ r. ⌜ Both (transitAt (waysIn (now (store .entry))) (now (clock .entry)) (now (frame .entry)) h alert) r (now (out .entry)) (now (out .exit)) (now (beside .entry)) (now (beside .exit)) ⌝ }
 {
-    let a = handling::carry_out(t, clock, frame, h, task, out);
-    answer_alert_in(store, t, a, clock, frame, h, task, out, beside)
+    let place = store::place_in(store, h.egress);
+    let t = store::told(store, own, h.egress, place);
+    let a = handling::transit(t, frame, h, alert, out);
+    if !handling::asks_back(alert) {
+        return a;
+    }
+    reply_in(store, own, a, clock, frame, h, alert, out, beside)
 }
 
-fn answer_alert_in(
+// With what is replied to its alert.
+fn reply_in(
     store: &[u64],
-    t: Told,
+    own: Own,
     a: Answer,
     clock: &[u8],
     frame: &[u8],
     h: Header,
-    task: Task,
+    alert: Alert,
     out: &mut [u8],
     beside: &mut [u8],
 ) -> Answer
-    requires { ⌜ RoutedIn (now store) t (now frame) h task × (length (now clock) ≡ 6) × (2048 ≤ length (now out)) × (576 ≤ length (now beside)) ⌝ }
-    ensures { λ r. ⌜ Answers (waysIn (now (store .entry))) t (now (clock .entry)) (now (frame .entry)) h task a r
+    requires { ⌜ Whole (now store) × (own ≡ ownOf (waysIn (now store))) × Forwardable (waysIn (now store) .rfc7179) (now frame) h alert × (length (now clock) ≡ 6) × (2048 ≤ length (now out)) × (576 ≤ length (now beside)) ⌝ }
+    ensures { λ r. ⌜ Replies (waysIn (now (store .entry))) (now (clock .entry)) (now (frame .entry)) h alert a r
         (now (out .entry)) (now (out .exit)) (now (beside .entry)) (now (beside .exit)) ⌝ }
 {
-    if !handling::alerts(task) {
-        return a;
-    }
-    let own = t.own;
-    let b = store::told(store, own, h.ingress);
-    handling::answer_alert(a, b, clock, frame, h, task, out, beside)
+    let place = store::place_in(store, h.ingress);
+    let b = store::told(store, own, h.ingress, place);
+    handling::answer_alert(a, b, clock, frame, h, alert, out, beside)
 }
 
 // T-11: the link header towards a destination; 1, 21 or 2 where there is none.
@@ -201,5 +250,7 @@ pub fn way_out_prepared(store: &[u64], destination: u16, out: &mut [u8]) -> WayO
         return way::no_way(1);
     }
     let own = store::own_of(store);
-    way::way_out(store::told(store, own, destination), out)
+    let place = store::place_in(store, destination);
+    let t = store::told(store, own, destination, place);
+    way::way_out(t, out)
 }

@@ -9,7 +9,7 @@ ghost use mathlib.Core.Path.{_≡_};
 ghost use Prim.Native.Nat.{_+_, _*_, _/_, _%_, _^_, _≤_, _<_};
 ghost use lib.ListN.{length, getD};
 ghost use Rattle.handler.specs.Shapes.{ownOf, waysBy, onlyFor};
-ghost use Rattle.stores.specs.Store.{destOf, destAt, hopOf, stepped, searched, lastAt, hintAt, placeIn, hopFor, waysIn, storeGood, Whole};
+ghost use Rattle.stores.specs.Store.{destOf, destAt, hopOf, stepped, searched, lastAt, hintAt, countIn, placeIn, hopFor, waysIn, storeGood, Whole};
 
 // Words of any kind: a valid nickname, and no more records than 64 and than there are words for.
 pub fn good(w: &[u64]) -> bool
@@ -110,11 +110,12 @@ fn hint_at(w: &[u64], d: u16) -> usize
     hint_in(w[132 + (d % 256 / 8) as usize], (d % 8 * 8) as u32)
 }
 
-// A hint only spares the search.
-fn place_in(w: &[u64], n: usize, d: u16) -> usize
-    requires { ⌜ 4 + 2 * n ≤ length (now w) ⌝ }
-    ensures { λ r. ⌜ r ≡ placeIn (now (w .entry)) n d ⌝ }
+// Where the record that rules for `d` is, if there is one. A hint only spares the search.
+pub fn place_in(w: &[u64], d: u16) -> usize
+    requires { ⌜ Whole (now w) ⌝ }
+    ensures { λ r. ⌜ r ≡ placeIn (now (w .entry)) (countIn (now (w .entry))) d ⌝ }
 {
+    let n = w[3] as usize;
     let i = hint_at(w, d);
     if last_at(w, n, d, i) {
         return i;
@@ -151,14 +152,6 @@ fn hop_for(w: &[u64], n: usize, d: u16, i: usize) -> Ruling
     Ruling::Found(r)
 }
 
-fn next_hop(w: &[u64], d: u16) -> Ruling
-    requires { ⌜ Whole (now w) ⌝ }
-    ensures { λ r. ⌜ r ≡ waysIn (now (w .entry)) .hop d ⌝ }
-{
-    let n = w[3] as usize;
-    hop_for(w, n, d, place_in(w, n, d))
-}
-
 pub fn rfc7179(w: &[u64]) -> bool
     requires { ⌜ Whole (now w) ⌝ }
     ensures { λ r. ⌜ r ≡ waysIn (now (w .entry)) .rfc7179 ⌝ }
@@ -166,15 +159,16 @@ pub fn rfc7179(w: &[u64]) -> bool
     w[2] / 2 % 2 == 1
 }
 
-// What a handling is told that asks for the next hop of `d`.
-pub fn told(w: &[u64], own: Own, d: u16) -> Told
-    requires { ⌜ Whole (now w) × (own ≡ ownOf (waysIn (now w))) ⌝ }
+// What a handling is told that asks for the next hop of `d`, by its place. Places are searched in one function and the rest is made where it
+// is used, in registers.
+pub fn told(w: &[u64], own: Own, d: u16, place: usize) -> Told
+    requires { ⌜ Whole (now w) × (own ≡ ownOf (waysIn (now w))) × (place ≡ placeIn (now w) (countIn (now w)) d) ⌝ }
     ensures { λ r. ⌜ waysBy r ≡ onlyFor d (waysIn (now (w .entry))) ⌝ }
 {
     Told {
         own: own,
         strip: w[2] % 2 == 1,
         rfc7179: rfc7179(w),
-        hop: next_hop(w, d),
+        hop: hop_for(w, w[3] as usize, d, place),
     }
 }

@@ -1,19 +1,11 @@
--- `handle_received` meets its contract, by one law for each way out. Assumes nothing.
+-- `handle_received` meets its contract, by one law for each task. Assumes nothing.
 use Rattle.handler.proofs.StoreLaws.{handle-received-laws as laws}
-use Rattle.handler.proofs.handle_received.Statement.{statement}
-use Rattle.handler.proofs.handle_received.Tie as tie
+use Rattle.handler.proofs.handle_received as fn
 
-pub handle-received-spec : {M : Type 1} → statement M
+pub handle-received-spec : {M : Type 1} → fn.Statement.statement M
 handle-received-spec =
-    tie.close
-    (tie.spec
-    (λ c κs. search laws)
-    (λ c κs. search laws)
-    (λ c. search laws)
-    (λ c. search laws)
-    (λ c κs. search laws)
-    (λ c κs. search laws)
-    (λ c κs. search laws)
-    (λ c. search laws)
-    (λ c. search laws)
-    (λ c. search laws))
+    fn.Tie.close
+    (fn.Tie.spec
+    (λ c κs. search laws) (λ c κs. search laws) (λ c. search laws) (λ c. search laws) (λ c κs. search laws) (λ c. search laws) (λ c κs. search laws)
+    (λ c. search laws) (λ c κs. search laws) (λ c. search laws) (λ c. search laws) (λ c. search laws) (λ c. search laws) (λ c. search laws)
+    (λ c. search laws) (λ c. search laws) (λ c. search laws))

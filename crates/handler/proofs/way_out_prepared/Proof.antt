@@ -1,17 +1,10 @@
--- `handler::way_out_prepared` meets its contract: a bad store is 1, and a good one tells the way out.
+-- `way_out_prepared` meets its contract, by one law for each way out. Assumes nothing.
 use Rattle.handler.proofs.WayOutLaws.{way-out-prepared-laws as laws}
-use Rattle.handler.proofs.way_out_prepared.Statement.{statement}
-use Rattle.handler.proofs.way_out_prepared.Tie as tie
+use Rattle.handler.proofs.way_out_prepared as fn
 
-pub way-out-prepared-spec : {M : Type 1} → statement M
+pub way-out-prepared-spec : {M : Type 1} → fn.Statement.statement M
 way-out-prepared-spec =
-    tie.close
-    (tie.spec
-    (λ c κs. search laws)
-    (λ c κs. search laws)
-    (λ c. search laws)
-    (λ c κs. search laws)
-    (λ c κs. search laws)
-    (λ c κs. search laws)
-    (λ c. search laws)
-    (λ c. search laws))
+    fn.Tie.close
+    (fn.Tie.spec
+    (λ c κs. search laws) (λ c κs. search laws) (λ c. search laws) (λ c κs. search laws) (λ c κs. search laws) (λ c κs. search laws) (λ c κs. search laws)
+    (λ c. search laws) (λ c. search laws))

@@ -1,28 +1,10 @@
--- `handling::answer_alert` meets its contract, by the cases of the task and the alert. Assumes nothing.
+-- `handling::answer_alert` meets its contract, by one law for each alert. Assumes nothing.
 use Rattle.handler.proofs.TaskLaws.{answer-alert-laws as laws}
-use Rattle.handler.proofs.handling.answer_alert.Statement.{statement}
-use Rattle.handler.proofs.handling.answer_alert.Tie as tie
+use Rattle.handler.proofs.handling.answer_alert as fn
 
-pub answer-alert-spec : {M : Type 1} → statement M
+pub answer-alert-spec : {M : Type 1} → fn.Statement.statement M
 answer-alert-spec =
-    tie.close
-    (tie.spec
-    (λ c. search laws)
-    (λ c. search laws)
-    (λ c. search laws)
-    (λ c. search laws)
-    (λ c κs. search laws)
-    (λ c. search laws)
-    (λ c. search laws)
-    (λ c κs. search laws)
-    (λ c. search laws)
-    (λ c. search laws)
-    (λ c. search laws)
-    (λ c. search laws)
-    (λ c. search laws)
-    (λ c. search laws)
-    (λ c. search laws)
-    (λ c. search laws)
-    (λ c. search laws)
-    (λ c. search laws)
-    (λ c. search laws))
+    fn.Tie.close
+    (fn.Tie.spec
+    (λ c. search laws) (λ c. search laws) (λ c κs. search laws) (λ c. search laws) (λ c. search laws) (λ c κs. search laws) (λ c. search laws)
+    (λ c. search laws) (λ c. search laws) (λ c. search laws) (λ c. search laws) (λ c. search laws))

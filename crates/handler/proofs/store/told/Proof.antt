@@ -1,13 +1,9 @@
 -- `store::told` meets its contract, field by field. Assumes nothing.
 use Rattle.handler.proofs.StoreLaws.{store-told-laws as laws}
-use Rattle.handler.proofs.store.told.Statement.{statement}
-use Rattle.handler.proofs.store.told.Tie as tie
+use Rattle.handler.proofs.store.told as fn
 
-pub told-spec : {M : Type 1} → statement M
+pub told-spec : {M : Type 1} → fn.Statement.statement M
 told-spec =
-    tie.close
-    (tie.spec
-    (λ c. search laws)
-    (λ c. search laws)
-    (λ c. search laws)
-    (λ c. search laws))
+    fn.Tie.close
+    (fn.Tie.spec
+    (λ c. search laws) (λ c κs. search laws) (λ c. search laws) (λ c κs. search laws) (λ c. search laws))
