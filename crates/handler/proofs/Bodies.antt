@@ -1,16 +1,14 @@
 -- The two replies behind their link headers, cited and copied. By laws of parts and of buffers written in stages. Assumes nothing.
-use mathlib.Core.Path.{_≡_, refl, sym, ap, _∙_}
+use mathlib.Core.Path.{_≡_, refl, sym, _∙_}
 use mathlib.Core.List.{List, [], _∷_, _++_, append-assoc}
 use Prim.Native.Nat.{ℕ, suc, _+_, _-_, _/_, _%_, _<_, _≤_}
 use native.Mathlib.Omega.{arith}
 use borrow.Author.Needs.{needs}
 use lib.ListN.{length, getD, take, drop, length-append, length-drop, length-take}
 use lib.Seq.{take-all}
-use Rattle.rules.specs.Octets.{octet, octets48, part, put}
+use Rattle.rules.specs.{Octets.octet, Octets.octets48, Octets.part, Octets.put, Channel.echoBody}
 use Rattle.rules.specs.Channel as Ch
-use Rattle.rules.specs.Channel.{echoBody}
-use Rattle.rules.proofs.OctetLaws.{length-part, length-put}
-use Rattle.rules.proofs.ReplyLaws.{echo-body-length}
+use Rattle.rules.proofs.{OctetLaws.length-part, ReplyLaws.echo-body-length}
 use Rattle.octets.specs.Copy.{putFitting}
 use Rattle.handler.specs.Shapes.{timesBy, replyOctets}
 use Rattle.handler.specs.declared.way.Own.{Own}

@@ -3,41 +3,28 @@ use mathlib.Core.Path.{_≡_, sym}
 use mathlib.Core.Bool.{Bool, true, false, not, _&&_, _||_}
 use Prim.Native.Nat.{ℕ, _%_}
 use borrow.Author.Needs.{needs}
-use lib.Bits.{bitAnd, and-mask}
-use lib.Dec.{eqb}
+use lib.{Bits.bitAnd, Bits.and-mask, Dec.eqb}
 use Rattle.rules.specs.Extension as E
 use Rattle.rules.proofs.TestLaws.{and-yes, and-no}
 
 -- some bit of the k lowest
 module _ (x : ℕ) where
-  some-of : (k : ℕ) (m n : ℕ) → bitAnd x m ≡ x % n → not (eqb (bitAnd x m) 0) ≡ not (eqb (x % n) 0)
-  some-of k m n e = rw e
-
   pub some-1 : not (eqb (bitAnd x 1) 0) ≡ not (eqb (x % 2) 0)
-  some-1 = some-of 1 1 2 (and-mask x 1)
+  some-1 = rw (and-mask x 1)
 
   pub some-3 : not (eqb (bitAnd x 7) 0) ≡ not (eqb (x % 8) 0)
-  some-3 = some-of 3 7 8 (and-mask x 3)
+  some-3 = rw (and-mask x 3)
 
   pub some-4 : not (eqb (bitAnd x 15) 0) ≡ not (eqb (x % 16) 0)
-  some-4 = some-of 4 15 16 (and-mask x 4)
+  some-4 = rw (and-mask x 4)
 
   pub some-5 : not (eqb (bitAnd x 31) 0) ≡ not (eqb (x % 32) 0)
-  some-5 = some-of 5 31 32 (and-mask x 5)
+  some-5 = rw (and-mask x 5)
 
   pub some-6 : not (eqb (bitAnd x 63) 0) ≡ not (eqb (x % 64) 0)
-  some-6 = some-of 6 63 64 (and-mask x 6)
+  some-6 = rw (and-mask x 6)
 
 pub ruleset bit-laws = (needs, some-1, some-3, some-4, some-5, some-6)
-
-module _ (a b : Bool) where
-  pub either-first : (x : Bool) → x ≡ a → x ≡ true → true ≡ (a || b)
-  either-first x e t = rw (← e, t)
-
-  pub either-second : (x : Bool) → x ≡ a → x ≡ false → (y : Bool) → y ≡ b → y ≡ (a || b)
-  either-second x e t y f = rw (← e, t) f
-
-pub ruleset some-alert-laws = (needs, either-first, either-second)
 
 -- three tests in their order, as `flag_unsummarized` and `summary_bare` make them
 module _ (A A′ B B′ C C′ : Bool) (a a′ : Bool) (is-a : a ≡ A) (is-a′ : a′ ≡ A′) (x : Bool) (tx : x ≡ (a && not a′)) where
@@ -54,16 +41,6 @@ module _ (A A′ B B′ C C′ : Bool) (a a′ : Bool) (is-a : a ≡ A) (is-a′
 pub ruleset three-laws = (needs, three-1, three-2, three-3)
 
 module _ (w : ℕ) where
-  pub refused-flag : (one : Bool) (u : Bool) → u ≡ E.flagUnsummarized w → u ≡ true → true ≡ (E.flagUnsummarized w || (one && E.summaryBare w))
-  refused-flag one u e t = rw (← e, t)
-
-  module _ (one : Bool) (u : Bool) (e : u ≡ E.flagUnsummarized w) (f : u ≡ false) where
-    pub refused-bare : one ≡ true → (b : Bool) → b ≡ E.summaryBare w → b ≡ (E.flagUnsummarized w || (one && E.summaryBare w))
-    refused-bare t b is = rw (← e, f, t) is
-
-    pub refused-long : one ≡ false → false ≡ (E.flagUnsummarized w || (one && E.summaryBare w))
-    refused-long t = rw (← e, f, t)
-
   module _ (egress : Bool) (u : Bool) (e : u ≡ E.unknownHopByHopFlag w) where
     pub stops-unknown : u ≡ true → true ≡ E.extensionStops egress w
     unfolding E.extensionStops
@@ -82,7 +59,5 @@ module _ (w : ℕ) where
         pub stops-not : egress ≡ false → false ≡ E.extensionStops egress w
         unfolding E.extensionStops
         stops-not t = rw (← e, f, ← is-a, ← is-a′, ← tx, g, t, and-no)
-
-pub ruleset refused-laws = (needs, refused-flag, refused-bare, refused-long)
 
 pub ruleset stops-laws = (needs, stops-unknown, stops-bare, stops-egress, stops-not)

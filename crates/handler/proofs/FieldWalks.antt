@@ -1,31 +1,23 @@
 -- The fields of settings as the code reads them: a fold over them as the loop makes it, and what the fold says of the settings read. By one law
 -- of fields for each step, and by induction on the fields. Assumes nothing.
 use mathlib.Core.Path.{_≡_, refl, sym, ap, _∙_}
-use mathlib.Core.List.{List, [], _∷_, _++_, foldl, foldl-append}
+use mathlib.Core.List.{List, [], _∷_, foldl, foldl-append}
 use mathlib.Core.Bool.{true, not}
-use Prim.Native.Nat.{ℕ, suc, _+_, _-_, _≤_, _<_}
+use Prim.Native.Nat.{ℕ, _+_, _-_, _≤_, _<_}
 use native.Mathlib.Omega.{arith}
 use borrow.Author.Needs.{needs}
-use borrow.Author.Tests.{lt-ltb, le-ltb, ltb-true, ltb-false, eq-eqb, ne-eqb, eqb-true, eqb-false}
-use lib.Dec.{ltb, eqb}
-use lib.ListN.{length}
+use borrow.Author.Tests.{lt-ltb, le-ltb, ltb-true, ltb-false, eq-eqb, ne-eqb, eqb-true}
+use lib.{Dec.ltb, Dec.eqb, ListN.length}
 use Rattle.rules.specs.Octets.{octet, be16, be48, part}
 use Rattle.rules.specs.Fields.{Field, field, cut, fieldAt, fieldsAt, fields}
 use Rattle.rules.specs.Settings.{Settings, newer, ruling, switchOf, hopOf, withField, opened, settingsRead, waysOf}
-use Rattle.rules.specs.declared.NextHop.{NextHop}
-use Rattle.rules.specs.declared.Ruling.{Ruling}
-use Rattle.rules.specs.declared.Ruling.the-variants.{Found, Absent}
-use Rattle.rules.specs.declared.FieldRead.{FieldRead}
-use Rattle.rules.specs.declared.FieldRead.the-variants.{Taken, Cut}
-use Rattle.rules.proofs.TestLaws.{by-test}
-use Rattle.rules.proofs.FieldLaws.{field-read, fields-at-end, fields-at-cut, fields-at-on}
+use Rattle.rules.specs.declared.{NextHop.NextHop, Ruling.Ruling, Ruling.the-variants.Found, Ruling.the-variants.Absent, FieldRead.FieldRead}
+use Rattle.rules.specs.declared.{FieldRead.the-variants.Taken, FieldRead.the-variants.Cut}
+use Rattle.rules.proofs.{TestLaws.by-test, FieldLaws.fields-at-end, FieldLaws.fields-at-cut, FieldLaws.fields-at-on, Taken.its, Taken.taken-first}
+use Rattle.rules.proofs.{Taken.taken-to, FirstLaws.opened-field, FirstLaws.first, FirstLaws.switch-fold}
 use Rattle.handler.specs.Shapes.{ownOf, ruledBy, noFlags, flaggedBy, FoldedFrom}
 use Rattle.octets.specs.Flags.{flagTag}
-use Rattle.handler.specs.declared.judged.Flags.{Flags}
-use Rattle.handler.specs.declared.way.Own.{Own}
-use Rattle.rules.proofs.Taken.{its, taken-first, taken-to}
-use Rattle.rules.proofs.FirstLaws.{opened-field, first, switch-fold}
-use Rattle.handler.proofs.JudgeLaws.{with-hop, with-other}
+use Rattle.handler.specs.declared.{judged.Flags.Flags, way.Own.Own}
 
 -- the record that rules once one more is seen
 module _ (d : ℕ) (r : NextHop) where
@@ -59,10 +51,6 @@ pub ruleset newer-laws = (needs, newer-past, newer-first, newer-later, newer-sta
 
 -- the record that rules, and the strip flag, once one more field is read
 module _ (d : ℕ) (best : Ruling) where
-  pub ruled-cut : ruledBy d best cut ≡ best
-  unfolding ruledBy
-  ruled-cut = refl
-
   module _ (tag : ℕ) (v : List ℕ) where
     pub ruled-hop : tag ≡ 2 → newer d best (hopOf v) ≡ ruledBy d best (field tag v)
     unfolding ruledBy
@@ -94,52 +82,37 @@ pub record Folding {A : Type 0} (step : A → Field → A) (start : A) (s : List
   pub within : at ≤ length s
   pub gives : foldl step acc (fieldsAt s at) ≡ foldl step start (fieldsAt s from)
 
-module _ {A : Type 0} (step : A → Field → A) (start : A) (s : List ℕ) (from : ℕ) where
+module _ {A : Type 0} {step : A → Field → A} {start : A} {s : List ℕ} {from : ℕ} where
   pub fold-begin : from ≤ length s → Folding step start s from from start
   fold-begin h = record { within = h; gives = refl }
 
-  module _ (at : ℕ) (acc : A) (w : Folding step start s from at acc) where
+  module _ {at : ℕ} {acc : A} (w : Folding step start s from at acc) where
     pub fold-end : length s ≤ at → FoldedFrom step start s from acc
     fold-end h = ap (foldl step acc) (sym (fields-at-end s at h)) ∙ w .gives
 
-    module _ (h : at < length s) (read : FieldRead) (f : read ≡ fieldAt s at) where
-      module _ (tag size next : ℕ) (t : read ≡ Taken tag size next) where
-        pub fold-on : (acc′ : A) → acc′ ≡ step acc (field tag (part s (at + 3) (next - (at + 3)))) → Folding step start s from next acc′
-        fold-on acc′ a =
-            let i = its s at tag size next read t f in
-            let the-size : next - (at + 3) ≡ size = omega (arith, i) in
-            record {
-              within = i .within;
-              gives = rw (a, the-size) (ap (foldl step acc) (sym (fields-at-on s at tag size next h (sym f ∙ t))) ∙ w .gives);
-            }
+    pub fold-on : at < length s → {read : FieldRead} → read ≡ fieldAt s at → {tag size next : ℕ} → read ≡ Taken tag size next → {acc′ : A}
+        → acc′ ≡ step acc (field tag (part s (at + 3) (next - (at + 3)))) → Folding step start s from next acc′
+    fold-on h {read} f {tag} {size} {next} t a =
+        let i = its s at tag size next read t f in
+        let the-size : next - (at + 3) ≡ size = omega (arith, i) in
+        record {
+          within = i .within;
+          gives = rw (a, the-size) (ap (foldl step acc) (sym (fields-at-on s at tag size next h (sym f ∙ t))) ∙ w .gives);
+        }
 
 -- the settings read, by the first field
-opened-cut : opened cut ≡ switchOf []
-unfolding opened
-opened-cut = refl
-
 module _ (s : List ℕ) where
-  read-none : fields s ≡ [] → settingsRead s ≡ switchOf []
-  unfolding settingsRead
-  read-none is = rw (settingsRead, is)
-
-  read-first : (f : Field) (fs : List Field) → fields s ≡ f ∷ fs → settingsRead s ≡ foldl withField (opened f) fs
-  unfolding settingsRead
-  read-first f fs is = rw (settingsRead, is)
-
   read-cut : fieldAt s 0 ≡ Cut → settingsRead s ≡ switchOf []
-  unfolding fields
+  unfolding settingsRead fields opened
   read-cut e =
       by-test (ltb 0 (length s))
-      (λ t. read-first cut [] (fields-at-cut s 0 (ltb-true 0 (length s) t) e) ∙ opened-cut)
-      (λ t. read-none (fields-at-end s 0 (ltb-false 0 (length s) t)))
+      (λ t. rw (settingsRead, fields-at-cut s 0 (ltb-true 0 (length s) t) e))
+      (λ t. rw (settingsRead, fields-at-end s 0 (ltb-false 0 (length s) t)))
 
   module _ {tag size next : ℕ} (e : fieldAt s 0 ≡ Taken tag size next) where
     read-on : settingsRead s ≡ foldl withField (switchOf (part s 3 (next - 3))) (fieldsAt s next)
-    read-on =
-        let v = part s 3 (next - 3) in
-        read-first (field tag v) (fieldsAt s next) (first s e)
-        ∙ ap (λ (S : Settings). foldl withField S (fieldsAt s next)) (opened-field tag v)
+    unfolding settingsRead
+    read-on = rw (settingsRead, first s e, opened-field tag (part s 3 (next - 3)))
 
 -- what one more field does to the nickname and MAC, the flags and the record that rules
 abbrev pub flagsOf : Settings → Flags
@@ -154,58 +127,36 @@ module _ (S : Settings) where
       (λ e. rw (eqb-true tag 2 e))
       (λ e. by-test (eqb tag 3) (λ f. rw (e, f)) (λ f. by-test (eqb tag 6) (λ g. rw (e, f, g)) (λ g. rw (e, f, g))))
 
-with-cut : (S : Settings) → withField S cut ≡ S
-unfolding withField
-with-cut S = refl
-
 ruling-none : (d : ℕ) → ruling [] d ≡ Absent
 unfolding ruling
 ruling-none d = refl
 
-ruling-snoc : (d : ℕ) (hops : List NextHop) (r : NextHop) → ruling (hops ++ (r ∷ [])) d ≡ newer d (ruling hops d) r
-unfolding ruling
-ruling-snoc d hops r = foldl-append (newer d) Absent hops (r ∷ [])
-
 ruling-with : (d : ℕ) (S : Settings) (f : Field) → ruling (withField S f .hops) d ≡ ruledBy d (ruling (S .hops) d) f
-ruling-with d S cut = rw (with-cut S, ruled-cut d (ruling (S .hops) d))
+unfolding withField ruledBy ruling
+ruling-with d S cut = refl
 ruling-with d S (field tag v) =
     by-test (eqb tag 2)
-    (λ e.
-    let two = eqb-true tag 2 e in
-    rw (with-hop S tag v two, ruling-snoc d (S .hops) (hopOf v)) (ruled-hop d (ruling (S .hops) d) tag v two))
-    (λ e.
-    let other = eqb-false tag 2 e in
-    rw (with-other S tag v other) (ruled-other d (ruling (S .hops) d) tag v other))
+    (λ e. rw e (foldl-append (newer d) Absent (S .hops) (hopOf v ∷ [])))
+    (λ e. by-test (eqb tag 3) (λ f. rw (e, f)) (λ f. by-test (eqb tag 6) (λ g. rw (e, f, g)) (λ g. rw (e, f, g))))
 
 -- and what all do
-own-fold : (S : Settings) (fs : List Field) → ownOf (waysOf (foldl withField S fs)) ≡ ownOf (waysOf S)
-own-fold = switch-fold (λ n m. record { nickname = n; mac = m })
-
-flags-fold : (S : Settings) (fs : List Field) → flagsOf (foldl withField S fs) ≡ foldl flaggedBy (flagsOf S) fs
-flags-fold S [] = refl
-flags-fold S (f ∷ fs) = flags-fold (withField S f) fs ∙ ap (λ (b : Flags). foldl flaggedBy b fs) (flags-with S f)
-
-ruling-fold : (d : ℕ) (S : Settings) (fs : List Field) → ruling (foldl withField S fs .hops) d ≡ foldl (ruledBy d) (ruling (S .hops) d) fs
-ruling-fold d S [] = refl
-ruling-fold d S (f ∷ fs) = ruling-fold d (withField S f) fs ∙ ap (λ (b : Ruling). foldl (ruledBy d) b fs) (ruling-with d S f)
+fold-along : {A : Type 0} (said : Settings → A) (step : A → Field → A) → ((S : Settings) (f : Field) → said (withField S f) ≡ step (said S) f)
+    → (S : Settings) (fs : List Field) → said (foldl withField S fs) ≡ foldl step (said S) fs
+fold-along said step with S [] = refl
+fold-along said step with S (f ∷ fs) = fold-along said step with (withField S f) fs ∙ ap (λ (a : _). foldl step a fs) (with S f)
 
 -- of settings whose first field is taken
 module _ (s : List ℕ) {tag size next : ℕ} (e : fieldAt s 0 ≡ Taken tag size next) where
-  own-taken : ownOf (waysOf (switchOf (part s 3 (next - 3)))) ≡ ownOf (waysOf (settingsRead s))
-  own-taken = sym (ap (λ (S : Settings). ownOf (waysOf S)) (read-on s e) ∙ own-fold (switchOf (part s 3 (next - 3))) (fieldsAt s next))
-
   pub flags-read : (r : Flags) → FoldedFrom flaggedBy noFlags s next r → r ≡ flagsOf (settingsRead s)
-  flags-read r f =
-      f
-      ∙ sym (ap flagsOf (read-on s e) ∙ flags-fold (switchOf (part s 3 (next - 3))) (fieldsAt s next))
+  flags-read r f = cc (read-on s e, fold-along flagsOf flaggedBy flags-with (switchOf (part s 3 (next - 3))) (fieldsAt s next))
 
-  module _ (d : ℕ) (b : Ruling) (f : FoldedFrom (ruledBy d) Absent s next b) where
-    pub rules : ruling (settingsRead s .hops) d ≡ b
-    rules =
-        ap (λ (S : Settings). ruling (S .hops) d) (read-on s e)
-        ∙ ruling-fold d (switchOf (part s 3 (next - 3))) (fieldsAt s next)
-        ∙ ap (λ (c : Ruling). foldl (ruledBy d) c (fieldsAt s next)) (ruling-none d)
-        ∙ sym f
+  pub rules : (d : ℕ) (b : Ruling) → FoldedFrom (ruledBy d) Absent s next b → ruling (settingsRead s .hops) d ≡ b
+  rules d b f =
+      cc (
+        read-on s e,
+        fold-along (λ S. ruling (S .hops) d) (ruledBy d) (ruling-with d) (switchOf (part s 3 (next - 3))) (fieldsAt s next),
+        ruling-none d,
+      )
 
 -- our nickname and MAC, as the code reads the first field
 module _ (s : List ℕ) (read : FieldRead) (is : read ≡ fieldAt s 0) where
@@ -214,6 +165,7 @@ module _ (s : List ℕ) (read : FieldRead) (is : read ≡ fieldAt s 0) where
 
   pub own-read : (tag size next : ℕ) → read ≡ Taken tag size next → (n m : ℕ) → n ≡ be16 (part s 3 (next - 3)) 0 → m ≡ be48 (part s 3 (next - 3)) 2
       → _≡_ {A = Own} (record { nickname = n; mac = m }) (ownOf (waysOf (settingsRead s)))
-  own-read tag size next e n m en em = rw (en, em) (own-taken s (sym is ∙ e))
+  own-read tag size next e n m en em =
+      rw (en, em, read-on s (sym is ∙ e)) (sym (switch-fold (λ n m. record { nickname = n; mac = m }) (switchOf (part s 3 (next - 3))) (fieldsAt s next)))
 
 pub ruleset own-of-laws = (needs, taken-first, taken-to, own-cut, own-read)

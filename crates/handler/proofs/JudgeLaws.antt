@@ -1,30 +1,21 @@
 -- What the loop over the settings fields keeps, from the first field to the verdict: the records read so far and the keys met agree, and the
 -- rest of the fields decides as the whole does. By one law of fields and of settings for each step. Assumes nothing.
-use mathlib.Core.Path.{_≡_, refl, sym, _∙_}
-use mathlib.Core.List.{List, [], _∷_, _++_}
+use Rattle.rules.proofs.FieldLaws.{IsField, field-read, fields-at-end, fields-at-cut, fields-at-on}
+use mathlib.Core.{Path._≡_, Path.refl, Path.sym, Path._∙_, List.List, List.[], List._∷_, List._++_, Option.Option}
 use mathlib.Core.Bool.{Bool, true, false, _&&_, _||_, or-assoc}
-use mathlib.Core.Option.{Option, some}
-use Prim.Native.Nat.{ℕ, suc, _+_, _-_, _<_, _≤_}
+use Prim.Native.Nat.{ℕ, _+_, _-_, _<_, _≤_}
 use native.Mathlib.Omega.{arith}
-use borrow.Author.Needs.{needs}
 use borrow.Author.Tests.{eqb-true, eqb-false, eq-eqb, ne-eqb, le-leb, lt-leb}
-use lib.Dec.{eqb}
+use lib.{Dec.eqb, Seq.length-take-le}
 use lib.ListN.{length, take, replicate, length-replicate, length-append}
-use lib.Seq.{length-take-le}
-use Rattle.rules.specs.Octets.{part}
+use Rattle.rules.specs.{Octets.part, Campus.known}
 use Rattle.rules.specs.Fields.{field, cut, fieldAt, fieldsAt, lengthGood}
 use Rattle.rules.specs.Settings.{Settings, hopOf, serialMet, withField, opens, opened, continues, settingsFrom, settingsOf}
-use Rattle.rules.specs.Campus.{known}
-use Rattle.rules.specs.declared.NextHop.{NextHop}
-use Rattle.rules.specs.declared.FieldRead.{FieldRead}
-use Rattle.rules.specs.declared.FieldRead.the-variants.{Taken, Cut}
-use Rattle.rules.proofs.TestLaws.{by-test, or-no}
-use Rattle.rules.proofs.FieldLaws.{field-read, fields-at-end, fields-at-cut, fields-at-on}
-use Rattle.rules.proofs.SettingsLaws.{from-on, from-bad}
+use Rattle.rules.specs.declared.{NextHop.NextHop, FieldRead.FieldRead, FieldRead.the-variants.Taken, FieldRead.the-variants.Cut}
+use Rattle.rules.proofs.{TestLaws.by-test, TestLaws.or-no, SettingsLaws.from-on, SettingsLaws.from-bad, Taken.taken, FirstLaws.continues-cut}
+use Rattle.rules.proofs.{FirstLaws.first, FirstLaws.settings-open}
 use Rattle.octets.specs.Flags.{flagBy}
 use Rattle.handler.specs.Keys.{keyOf, keyMet, Kept, hopTaken, fieldTaken, withKey, keysWith, Taking, Verdict}
-use Rattle.rules.proofs.Taken.{taken}
-use Rattle.rules.proofs.FirstLaws.{continues-cut, first, settings-open}
 use Rattle.octets.proofs.FlagLaws.{flag-continues}
 use Rattle.handler.proofs.KeyLaws.{met-snoc, key-same, keys-hop, keys-other, refused, unchanged, taking-hop, field-flag}
 
@@ -83,42 +74,11 @@ module _ (T : Settings) (v met : List ℕ) (n : ℕ) where
       (λ e. rw (eqb-true tag 2 e) (continues-hop (a .count ∙ c) (a .alike (hopOf v) (omega arith))))
       (λ e. sym (field-flag met n tag v (eqb-false tag 2 e) ∙ flag-continues T tag v (eqb-false tag 2 e)))
 
-from-end : (T : Settings) → settingsFrom T [] ≡ some T
-unfolding settingsFrom
-from-end T = refl
-
 -- some settings with these keys, from which the fields from `at` on decide as the whole does
 pub record Rest (s : List ℕ) (whole : Option Settings) (met : List ℕ) (at : ℕ) : Type 0 where
   pub read : Settings
   pub decides : settingsFrom read (fieldsAt s at) ≡ whole
   pub agree : Agree (read .hops) met
-
-module _ (s : List ℕ) (whole : Option Settings) (met : List ℕ) (at : ℕ) (w : Rest s whole met at) where
-  rest-end : length s ≤ at → true ≡ known whole
-  rest-end h = rw (← w .decides, fields-at-end s at h, from-end (w .read))
-
-  module _ (h : at < length s) where
-    rest-cut : fieldAt s at ≡ Cut → false ≡ known whole
-    rest-cut e = rw (← w .decides, fields-at-cut s at h e, from-bad (w .read) cut [] (continues-cut (w .read)))
-
-    module _ (tag size next : ℕ) (e : fieldAt s at ≡ Taken tag size next) (n : ℕ) (c : length met ≡ n) where
-      judged-so : (b : Bool) → fieldTaken met n tag (part s (at + 3) size) ≡ b → continues (w .read) (field tag (part s (at + 3) size)) ≡ b
-      judged-so b g = continues-taken (w .read) (part s (at + 3) size) met n tag c (w .agree) ∙ g
-
-      rest-bad : fieldTaken met n tag (part s (at + 3) size) ≡ false → false ≡ known whole
-      rest-bad g =
-          let f = field tag (part s (at + 3) size) in
-          rw (← w .decides, fields-at-on s at tag size next h e, from-bad (w .read) f (fieldsAt s next) (judged-so false g))
-
-      rest-on : fieldTaken met n tag (part s (at + 3) size) ≡ true → Rest s whole (keysWith met tag (part s (at + 3) size)) next
-      rest-on g =
-          let f = field tag (part s (at + 3) size) in
-          record {
-            read = withField (w .read) f;
-            decides =
-                rw (← from-on (w .read) f (fieldsAt s next) (judged-so true g), ← fields-at-on s at tag size next h e) (w .decides);
-            agree = agree-with (w .read) tag (part s (at + 3) size) met (w .agree);
-          }
 
 -- what the loop keeps
 pub record Judging (s : List ℕ) (from : ℕ) (keys seen : List ℕ) (n at : ℕ) : Type 0 where
@@ -150,37 +110,47 @@ module _ {s : List ℕ} {from : ℕ} {keys seen : List ℕ} {n at : ℕ} (j : Ju
   many = length-take-le n keys (omega (arith, j .kept))
 
   pub ends : length s ≤ at → Verdict s from true
-  ends h T e = rest-end s (settingsFrom T (fieldsAt s from)) (take n keys) at (j .rest T e) h
+  unfolding settingsFrom
+  ends h T e = let w = j .rest T e in rw (← w .decides, fields-at-end s at h)
 
   module _ (h : at < length s) {read : FieldRead} (q : read ≡ fieldAt s at) where
     pub cut-off : read ≡ Cut → Verdict s from false
-    cut-off c T e = rest-cut s (settingsFrom T (fieldsAt s from)) (take n keys) at (j .rest T e) h (sym q ∙ c)
+    cut-off c T e =
+        let w = j .rest T e in
+        rw (← w .decides, fields-at-cut s at h (sym q ∙ c), from-bad (w .read) cut [] (continues-cut (w .read)))
 
     module _ {tag size next : ℕ} (taken : read ≡ Taken tag size next) where
-      f : fieldAt s at ≡ Taken tag size next
-      f = sym q ∙ taken
+      its : IsField s at tag size next
+      its = field-read s at tag size next (sym q ∙ taken)
 
-      the-size : next - (at + 3) ≡ size
-      the-size = omega (arith, field-read s at tag size next f)
+      abbrev v : List ℕ
+      v = part s (at + 3) (next - (at + 3))
+
+      on : fieldsAt s at ≡ field tag v ∷ fieldsAt s next
+      on = let the-size : next - (at + 3) ≡ size = omega (arith, its) in rw the-size (fields-at-on s at tag size next h (sym q ∙ taken))
+
+      judged-so : (T : Settings) (e : T .hops ≡ []) {b : Bool} → fieldTaken (take n keys) n tag v ≡ b → continues (j .rest T e .read) (field tag v) ≡ b
+      judged-so T e g = continues-taken (j .rest T e .read) v (take n keys) n tag many (j .rest T e .agree) ∙ g
 
       stops : {r : ℕ} {keys′ seen′ : List ℕ} → Step s at keys n tag next r keys′ seen′ → 64 < r → Verdict s from false
       stops {r} t b T e =
-          rest-bad s (settingsFrom T (fieldsAt s from)) (take n keys) at (j .rest T e) h tag size next f n many
-          (rw the-size at (t .judged ∙ lt-leb r 64 b))
+          let w = j .rest T e in
+          rw (← w .decides, on, from-bad (w .read) (field tag v) (fieldsAt s next) (judged-so T e (t .judged ∙ lt-leb r 64 b)))
 
       goes-on : {r : ℕ} {keys′ seen′ : List ℕ} → Step s at keys n tag next r keys′ seen′ → r ≤ 64 → Judging s from keys′ seen′ r next
       goes-on {r} t b =
           record {
             kept = t .kept b;
-            within = field-read s at tag size next f .within;
+            within = its .within;
             rest = λ T e.
-                rw (t .now-met b, the-size)
-                (rest-on s (settingsFrom T (fieldsAt s from)) (take n keys) at (j .rest T e) h tag size next f n many
-                (rw the-size at (t .judged ∙ le-leb r 64 b)));
+                let w = j .rest T e in
+                rw (t .now-met b)
+                (record {
+                  read = withField (w .read) (field tag v);
+                  decides = rw (← from-on (w .read) (field tag v) (fieldsAt s next) (judged-so T e (t .judged ∙ le-leb r 64 b)), ← on) (w .decides);
+                  agree = agree-with (w .read) tag v (take n keys) (w .agree);
+                });
           }
-
-      abbrev v : List ℕ
-      v = part s (at + 3) (next - (at + 3))
 
       -- a record
       module _ (two : tag ≡ 2) {r : ℕ} {keys′ seen′ : List ℕ} (t : Taking (hopTaken (take n keys) n v) (withKey (take n keys) v) r keys′ seen′) where
@@ -210,12 +180,9 @@ pub seen-count : {keys seen : List ℕ} {n : ℕ} → Kept keys seen n → 256 �
 seen-count k = sym (k .seen-long)
 
 -- the first field
-opened-none : (tag : ℕ) (v : List ℕ) → opened (field tag v) .hops ≡ []
-unfolding opened
-opened-none tag v = refl
-
 module _ (s : List ℕ) {tag size next : ℕ} (e : fieldAt s 0 ≡ Taken tag size next) where
   pub settings-so : (r : Bool) → opens (field tag (part s 3 (next - 3))) ≡ true → Verdict s next r → r ≡ known (settingsOf s)
+  unfolding opened
   settings-so r o d =
       let f = field tag (part s 3 (next - 3)) in
-      rw (settings-open s f (fieldsAt s next) (first s e) o) (d (opened f) (opened-none tag (part s 3 (next - 3))))
+      rw (settings-open s f (fieldsAt s next) (first s e) o) (d (opened f) refl)

@@ -4,18 +4,14 @@ use mathlib.Core.Path.{_≡_, refl, sym, _∙_}
 use mathlib.Core.List.{List, [], _∷_, _++_}
 use mathlib.Core.Bool.{Bool, true, false, not, _&&_, _||_, or-assoc, true≢false, false≢true}
 use Prim.Native.Nat.{ℕ, zero, suc, _+_, _*_, _%_, _<_, _≤_}
-use native.Mathlib.Omega.{arith}
-use native.Mathlib.Numerals.{add-one}
+use native.Mathlib.{Omega.arith, Numerals.add-one}
 use borrow.Author.Needs.{needs}
 use borrow.Author.Tests.{eqb-true, eqb-false, eq-eqb, ne-eqb, lt-ltb, le-leb, not-true, not-false}
-use lib.Bits.{bitOr}
-use lib.Dec.{ltb, eqb}
+use lib.{Bits.bitOr, Dec.eqb}
 use lib.ListN.{length, getD, take, set, length-set}
 use lib.Seq.{slice, slice-cons, slice-empty, getD-set-same, getD-set-other, take-suc-set}
-use Rattle.rules.specs.Octets.{be16, be32}
-use Rattle.rules.specs.Fields.{hopSize}
-use Rattle.rules.specs.Settings.{hopGood, hopOf, hopsMost}
-use Rattle.rules.proofs.TestLaws.{by-test, and-true, and-no, or-no, or-yes}
+use Rattle.rules.specs.{Octets.be16, Octets.be32, Fields.hopSize, Settings.hopGood, Settings.hopOf}
+use Rattle.rules.proofs.TestLaws.{by-test, and-no, or-no, or-yes}
 use Rattle.octets.specs.Flags.{flagBy}
 use Rattle.octets.proofs.Bits.{join48-or}
 use Rattle.handler.specs.Keys.{keyOf, mixOf, slotBy, markBy, markedBy, coversBy, keyMet, Marked, Kept, hopTaken, fieldTaken, withKey, keysWith, Taking}
@@ -40,31 +36,9 @@ unmet key keys zero f = refl
 unmet key [] (suc n) f = refl
 unmet key (k ∷ keys) (suc n) f = rw (ne-eqb k key (f 0 (omega arith))) (unmet key keys n (λ i h. f (suc i) (omega arith)))
 
-slot-clear : (key : ℕ) (keys seen : List ℕ) (n : ℕ) → Marked keys seen n → coversBy (getD seen (slotBy (mixOf key)) 0) (markBy (mixOf key)) ≡ false
-    → keyMet key (take n keys) ≡ false
-slot-clear key keys seen n m e = unmet key keys n (λ i h same. true≢false (sym (rw same at (m i h)) ∙ e))
-
--- the same of the place and the mark that the code computes
-pub slot-shows : (keys seen : List ℕ) (n key : ℕ) → Marked keys seen n → (mixed : ℕ) → mixed ≡ mixOf key → (slot : ℕ) → slot ≡ slotBy mixed → (mark : ℕ)
-    → mark ≡ markBy mixed
-    → coversBy (getD seen slot 0) mark ≡ false → keyMet key (take n keys) ≡ false
-slot-shows keys seen n key m mixed e slot is mark made c = slot-clear key keys seen n m (rw (made, is, e) at c)
-
 pub uncovered : (old mark : ℕ) → (old ≡ mark → ⊥) → (old ≡ 255 → ⊥) → coversBy old mark ≡ false
 unfolding coversBy
 uncovered old mark h k = rw (ne-eqb old mark h, ne-eqb old 255 k)
-
--- a place once one more key is there
-module _ (old mark : ℕ) where
-  pub marked-first : old ≡ 0 → mark ≡ markedBy old mark
-  unfolding markedBy
-  marked-first e = rw e
-
-  pub marked-full : (old ≡ 0 → ⊥) → 255 ≡ markedBy old mark
-  unfolding markedBy
-  marked-full n = rw (ne-eqb old 0 n)
-
-pub ruleset marked-laws = (needs, marked-first, marked-full)
 
 -- a record's key, as the code joins it
 pub key-made : (v : List ℕ) (a b : ℕ) → a ≡ be16 v 0 → b ≡ be32 v 10 → bitOr (a * 4294967296 % 18446744073709551616) b ≡ keyOf (hopOf v)
@@ -124,16 +98,12 @@ module _ (keys seen : List ℕ) (n key slot mark : ℕ) (k : Kept keys seen n) (
       (λ e. let other = eqb-false i n e in rw (getD-set-other keys n i key 0 other)
       (still-covered seen slot mark (slotBy (mixOf (getD keys i 0))) (mixOf (getD keys i 0)) in-seen (k .marked i (omega arith))))
 
-  kept-more : Kept (set keys n key) seen′ (n + 1)
-  kept-more =
-      record { keys-long = rw length-set (k .keys-long); seen-long = rw length-set (k .seen-long); few = omega arith; marked = marks }
-
-  pub admitted : {good : Bool} {met : List ℕ} → good ≡ true → met ≡ take n keys ++ (key ∷ []) → Taking good met (n + 1) (set keys n key) seen′
+  admitted : {good : Bool} {met : List ℕ} → good ≡ true → met ≡ take n keys ++ (key ∷ []) → Taking good met (n + 1) (set keys n key) seen′
   admitted e m =
       record {
         judged = e ∙ sym (le-leb (n + 1) 64 (omega arith));
         now-met = λ _. rw (add-one, m) (take-suc-set keys n key (omega arith));
-        kept = λ _. kept-more;
+        kept = λ _. record { keys-long = rw length-set (k .keys-long); seen-long = rw length-set (k .seen-long); few = omega arith; marked = marks };
       }
 
 pub refused : {good : Bool} {met keys seen : List ℕ} → good ≡ false → Taking good met 65 keys seen
@@ -142,66 +112,44 @@ refused e = record { judged = e; now-met = λ h. absurd (omega arith); kept = λ
 pub unchanged : {good : Bool} {met keys seen : List ℕ} {n : ℕ} → Kept keys seen n → good ≡ true → met ≡ take n keys → Taking good met n keys seen
 unchanged {n = n} k e same = record { judged = e ∙ sym (le-leb n 64 (k .few)); now-met = λ _. sym same; kept = λ _. k }
 
--- one more record: one law for each way it is refused, and two where it is taken
-module _ (keys : List ℕ) (n : ℕ) (v : List ℕ) where
-  pub hop-short : hopSize (length v) ≡ false → hopTaken keys n v ≡ false
-  unfolding hopTaken
-  hop-short h = rw h
-
-  pub hop-full : n ≡ 64 → hopTaken keys n v ≡ false
-  unfolding hopTaken
-  hop-full h = rw (h, and-no, and-no)
-
-  pub hop-bad : hopGood (hopOf v) ≡ false → hopTaken keys n v ≡ false
-  unfolding hopTaken
-  hop-bad h = rw (h, and-no)
-
-  module _ (key : ℕ) (made : key ≡ keyOf (hopOf v)) where
-    pub hop-met : not (keyMet key keys) ≡ false → hopTaken keys n v ≡ false
-    unfolding hopTaken
-    hop-met h = rw ((rw made at h), and-no, and-no)
-
-    pub hop-new : hopSize (length v) ≡ true → hopGood (hopOf v) ≡ true → n < 64 → not (keyMet key keys) ≡ true → hopTaken keys n v ≡ true
-    unfolding hopTaken
-    hop-new a b c h = rw (a, b, lt-ltb n 64 c, (rw made at h))
-
-    pub keys-new : withKey keys v ≡ keys ++ (key ∷ [])
-    keys-new = rw made
-
 -- the ways out of one more record, over what the code tests
 module _ (keys seen : List ℕ) (n : ℕ) (v : List ℕ) where
   abbrev pub AdmitTo : ℕ → List ℕ → List ℕ → Type 0
   AdmitTo = Taking (hopTaken (take n keys) n v) (withKey (take n keys) v)
 
   pub admit-short : (sized : Bool) → sized ≡ hopSize (length v) → not sized ≡ true → AdmitTo 65 keys seen
-  admit-short sized is t = refused (hop-short (take n keys) n v (sym is ∙ not-true sized t))
+  unfolding hopTaken
+  admit-short sized is t = refused (rw (← is, not-true sized t))
 
   pub admit-bad : (good : Bool) → good ≡ hopGood (hopOf v) → not good ≡ true → AdmitTo 65 keys seen
-  admit-bad good is t = refused (hop-bad (take n keys) n v (sym is ∙ not-true good t))
+  unfolding hopTaken
+  admit-bad good is t = refused (rw (← is, not-true good t, and-no))
 
   pub admit-full : n ≡ 64 → AdmitTo 65 keys seen
-  admit-full e = refused (hop-full (take n keys) n v e)
+  unfolding hopTaken
+  admit-full e = refused (rw (e, and-no, and-no))
 
   module _ (key mixed slot mark : ℕ) (its-key : key ≡ keyOf (hopOf v)) (its-mix : mixed ≡ mixOf key) (its-slot : slot ≡ slotBy mixed)
       (its-mark : mark ≡ markBy mixed) where
     module _ (new : Bool) (is : new ≡ not (keyMet key (take n keys))) where
       pub admit-met : not new ≡ true → AdmitTo 65 keys seen
-      admit-met t = refused (hop-met (take n keys) n v key its-key (sym is ∙ not-true new t))
+      unfolding hopTaken
+      admit-met t = refused (rw (← its-key, ← is, not-true new t, and-no, and-no))
 
       pub admit-new : not new ≡ false → slot < 256 → (sized : Bool) → sized ≡ hopSize (length v) → not sized ≡ false → (good : Bool)
           → good ≡ hopGood (hopOf v) → not good ≡ false
           → (n ≡ 64 → ⊥) → Kept keys seen n → (with : ℕ) → with ≡ markedBy (getD seen slot 0) mark → AdmitTo (n + 1) (set keys n key) (set seen slot with)
+      unfolding hopTaken
       admit-new t h sized e-s s good e-g g room k with e-w =
           let few : n < 64 = omega (arith, k .few, room) in
           rw e-w
           (admitted keys seen n key slot mark k few (rw its-mix at its-slot) h (rw its-mix at its-mark)
-          (hop-new (take n keys) n v key its-key (sym e-s ∙ not-false sized s) (sym e-g ∙ not-false good g) few (sym is ∙ not-false new t))
-          (keys-new (take n keys) n v key its-key))
+          (rw (← its-key, ← is, ← e-s, ← e-g, not-false sized s, not-false good g, not-false new t, lt-ltb n 64 few)) (rw its-key))
 
-module _ (keys seen : List ℕ) (n key mixed slot mark old : ℕ) (k : Kept keys seen n) (its-mix : mixed ≡ mixOf key) (its-slot : slot ≡ slotBy mixed)
-    (its-mark : mark ≡ markBy mixed) where
-  pub admit-shows : coversBy (getD seen slot 0) mark ≡ false → keyMet key (take n keys) ≡ false
-  admit-shows = slot-shows keys seen n key (k .marked) mixed its-mix slot its-slot mark its-mark
+    -- a place that shows no such key
+    pub admit-shows : Kept keys seen n → coversBy (getD seen slot 0) mark ≡ false → keyMet key (take n keys) ≡ false
+    admit-shows k e =
+        unmet key keys n (λ i h same. true≢false (sym (rw same at (k .marked i h)) ∙ (rw (its-mark, its-slot, its-mix) at e)))
 
 pub kept-few : {keys seen : List ℕ} {n : ℕ} → Kept keys seen n → n ≤ length keys
 kept-few k = omega (arith, k .few, k .keys-long)
@@ -212,7 +160,7 @@ kept-slot k slot h = omega (arith, k .seen-long)
 pub kept-place : {keys seen : List ℕ} {n : ℕ} → Kept keys seen n → (n ≡ 64 → ⊥) → n < length keys
 kept-place k h = omega (arith, k .few, k .keys-long, h)
 
-pub ruleset admit-laws = (needs, admit-short, admit-bad, admit-full, admit-met, admit-new, admit-shows, kept-few, kept-slot, kept-place)
+pub ruleset admit-laws = (needs, admit-short, admit-bad, admit-full, admit-met, admit-new, admit-shows)
 
 -- one more field, in the same way
 module _ (keys : List ℕ) (tag : ℕ) (v : List ℕ) where
@@ -225,13 +173,10 @@ module _ (keys : List ℕ) (tag : ℕ) (v : List ℕ) where
   keys-other h = rw (ne-eqb tag 2 h)
 
 module _ (keys : List ℕ) (n tag : ℕ) (v : List ℕ) where
-  field-hop : tag ≡ 2 → fieldTaken keys n tag v ≡ hopTaken keys n v
-  unfolding fieldTaken
-  field-hop e = rw e
-
   pub taking-hop : {r : ℕ} {keys′ seen′ : List ℕ} → tag ≡ 2 → Taking (hopTaken keys n v) (withKey keys v) r keys′ seen′
       → Taking (fieldTaken keys n tag v) (keysWith keys tag v) r keys′ seen′
-  taking-hop e t = rw (field-hop e, keys-hop keys tag v e) t
+  unfolding fieldTaken keysWith
+  taking-hop e t = rw e t
 
   pub field-flag : (tag ≡ 2 → ⊥) → fieldTaken keys n tag v ≡ eqb (flagBy tag v) 0
   unfolding fieldTaken

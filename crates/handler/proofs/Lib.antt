@@ -1,4 +1,3 @@
-pub mod Words
 pub mod ExtensionLaws
 pub mod TreatmentLaws
 pub mod Walks

@@ -1,29 +1,18 @@
 -- The two replies towards a next hop: what is written behind the link header makes one write. By the lengths of their parts. Assumes nothing.
-use mathlib.Core.Path.{_≡_, ap, _∙_}
-use mathlib.Core.List.{List, _++_}
+use mathlib.Core.{Path._≡_, Path.ap, Path._∙_, List.List, List._++_}
 use Prim.Native.Nat.{ℕ, _+_, _≤_}
 use native.Mathlib.Omega.{arith}
 use borrow.Author.Needs.{needs}
-use lib.Dec.{eqb}
 use lib.ListN.{length, length-append, length-take}
-use Rattle.rules.specs.Octets.{put}
-use Rattle.rules.specs.Settings.{Ways}
-use Rattle.rules.specs.Link.{link}
+use Rattle.rules.specs.{Octets.put, Settings.Ways, Link.link}
 use Rattle.rules.specs.Channel.{errorBody, echoBody, errorReply, echoReply, replyRest, replyInner}
-use Rattle.rules.specs.declared.NextHop.{NextHop}
-use Rattle.rules.specs.declared.Header.{Header}
-use Rattle.rules.proofs.TestLaws.{by-test}
-use Rattle.rules.proofs.FrameLaws.{link-most}
-use Rattle.rules.proofs.ReplyLaws.{echo-body-length}
+use Rattle.rules.specs.declared.{NextHop.NextHop, Header.Header}
+use Rattle.rules.proofs.{FrameLaws.link-most, ReplyLaws.echo-body-length}
 use Rattle.handler.specs.declared.way.Own.{Own}
-use Rattle.handler.specs.Shapes.{linkSize, ownOf, replyOctets, Replied}
-use Rattle.handler.proofs.Stages.{after}
-use Rattle.handler.proofs.StageLaws.{ready}
+use Rattle.handler.specs.Shapes.{ownOf, replyOctets, Replied}
+use Rattle.handler.proofs.{Stages.after, StageLaws.ready, StageLaws.link-room}
 
 module _ (S : Ways) (r : NextHop) (out : List ℕ) (roomy : 576 ≤ length out) where
-  pub link-room : linkSize (r .vlan) ≤ length out
-  link-room = by-test (eqb (r .vlan) 0) (λ e. rw e (omega arith)) (λ e. rw e (omega arith))
-
   module _ (out1 : List ℕ) (k : ℕ) (long : k ≡ length (link S r)) (linked : out1 ≡ put out 0 (link S r)) where
     -- what is written behind the link header
     behind : (rest octets : List ℕ) (end : ℕ) (out2 : List ℕ) → link S r ++ rest ≡ octets → length rest ≤ 558 → end ≡ k + length rest
@@ -65,4 +54,7 @@ module _ (S : Ways) (r : NextHop) (out : List ℕ) (roomy : 576 ≤ length out) 
   pub echo-room : (body : List ℕ) → length body ≤ 530 → k + 28 + length body ≤ length out1
   echo-room body few = omega (arith, long, link-most S r)
 
-pub ruleset reply-laws = (needs, ready, link-room, error-made, echo-made, error-room, echo-room)
+pub reply-18 : (out : List ℕ) → 576 ≤ length out → 18 ≤ length out
+reply-18 out h = omega arith
+
+pub ruleset reply-laws = (needs, ready, link-room, reply-18, error-made, echo-made, error-room, echo-room)

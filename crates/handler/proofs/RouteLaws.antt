@@ -1,59 +1,38 @@
 -- What a frame comes to as the code finds it: received, its area read by the edition, its task, and the task carried out. One law for each need,
 -- over what the calls before it ensure, for `search` to cite. Assumes nothing.
 use mathlib.Core.Path.{_≡_, refl, sym, ap, _∙_}
-use mathlib.Core.List.{List, []}
-use mathlib.Core.Bool.{Bool, true, false, not, _&&_, _||_, cond, true≢false, false≢true}
-use Prim.Native.Nat.{ℕ, _+_, _-_, _*_, _≤_, _<_}
+use mathlib.Core.List.{List}
+use mathlib.Core.Bool.{Bool, true, false, not, _&&_, _||_, cond}
+use Prim.Native.Nat.{ℕ, suc, _≤_, _<_}
 use native.Mathlib.Omega.{arith}
-use borrow.Author.Needs.{needs}
-use borrow.Author.Tests.{lt-leb, le-leb, not-true, not-false}
-use lib.Dec.{ltb, leb, eqb}
+use borrow.Author.{Needs.needs, Tests.lt-leb, Tests.le-leb, Tests.not-true, Tests.not-false}
+use Rattle.rules.proofs.{TestLaws.by-test, OptionLaws.area-number, FrameLaws.frame-read, FrameLaws.header-passed, FrameLaws.link-length}
+use lib.Dec.{eqb}
 use lib.ListN.{length, take, drop, length-drop, length-take}
-use Rattle.rules.specs.Octets.{put, be16, be32}
-use Rattle.rules.specs.Settings.{Ways}
-use Rattle.rules.specs.Header.{opLength, innerStart, areaOf, innerOf, readFrame, headerRefusal, weAreEgress}
+use Rattle.rules.specs.{Octets.be16, Octets.be32, Settings.Ways, Options.WellFormed, Options.draftRead, Channel.bodyOf, Channel.channelRead}
+use Rattle.rules.specs.Header.{innerStart, areaOf, innerOf, readFrame, headerRefusal, weAreEgress}
 use Rattle.rules.specs.Options as O
-use Rattle.rules.specs.Options.{WellFormed, draftRead, draftStops}
-use Rattle.rules.specs.Extension as E
 use Rattle.rules.specs.Extension.{flagsWord, criticalAlert, nonCriticalAlert, flagUnsummarized, summaryBare, extensionRead, extensionStops, areaRead, areaStops}
-use Rattle.rules.specs.Channel.{bodyOf, channelRead, returnPath}
 use Rattle.rules.specs.Handling as Rules
-use Rattle.rules.specs.Handling.{onward, untagged, toAllEgressRBridges, channelMessage, alertTo, alertOf, faulted, echoed, channelled, decapsulated, routed}
-use Rattle.rules.specs.Handling.{handling, handledWith}
+use Rattle.rules.specs.Handling.{untagged, toAllEgressRBridges, channelMessage, alertTo, alertOf, channelled, decapsulated, handledWith}
 use Rattle.rules.specs.Answer as A
-use Rattle.rules.specs.declared.NextHop.{NextHop}
-use Rattle.rules.specs.declared.Header.{Header}
-use Rattle.rules.specs.declared.FrameRead.{FrameRead}
-use Rattle.rules.specs.declared.FrameRead.the-variants.{Trill, Unreadable}
-use Rattle.rules.specs.declared.Ruling.{Ruling}
-use Rattle.rules.specs.declared.Ruling.the-variants.{Found, Absent}
-use Rattle.rules.specs.declared.ChannelRead.{ChannelRead}
+use Rattle.rules.specs.declared.{NextHop.NextHop, Header.Header, FrameRead.FrameRead, FrameRead.the-variants.Trill, FrameRead.the-variants.Unreadable}
+use Rattle.rules.specs.declared.{Ruling.the-variants.Absent, ChannelRead.ChannelRead, Alert.Alert}
 use Rattle.rules.specs.declared.ChannelRead.the-variants.{Fault, BadErr, ErrorHeard, BadEcho, EchoHeard, EchoRequest}
-use Rattle.rules.specs.declared.Alert.{Alert}
 use Rattle.rules.specs.declared.Alert.the-variants.{NoAlert, AlertFault, AlertErr, AlertRequest}
-use Rattle.rules.proofs.TestLaws.{by-test, and-no}
-use Rattle.rules.proofs.OctetLaws.{put-none}
-use Rattle.rules.proofs.OptionLaws.{area-number}
-use Rattle.rules.proofs.FrameLaws.{frame-read, header-passed, link-length}
-use Rattle.rules.proofs.HandlingLaws.{onward-long, onward-sent, echo-ranged, channel-echo}
-use Rattle.rules.proofs.HandlingLaws.{inner-short, inner-untagged, inner-any, inner-delivered, inner-up, inner-channel, routed-faulty, routed-stopped}
-use Rattle.rules.proofs.HandlingLaws.{routed-egress, routed-transit}
-use Rattle.rules.proofs.HandlingLaws.{handling-unread, handling-refused, handling-routed, clock-bad, room-short, beside-short, frame-long, frame-handled}
-use Rattle.handler.specs.declared.answers.Answer.{Answer}
-use Rattle.handler.specs.declared.way.Own.{Own}
-use Rattle.handler.specs.declared.way.Told.{Told}
-use Rattle.handler.specs.declared.options.Cursor.{Cursor}
-use Rattle.handler.specs.declared.options.AreaRead.{AreaRead}
-use Rattle.handler.specs.declared.options.AreaRead.the-variants.{Read, Faulty}
-use Rattle.handler.specs.declared.handling.Task.{Task}
+use Rattle.rules.proofs.HandlingLaws.{echo-ranged, channel-echo, inner-short, inner-untagged, inner-any, inner-delivered, inner-up, inner-channel}
+use Rattle.rules.proofs.HandlingLaws.{routed-faulty, routed-stopped, routed-egress, routed-transit, handling-unread, handling-refused, handling-routed}
+use Rattle.rules.proofs.HandlingLaws.{clock-bad, room-short, beside-short, frame-long, frame-handled}
+use Rattle.handler.specs.declared.{answers.Answer.Answer, way.Own.Own, options.Cursor.Cursor, options.AreaRead.AreaRead}
+use Rattle.handler.specs.declared.{options.AreaRead.the-variants.Read, options.AreaRead.the-variants.Faulty, handling.Task.Task}
+use Rattle.handler.specs.declared.{handling.Received.Received}
 use Rattle.handler.specs.declared.handling.Task.the-variants.{Answered, Forward, Error, Echo}
-use Rattle.handler.specs.declared.handling.Received.{Received}
 use Rattle.handler.specs.declared.handling.Received.the-variants as R
 use Rattle.handler.specs.Tasks as Tasks
-use Rattle.handler.specs.Tasks.{areaReadBy, ReadBy, stopsBy, alertBy, answerBy, alertedBy, transitBy, wantedBy, askedBy, Answerable, Left, Ends, Comes}
-use Rattle.handler.specs.Tasks.{Role, Routes, Receives, Lent, Receiving}
-use Rattle.handler.specs.Shapes.{answerOf, droppedBy, besideBy, ownOf, onlyFor, waysBy, judgedBy, Ready, Done}
-use Rattle.handler.proofs.StageLaws.{ready, inner-held, area-held}
+use Rattle.handler.specs.Tasks.{areaReadBy, ReadBy, stopsBy, alertBy, alertedBy, transitBy, wantedBy, askedBy, Answerable, Left, Ends, Comes, Role}
+use Rattle.handler.specs.Tasks.{Routes, Receives, Lent, Receiving}
+use Rattle.handler.specs.Shapes.{answerOf, ownOf, judgedBy, Ready}
+use Rattle.handler.proofs.StageLaws.{by-hop, ready, inner-held, area-held}
 
 -- the area by the edition
 module _ (rfc7179 : Bool) (area : List ℕ) where
@@ -71,15 +50,7 @@ module _ (rfc7179 : Bool) (area : List ℕ) where
     unfolding extensionRead
     read-extension t c = rw (not-false rfc7179 two, ← word, ← is, t)
 
-  pub stops-two : (egress : Bool) → rfc7179 ≡ true → (w : ℕ) → w ≡ be32 area 0 → (b : Bool) → b ≡ extensionStops egress w → b ≡ stopsBy rfc7179 egress area
-  stops-two egress t w word b is = rw (t, ← word) is
-
-  pub stops-one : (egress : Bool) → rfc7179 ≡ false → (b : Bool) → b ≡ draftStops egress area → b ≡ stopsBy rfc7179 egress area
-  stops-one egress t b is = rw t is
-
 pub ruleset read-area-laws = (needs, read-draft, read-refused, read-extension)
-
-pub ruleset area-stops-laws = (needs, stops-two, stops-one)
 
 -- an alert
 module _ (inner : List ℕ) where
@@ -103,44 +74,17 @@ module _ (inner : List ℕ) where
 
 pub ruleset channel-message-laws = (needs, message-short, message-untagged, message-other, message-so)
 
-module _ (critical answered : Bool) (read : ChannelRead) where
-  pub to-fault : (code : ℕ) → read ≡ Fault code → critical ≡ true → AlertFault code ≡ alertTo critical answered read
-  unfolding alertTo
-  to-fault code e t = rw (e, t)
+module _ (critical answered : Bool) (read c : ChannelRead) (e : read ≡ c) (a : Alert) where
+  pub to-read : a ≡ alertTo critical answered c → a ≡ alertTo critical answered read
+  to-read is = rw e is
 
-  pub to-no-fault : (code : ℕ) → read ≡ Fault code → critical ≡ false → NoAlert ≡ alertTo critical answered read
-  unfolding alertTo
-  to-no-fault code e t = rw (e, t)
+  pub to-critical : (b : Bool) → critical ≡ b → a ≡ alertTo b answered c → a ≡ alertTo critical answered read
+  to-critical b t is = rw (e, t) is
 
-  pub to-err : read ≡ BadErr → critical ≡ true → AlertErr ≡ alertTo critical answered read
-  unfolding alertTo
-  to-err e t = rw (e, t)
+  pub to-answered : (b : Bool) → answered ≡ b → a ≡ alertTo critical b c → a ≡ alertTo critical answered read
+  to-answered b t is = rw (e, t) is
 
-  pub to-no-err : read ≡ BadErr → critical ≡ false → NoAlert ≡ alertTo critical answered read
-  unfolding alertTo
-  to-no-err e t = rw (e, t)
-
-  pub to-request : read ≡ EchoRequest → answered ≡ true → AlertRequest ≡ alertTo critical answered read
-  unfolding alertTo
-  to-request e t = rw (e, t)
-
-  pub to-no-request : read ≡ EchoRequest → answered ≡ false → NoAlert ≡ alertTo critical answered read
-  unfolding alertTo
-  to-no-request e t = rw (e, t)
-
-  pub to-heard : read ≡ ErrorHeard → NoAlert ≡ alertTo critical answered read
-  unfolding alertTo
-  to-heard e = rw e
-
-  pub to-bad-echo : read ≡ BadEcho → NoAlert ≡ alertTo critical answered read
-  unfolding alertTo
-  to-bad-echo e = rw e
-
-  pub to-echo : read ≡ EchoHeard → NoAlert ≡ alertTo critical answered read
-  unfolding alertTo
-  to-echo e = rw e
-
-pub ruleset alert-to-laws = (needs, to-fault, to-no-fault, to-err, to-no-err, to-request, to-no-request, to-heard, to-bad-echo, to-echo)
+pub ruleset alert-to-laws = (needs, to-read, to-critical, to-answered)
 
 module _ (rfc7179 : Bool) (area inner : List ℕ) where
   pub alert-draft : not rfc7179 ≡ true → NoAlert ≡ alertBy rfc7179 area inner
@@ -167,18 +111,9 @@ pub ruleset alert-of-laws = (needs, alert-draft, alert-none, alert-other, alert-
 
 -- a task of the egress that is an answer
 module _ {f : List ℕ} {h : Header} {stage : Ways → List ℕ → A.Handled} {r : Answer} where
-  comes-answered : (a : A.Handled) → a .octets ≡ [] → a .beside ≡ [] → ((S : Ways) (clock : List ℕ) → stage S clock ≡ a) → r ≡ answerOf a
+  comes-so : (n start size : ℕ) → ((S : Ways) (clock : List ℕ) → stage S clock ≡ A.delivered n start size) → r ≡ answerOf (A.delivered n start size)
       → Comes f h stage (Answered r)
-  comes-answered a nothing alone e is = record { same = λ S clock. e S clock ∙ rw is (answers a nothing alone); ends = rw (is, nothing, alone) (refl, refl) }
-    where
-      written : A.Handled → List ℕ → List ℕ → A.Handled
-      written a o y = record { number = a .number; octets = o; start = a .start; size = a .size; via = a .via; beside = y; besideVia = a .besideVia }
-
-      answers : (a : A.Handled) → a .octets ≡ [] → a .beside ≡ [] → a ≡ answerBy (answerOf a)
-      answers a q b = ap (λ (o : List ℕ). written a o (a .beside)) q ∙ ap (λ (o : List ℕ). written a [] o) b
-
-  comes-dropped : (n : ℕ) → ((S : Ways) (clock : List ℕ) → stage S clock ≡ A.dropped n) → r ≡ answerOf (A.dropped n) → Comes f h stage (Answered r)
-  comes-dropped n = comes-answered (A.dropped n) refl refl
+  comes-so n start size e is = record { same = λ S clock. e S clock ∙ rw is; ends = rw is (refl, refl) }
 
 -- what a channel message comes to, by what it is found to be
 module _ (f : List ℕ) (h : Header) (inner : List ℕ) (held : inner ≡ innerOf f h) (read : ChannelRead) (is : read ≡ channelRead inner) where
@@ -198,24 +133,11 @@ module _ (f : List ℕ) (h : Header) (inner : List ℕ) (held : inner ≡ innerO
       let ranged = echo-ranged (bodyOf (innerOf f h)) (channel-echo (innerOf f h) (found e)) in
       record { same = λ S clock. rw (found e); ends = ((ranged .0, ranged .1), ready) }
 
-  module _ (r : Answer) where
-    pub found-bad-err : read ≡ BadErr → r ≡ answerOf (A.dropped 26) → Channel (Answered r)
-    unfolding channelled
-    found-bad-err e = comes-dropped 26 (λ S clock. rw (found e))
+  pub found-dropped : (n : ℕ) (r : Answer) → r ≡ answerOf (A.dropped n) → (c : ChannelRead) → read ≡ c
+      → ((S : Ways) (clock : List ℕ) → channelled S clock f h c ≡ A.dropped n) → Channel (Answered r)
+  found-dropped n r is c e so = comes-so n 0 0 (λ S clock. rw (found e) (so S clock)) is
 
-    pub found-error : read ≡ ErrorHeard → r ≡ answerOf (A.dropped 55) → Channel (Answered r)
-    unfolding channelled
-    found-error e = comes-dropped 55 (λ S clock. rw (found e))
-
-    pub found-bad-echo : read ≡ BadEcho → r ≡ answerOf (A.dropped 27) → Channel (Answered r)
-    unfolding channelled
-    found-bad-echo e = comes-dropped 27 (λ S clock. rw (found e))
-
-    pub found-echo : read ≡ EchoHeard → r ≡ answerOf (A.dropped 56) → Channel (Answered r)
-    unfolding channelled
-    found-echo e = comes-dropped 56 (λ S clock. rw (found e))
-
-pub ruleset channelled-laws = (needs, ready, inner-held, found-fault, found-request, found-bad-err, found-error, found-bad-echo, found-echo)
+pub ruleset channelled-laws = (needs, ready, inner-held, found-fault, found-request, found-dropped)
 
 -- 22 to 24, 51 and 52
 module _ (f : List ℕ) (h : Header) (inner : List ℕ) (held : inner ≡ innerOf f h) where
@@ -223,33 +145,33 @@ module _ (f : List ℕ) (h : Header) (inner : List ℕ) (held : inner ≡ innerO
   Egress t = Comes f h (λ S clock. decapsulated S clock f h) t
 
   pub egress-short : (r : Answer) → r ≡ answerOf (A.dropped 22) → length inner < 18 → Egress (Answered r)
-  egress-short r is a = comes-dropped 22 (λ S clock. inner-short S clock f h (rw held at a)) is
+  egress-short r is a = comes-so 22 0 0 (λ S clock. inner-short S clock f h (rw held at a)) is
 
   module _ (a : 18 ≤ length inner) (tag : Bool) (t : tag ≡ untagged inner) where
     tagged : {b : Bool} → tag ≡ b → untagged (innerOf f h) ≡ b
     tagged b = sym (rw held at t) ∙ b
 
     pub egress-untagged : (r : Answer) → r ≡ answerOf (A.dropped 23) → tag ≡ true → Egress (Answered r)
-    egress-untagged r is b = comes-dropped 23 (λ S clock. inner-untagged S clock f h (rw held at a) (tagged b)) is
+    egress-untagged r is b = comes-so 23 0 0 (λ S clock. inner-untagged S clock f h (rw held at a) (tagged b)) is
 
     module _ (b : tag ≡ false) (all : Bool) (m : all ≡ toAllEgressRBridges inner) where
       to-all : {c : Bool} → all ≡ c → toAllEgressRBridges (innerOf f h) ≡ c
       to-all c = sym (rw held at m) ∙ c
 
       pub egress-any : (r : Answer) → r ≡ answerOf (A.dropped 24) → not all ≡ true → h .egress ≡ 0xFFC0 → Egress (Answered r)
-      egress-any r is n e = comes-dropped 24 (λ S clock. inner-any S clock f h (rw held at a) (tagged b) e (to-all (not-true all n))) is
+      egress-any r is n e = comes-so 24 0 0 (λ S clock. inner-any S clock f h (rw held at a) (tagged b) e (to-all (not-true all n))) is
 
       pub egress-delivered : (r : Answer) (start : ℕ) → start ≡ innerStart h → r ≡ answerOf (A.delivered 51 start (length inner)) → not all ≡ true
           → (h .egress ≡ 0xFFC0 → ⊥) → Egress (Answered r)
       egress-delivered r start i is n e =
-          comes-answered (A.delivered 51 (innerStart h) (length (innerOf f h))) refl refl
+          comes-so 51 (innerStart h) (length (innerOf f h))
           (λ S clock. inner-delivered S clock f h (rw held at a) (tagged b) e (to-all (not-true all n))) (rw (held, i) at is)
 
       module _ (n : not all ≡ false) (word : ℕ) (w : word ≡ be16 inner 16) where
         pub egress-up : (r : Answer) (start : ℕ) → start ≡ innerStart h → r ≡ answerOf (A.delivered 52 start (length inner)) → word ≡ 0x22F4
             → Egress (Answered r)
         egress-up r start i is e =
-            comes-answered (A.delivered 52 (innerStart h) (length (innerOf f h))) refl refl
+            comes-so 52 (innerStart h) (length (innerOf f h))
             (λ S clock. inner-up S clock f h (rw held at a) (tagged b) (to-all (not-false all n)) (sym (rw held at w) ∙ e))
             (rw (held, i) at is)
 
@@ -271,7 +193,7 @@ area-near true area n p e = extended (flagUnsummarized (flagsWord area) || (eqb 
   where
     extended : (b : Bool) → cond b (O.Faulty 38 0) WellFormed ≡ O.Faulty n p → p ≤ length area
     extended true x = let z : 0 ≡ p = cc x in omega (arith, z)
-    extended false x = let z : _≡_ {A = ℕ} 0 1 = cc x in absurd (omega arith)
+    extended false x = let z : 0 ≡ suc (length area) = cc x in omega arith
 
 pub route-place : (p n : ℕ) (read : AreaRead) → read ≡ Faulty n p → (rfc7179 : Bool) (area : List ℕ) → ReadBy rfc7179 area read → length area ≤ 2048 → p ≤ 2048
 route-place p n read e rfc7179 area a short = omega (arith, area-near rfc7179 area n p (sym a ∙ ap judgedBy e))
@@ -309,73 +231,61 @@ module _ (nickname : ℕ) (rfc7179 : Bool) (f : List ℕ) (h : Header) (area : L
       route-egress t y d =
           record {
             same = λ S clock named two. routed-egress S clock f h (well S two) (halted S named two x) (sym (role S named) ∙ y) ∙ d .same S clock;
-            left = left-of t (d .ends);
-            role = role-of t (d .ends);
+            left = ended t (d .ends) .0;
+            role = ended t (d .ends) .1;
           }
         where
-          left-of : (t : Task) → Ends f h t → Left rfc7179 f h t
-          left-of (Answered r) k = k
-          left-of (Forward alert) k = absurd k
-          left-of (Error code) k = k
-          left-of Echo k = k
-
-          role-of : (t : Task) → Ends f h t → Role nickname h t
-          role-of (Answered r) k = Prim.tt
-          role-of (Forward alert) k = absurd k
-          role-of (Error code) k = sym e ∙ y
-          role-of Echo k = sym e ∙ y
+          ended : (t : Task) → Ends f h t → Left rfc7179 f h t × Role nickname h t
+          ended (Answered r) k = (k, Prim.tt)
+          ended (Forward alert) k = absurd k
+          ended (Error code) k = (k, sym e ∙ y)
+          ended Echo k = (k, sym e ∙ y)
 
       -- the alert as the rules find it
       alert-same : (S : Ways) → rfc7179 ≡ S .rfc7179 → (inner : List ℕ) → inner ≡ innerOf f h → alertOf S f h ≡ alertBy rfc7179 area inner
       unfolding alertOf areaStops Tasks.alertBy
       alert-same S two inner within = rw (held, within, two)
 
-      answers-request : (inner : List ℕ) → inner ≡ innerOf f h → (alert : Alert) → alert ≡ alertBy rfc7179 area inner → Answerable f h alert
+      answers-request : (inner : List ℕ) → inner ≡ innerOf f h → Answerable f h (alertBy rfc7179 area inner)
       unfolding Tasks.alertBy alertTo
-      answers-request inner within alert is =
-          rw is (go (rfc7179 && (criticalAlert (flagsWord area) || nonCriticalAlert (flagsWord area)) && channelMessage inner) (channelRead inner) refl)
+      answers-request inner within =
+          by-test (rfc7179 && (criticalAlert (flagsWord area) || nonCriticalAlert (flagsWord area)) && channelMessage inner)
+          (λ t. rw t (to (criticalAlert (flagsWord area)) (not (stopsBy rfc7179 true area)) (channelRead inner) refl)) (λ t. rw t Prim.tt)
         where
           to : (critical answered : Bool) (c : ChannelRead) → channelRead inner ≡ c → Answerable f h (alertTo critical answered c)
-          to true answered (Fault code) q = Prim.tt
-          to false answered (Fault code) q = Prim.tt
-          to true answered BadErr q = Prim.tt
-          to false answered BadErr q = Prim.tt
+          to critical answered (Fault code) q = elim critical [ true ↦ Prim.tt | false ↦ Prim.tt ]
+          to critical answered BadErr q = elim critical [ true ↦ Prim.tt | false ↦ Prim.tt ]
           to critical answered ErrorHeard q = Prim.tt
           to critical answered BadEcho q = Prim.tt
           to critical answered EchoHeard q = Prim.tt
-          to critical true EchoRequest q = echo-ranged (bodyOf (innerOf f h)) (channel-echo (innerOf f h) (rw within at q))
-          to critical false EchoRequest q = Prim.tt
-
-          go : (b : Bool) (c : ChannelRead) → channelRead inner ≡ c
-              → Answerable f h (cond b (alertTo (criticalAlert (flagsWord area)) (not (stopsBy rfc7179 true area)) c) NoAlert)
-          go true c q = to (criticalAlert (flagsWord area)) (not (stopsBy rfc7179 true area)) c q
-          go false c q = Prim.tt
+          to critical answered EchoRequest q =
+              elim answered [
+                | true ↦ echo-ranged (bodyOf (innerOf f h)) (channel-echo (innerOf f h) (rw within at q))
+                | false ↦ Prim.tt
+              ]
 
       pub route-transit : Ready f h → egress ≡ false → (inner : List ℕ) → inner ≡ innerOf f h → (alert : Alert) → alert ≡ alertBy rfc7179 area inner
           → Routes nickname rfc7179 f h (Forward alert)
       unfolding Tasks.transitBy Rules.transit Rules.alerted
       route-transit ready y inner within alert is =
           record {
-            same = λ S clock named two. routed-transit S clock f h (well S two) (halted S named two x) (sym (role S named) ∙ y) ∙ same S clock two;
-            left = record { well = draft; is-ready = ready; answerable = answers-request inner within alert is };
+            same = λ S clock named two.
+                routed-transit S clock f h (well S two) (halted S named two x) (sym (role S named) ∙ y)
+                ∙ by-hop (S .hop (h .egress)) (λ q. rw (Rules.transit, Tasks.transitBy, q))
+                (λ r q. rw (Rules.transit, Tasks.transitBy, q, alert-same S two inner within ∙ sym is) (alike S clock r alert));
+            left = record {
+              well = λ old. rw (← held) (sym (rw old at a) ∙ ap judgedBy w);
+              is-ready = ready;
+              answerable = rw is (answers-request inner within);
+            };
             role = sym e ∙ y;
           }
         where
-          draft : rfc7179 ≡ false → draftRead (areaOf f h) ≡ WellFormed
-          draft old = rw (← held) (sym (rw old at a) ∙ ap judgedBy w)
-
           alike : (S : Ways) (clock : List ℕ) (r : NextHop) (x : Alert) → Rules.alerted S r clock f h x ≡ alertedBy S S r clock f h x
           alike S clock r NoAlert = refl
           alike S clock r (AlertFault code) = refl
           alike S clock r AlertErr = refl
           alike S clock r AlertRequest = refl
-
-          go : (S : Ways) (clock : List ℕ) (R : Ruling) → S .hop (h .egress) ≡ R → Rules.transit S clock f h ≡ transitBy S S clock f h (alertOf S f h)
-          go S clock Absent q = rw (Rules.transit, Tasks.transitBy, q)
-          go S clock (Found r) q = rw (Rules.transit, Tasks.transitBy, q) (alike S clock r (alertOf S f h))
-
-          same : (S : Ways) (clock : List ℕ) → rfc7179 ≡ S .rfc7179 → Rules.transit S clock f h ≡ transitBy S S clock f h alert
-          same S clock two = go S clock (S .hop (h .egress)) refl ∙ ap (transitBy S S clock f h) (alert-same S two inner within ∙ sym is)
 
 pub ruleset route-laws = (needs, ready, area-held, inner-held, route-place, part-short, route-faulty, route-stopped, route-egress, route-transit)
 
@@ -415,24 +325,9 @@ pub ruleset read-laws = (needs, frame-unread, frame-trill)
 
 -- 1, 2, 37 and 3
 module _ (own : Own) (clock f : List ℕ) (room besideRoom : ℕ) where
-  answered-so : (n : ℕ) (r : Answer) → r ≡ answerOf (A.dropped n) → ((S : Ways) → handledWith S clock room besideRoom f ≡ A.dropped n)
+  pub received-dropped : (n : ℕ) (r : Answer) → r ≡ answerOf (A.dropped n) → ((S : Ways) → handledWith S clock room besideRoom f ≡ A.dropped n)
       → Receiving own clock f room besideRoom (R.Answered r)
-  answered-so n r is w = record { same = λ S o. w S ∙ rw is; got = rw is (refl, refl); lent = Prim.tt }
-
-  module _ (r : Answer) where
-    pub received-clock : r ≡ answerOf (A.dropped 1) → (length clock ≡ 6 → ⊥) → Receiving own clock f room besideRoom (R.Answered r)
-    received-clock is a = answered-so 1 r is (λ S. clock-bad S clock room besideRoom f a)
-
-    module _ (a : length clock ≡ 6) where
-      pub received-room : r ≡ answerOf (A.dropped 2) → room < 2048 → Receiving own clock f room besideRoom (R.Answered r)
-      received-room is b = answered-so 2 r is (λ S. room-short S clock room besideRoom f a b)
-
-      module _ (b : 2048 ≤ room) where
-        pub received-beside : r ≡ answerOf (A.dropped 37) → besideRoom < 576 → Receiving own clock f room besideRoom (R.Answered r)
-        received-beside is c = answered-so 37 r is (λ S. beside-short S clock room besideRoom f a b c)
-
-        pub received-long : r ≡ answerOf (A.dropped 3) → 576 ≤ besideRoom → 2048 < length f → Receiving own clock f room besideRoom (R.Answered r)
-        received-long is c d = answered-so 3 r is (λ S. frame-long S clock room besideRoom f a b c d)
+  received-dropped n r is w = record { same = λ S o. w S ∙ rw is; got = rw is (refl, refl); lent = Prim.tt }
 
   pub received-read : (r : Received) → Receives own f r → length clock ≡ 6 → 2048 ≤ room → 576 ≤ besideRoom → length f ≤ 2048
       → Receiving own clock f room besideRoom r
@@ -442,7 +337,7 @@ module _ (own : Own) (clock f : List ℕ) (room besideRoom : ℕ) where
       lends (R.Answered x) = Prim.tt
       lends (R.Trill h) = (a, b, c)
 
-pub ruleset receive-laws = (needs, received-clock, received-room, received-beside, received-long, received-read)
+pub ruleset receive-laws = (needs, received-dropped, clock-bad, room-short, beside-short, frame-long, received-read)
 
 -- what a frame that was received has with it
 module _ {own : Own} {clock f : List ℕ} {room besideRoom : ℕ} {received : Received} (x : Receiving own clock f room besideRoom received) {h : Header}

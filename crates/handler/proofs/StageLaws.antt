@@ -2,36 +2,26 @@
 -- buffer that the rules define. One law for each need, over what the calls before it ensure, for `search` to cite. Assumes nothing.
 use mathlib.Core.Path.{_≡_, refl, sym, ap, _∙_}
 use mathlib.Core.List.{List, [], _++_}
-use mathlib.Core.Bool.{Bool, true, false, not, _&&_, true≢false, false≢true}
+use mathlib.Core.Bool.{Bool, true, false, not, _&&_}
 use Prim.Native.Nat.{ℕ, _+_, _-_, _*_, _≤_, _<_}
 use native.Mathlib.Omega.{arith}
 use borrow.Author.Needs.{needs}
-use borrow.Author.Tests.{lt-leb, le-leb, leb-true, leb-false, not-true, not-false}
-use lib.Dec.{leb, eqb}
-use lib.ListN.{length, take, drop, length-append, length-drop, length-take}
-use lib.Seq.{drop-drop, length-take-le}
-use Rattle.rules.specs.Octets.{put, be16, octet}
-use Rattle.rules.specs.Settings.{Ways}
-use Rattle.rules.specs.Link.{link}
-use Rattle.rules.specs.Header.{opLength, innerStart, areaOf, innerOf}
-use Rattle.rules.specs.Options.{WellFormed, draftRead, stripped}
-use Rattle.rules.specs.Extension.{areaSent}
+use borrow.Author.Tests.{lt-leb, le-leb, leb-true, leb-false, not-true}
+use lib.{Dec.leb, Seq.drop-drop, Seq.length-take-le}
+use lib.ListN.{length, take, drop, length-append, length-drop}
+use Rattle.rules.specs.{Octets.put, Octets.octet, Settings.Ways, Link.link, Header.opLength, Header.innerStart, Header.areaOf, Header.innerOf}
+use Rattle.rules.specs.{Options.WellFormed, Options.draftRead, Options.stripped, Extension.areaSent}
 use Rattle.rules.specs.Channel.{bodyOf, returnPath, silenced, errorReply, echoReply}
 use Rattle.rules.specs.Handling.{forwarded, forwardedRest, onward, faulted, echoed}
 use Rattle.rules.specs.Answer as A
-use Rattle.rules.specs.declared.NextHop.{NextHop}
-use Rattle.rules.specs.declared.Header.{Header}
-use Rattle.rules.specs.declared.Ruling.{Ruling}
-use Rattle.rules.specs.declared.Ruling.the-variants.{Found, Absent}
+use Rattle.rules.specs.declared.{NextHop.NextHop, Header.Header, Ruling.Ruling, Ruling.the-variants.Found, Ruling.the-variants.Absent}
 use Rattle.rules.proofs.TestLaws.{by-test, and-no, and-yes, and-true}
-use Rattle.rules.proofs.OctetLaws.{put-none, take-put, length-part}
-use Rattle.rules.proofs.OptionLaws.{stripped-word, stripped-shorter}
-use Rattle.rules.proofs.FrameLaws.{frame-read, link-length, length-link, link-most}
+use Rattle.rules.proofs.{OctetLaws.put-none, OctetLaws.take-put, OctetLaws.length-part, OptionLaws.stripped-word, OptionLaws.stripped-shorter}
+use Rattle.rules.proofs.{FrameLaws.frame-read, FrameLaws.link-length, FrameLaws.length-link}
 use Rattle.rules.proofs.HandlingLaws.{onward-long, onward-sent, faulted-silent, faulted-none, faulted-over, echoed-mode, echoed-none, echoed-over}
 use Rattle.handler.specs.declared.answers.Answer.{Answer}
 use Rattle.handler.specs.Shapes.{answerOf, wroteBy, linkSize, restWith, Fits, Ready, Replied, Done}
-use Rattle.handler.proofs.Stages.{after, lent-rest}
-use Rattle.handler.proofs.Rests.{area-lent, rest-long}
+use Rattle.handler.proofs.{Stages.after, Stages.lent-rest, Stages.link-sized, Rests.rest-long}
 
 -- a frame that is ready
 module _ {f : List ℕ} {h : Header} (ready : Ready f h) where
@@ -47,7 +37,7 @@ module _ {f : List ℕ} {h : Header} (ready : Ready f h) where
   pub inner-within : {start : ℕ} → start ≡ innerStart h → start ≤ length f
   inner-within i = omega (arith, ready .area-whole)
 
-pub ruleset ready = (ready-near, ready-from, ready-place, inner-within)
+pub ruleset ready = (ready-near, ready-from, ready-place)
 
 -- the parts of a frame that the code holds
 module _ (f : List ℕ) (h : Header) (start : ℕ) (i : start ≡ innerStart h) where
@@ -61,30 +51,27 @@ module _ (f : List ℕ) (h : Header) (start : ℕ) (i : start ≡ innerStart h) 
   body-within b = let n : length (bodyOf (innerOf f h)) ≡ length f - innerStart h - 22 = simp length-drop in omega arith
 
   pub area-held : take (start - (h .place + 6)) (drop (h .place + 6) f) ≡ areaOf f h
-  area-held = area-lent f h start i
+  area-held = let n : start - (h .place + 6) ≡ 4 * opLength (h .word) = omega arith in rw n
 
 -- the answers with nothing written
 module _ {a : A.Handled} {r : Answer} {out : List ℕ} where
   pub done-dropped : (n : ℕ) → a ≡ A.dropped n → r ≡ answerOf (A.dropped n) → Done a r out out
   done-dropped n e is = rw e (record { answer = is; after = sym (put-none out 0); alone = refl })
 
+-- by a next hop
+pub by-hop : {X : Type 0} (R : Ruling) → (R ≡ Absent → X) → ((r : NextHop) → R ≡ Found r → X) → X
+by-hop Absent lost found = lost refl
+by-hop (Found r) lost found = found r refl
+
 -- the next hop back
 abbrev pub back : Ways → Header → Ruling
 back S h = returnPath S (h .ingress)
 
--- what is written behind the link header towards a next hop
-module _ (S : Ways) (hop : NextHop) (out out1 : List ℕ) (k : ℕ) (long : k ≡ length (link S hop)) (linked : out1 ≡ put out 0 (link S hop)) where
-  sent : {a : A.Handled} {r : Answer} (number : ℕ) (rest : List ℕ) {end : ℕ} {out2 : List ℕ} → a ≡ A.wrote number (link S hop ++ rest) (hop .neighbour)
-      → r ≡ wroteBy number end (hop .neighbour) → end ≡ k + length rest → out2 ≡ put out1 k rest → k + length rest ≤ length out → Done a r out out2
-  sent number rest {end} {out2} e is ended p room =
-      let whole : end ≡ length (link S hop ++ rest) = rw length-append (ended ∙ ap (λ (x : ℕ). x + length rest) long) in
-      rw e (record { answer = is ∙ (rw whole); after = after out out1 out2 0 k (link S hop) rest linked p (omega arith) room; alone = refl })
+pub link-room : (r : NextHop) (out : List ℕ) → 18 ≤ length out → linkSize (r .vlan) ≤ length out
+link-room r out h = omega (arith, link-sized (r .vlan))
 
-  pub link-few : k ≤ 18
-  link-few = omega (arith, long, link-most S hop)
-
-pub link-room : (r : NextHop) (out : List ℕ) → 2048 ≤ length out → linkSize (r .vlan) ≤ length out
-link-room r out h = by-test (eqb (r .vlan) 0) (λ e. rw e (omega arith)) (λ e. rw e (omega arith))
+pub room-18 : (out : List ℕ) → 2048 ≤ length out → 18 ≤ length out
+room-18 out h = omega arith
 
 -- 29 and 50, with the area as it is sent
 module _ (S : Ways) (r : NextHop) (f : List ℕ) (h : Header) (out area : List ℕ) (goes : areaSent S (areaOf f h) ≡ area) where
@@ -95,94 +82,70 @@ module _ (S : Ways) (r : NextHop) (f : List ℕ) (h : Header) (out area : List �
   forwards-long : length (forwarded S r f h) ≡ linkSize (r .vlan) + length (restWith area f h)
   forwards-long = sym (ap length forwards) ∙ length-append (link S r) (restWith area f h) ∙ rw (length-link S r)
 
-  module _ (k size : ℕ) (links : k ≡ linkSize (r .vlan)) (rests : size ≡ length (restWith area f h)) where
-    onward-over : (a : Answer) → a ≡ answerOf (A.dropped 29) → 2048 < k + size → Done (onward S r f h [] 0) a out out
-    onward-over a is n = done-dropped 29 (onward-long S f h r [] 0 (omega (arith, forwards-long))) is
+  pub onward-over : (a : Answer) (k size : ℕ) → a ≡ answerOf (A.dropped 29) → 2048 < k + size → k ≡ linkSize (r .vlan) → size ≡ length (restWith area f h)
+      → Done (onward S r f h [] 0) a out out
+  onward-over a k size is n links rests = done-dropped 29 (onward-long S f h r [] 0 (omega (arith, forwards-long))) is
 
-    module _ (n : k + size ≤ 2048) (at : ℕ) (out1 : List ℕ) (long : at ≡ length (link S r)) (linked : out1 ≡ put out 0 (link S r)) where
-      ends-short : (end : ℕ) → end ≡ at + length (restWith area f h) → end ≤ 2048
-      ends-short end ended = omega (arith, length-link S r)
+  module _ (k size : ℕ) (n : k + size ≤ 2048) (links : k ≡ linkSize (r .vlan)) (rests : size ≡ length (restWith area f h)) (at : ℕ) (out1 : List ℕ)
+      (long : at ≡ length (link S r)) (linked : out1 ≡ put out 0 (link S r)) where
+    pub onward-short : (end : ℕ) → end ≡ at + length (restWith area f h) → end ≤ 2048
+    onward-short end ended = omega (arith, length-link S r)
 
-      onward-done : (a : Answer) (end : ℕ) (out2 : List ℕ) → a ≡ wroteBy 50 end (r .neighbour) → end ≡ at + length (restWith area f h)
-          → out2 ≡ put out1 at (restWith area f h)
-          → 2048 ≤ length out → Done (onward S r f h [] 0) a out out2
-      onward-done a end out2 is ended p roomy =
-          sent S r out out1 at long linked 50 (restWith area f h) (onward-sent S f h r [] 0 (omega (arith, forwards-long)) ∙ rw (← forwards)) is ended p
-          (omega (arith, ends-short end ended))
+    pub onward-done : (a : Answer) (end : ℕ) (out2 : List ℕ) → a ≡ wroteBy 50 end (r .neighbour) → end ≡ at + length (restWith area f h)
+        → out2 ≡ put out1 at (restWith area f h) → 2048 ≤ length out → Done (onward S r f h [] 0) a out out2
+    onward-done a end out2 is ended p roomy =
+        rw (onward-sent S f h r [] 0 (omega (arith, forwards-long)), ← forwards)
+        (record {
+          answer = is ∙ rw (ended, long, length-append);
+          after = after out out1 out2 0 at (link S r) (restWith area f h) linked p (omega arith) (omega (arith, onward-short end ended));
+          alone = refl;
+        })
 
-      onward-fits : Ready f h → length area ≤ 124 → length out1 ≡ length out → 2048 ≤ length out → Fits area f h out1 at
-      onward-fits ready few same roomy =
-          record {
-            place-small = ready-near ready;
-            area-whole = ready .area-whole;
-            hops-left = ready .hops-left;
-            area-short = few;
-            room = omega (arith, length-link S r);
-          }
+    pub onward-fits : Ready f h → length area ≤ 124 → length out1 ≡ length out → 2048 ≤ length out → Fits area f h out1 at
+    onward-fits ready few same roomy =
+        record {
+          place-small = ready-near ready;
+          area-whole = ready .area-whole;
+          hops-left = ready .hops-left;
+          area-short = few;
+          room = omega (arith, length-link S r);
+        }
+
+pub ruleset onward-laws = (needs, ready, link-room, room-18, onward-over, onward-short, onward-done, onward-fits)
 
 -- how long it is
 module _ {f : List ℕ} {h : Header} (ready : Ready f h) where
   area-words : length (areaOf f h) ≡ 4 * opLength (h .word)
   area-words = length-part f (h .place + 6) (4 * opLength (h .word)) (ready .area-whole)
 
-  whole-long : length f - h .place ≡ length (restWith (areaOf f h) f h)
+  pub area-few : length (areaOf f h) ≤ 124
+  area-few = omega (arith, area-words)
+
+  pub whole-long : length f - h .place ≡ length (restWith (areaOf f h) f h)
   whole-long = omega (arith, rest-long f h (areaOf f h), area-words, ready .area-whole)
 
-module _ (S : Ways) (r : NextHop) (f : List ℕ) (h : Header) (out : List ℕ) (goes : areaSent S (areaOf f h) ≡ areaOf f h) (ready : Ready f h) (k : ℕ)
-    (links : k ≡ linkSize (r .vlan)) where
-  pub whole-over : (a : Answer) → a ≡ answerOf (A.dropped 29) → 2048 < k + (length f - h .place) → Done (onward S r f h [] 0) a out out
-  whole-over = onward-over S r f h out (areaOf f h) goes k (length f - h .place) links (whole-long ready)
+  pub whole-add : (r : NextHop) (k : ℕ) → k ≡ linkSize (r .vlan) → k + (length f - h .place) < 18446744073709551616
+  whole-add r k e = omega (arith, link-sized (r .vlan), ready .short)
 
-  module _ (n : k + (length f - h .place) ≤ 2048) (at : ℕ) (out1 : List ℕ) (long : at ≡ length (link S r)) (linked : out1 ≡ put out 0 (link S r)) where
-    pub whole-short : (end : ℕ) → end ≡ at + length (restWith (areaOf f h) f h) → end ≤ 2048
-    whole-short = ends-short S r f h out (areaOf f h) goes k (length f - h .place) links (whole-long ready) n at out1 long linked
-
-    pub whole-done : (a : Answer) (end : ℕ) (out2 : List ℕ) → a ≡ wroteBy 50 end (r .neighbour) → end ≡ at + length (restWith (areaOf f h) f h)
-        → out2 ≡ put out1 at (restWith (areaOf f h) f h) → 2048 ≤ length out → Done (onward S r f h [] 0) a out out2
-    whole-done = onward-done S r f h out (areaOf f h) goes k (length f - h .place) links (whole-long ready) n at out1 long linked
-
-    pub whole-fits : length out1 ≡ length out → 2048 ≤ length out → Fits (areaOf f h) f h out1 at
-    whole-fits =
-        onward-fits S r f h out (areaOf f h) goes k (length f - h .place) links (whole-long ready) n at out1 long linked ready (omega (arith, area-words ready))
-
-pub whole-add : {f : List ℕ} {h : Header} → Ready f h → (r : NextHop) (k : ℕ) → k ≡ linkSize (r .vlan) → k + (length f - h .place) < 18446744073709551616
-whole-add ready r k e = by-test (eqb (r .vlan) 0) (λ t. omega (arith, rw t at e, ready .short)) (λ t. omega (arith, rw t at e, ready .short))
-
-pub ruleset send-whole-laws = (needs, ready, link-room, whole-add, whole-over, whole-short, whole-done, whole-fits)
+pub ruleset send-whole-laws = (onward-laws, area-few, whole-long, whole-add)
 
 -- with another area
-module _ (S : Ways) (r : NextHop) (f : List ℕ) (h : Header) (out area : List ℕ) (goes : areaSent S (areaOf f h) ≡ area) (inner k : ℕ)
-    (start : inner ≡ innerStart h) (links : k ≡ linkSize (r .vlan)) where
-  with-long : 6 + length area + (length f - inner) ≡ length (restWith area f h)
-  with-long = omega (arith, rest-long f h area)
-
-  pub with-over : (a : Answer) → a ≡ answerOf (A.dropped 29) → 2048 < k + (6 + length area + (length f - inner)) → Done (onward S r f h [] 0) a out out
-  with-over = onward-over S r f h out area goes k (6 + length area + (length f - inner)) links with-long
-
-  module _ (n : k + (6 + length area + (length f - inner)) ≤ 2048) (at : ℕ) (out1 : List ℕ) (long : at ≡ length (link S r))
-      (linked : out1 ≡ put out 0 (link S r)) where
-    pub with-short : (end : ℕ) → end ≡ at + length (restWith area f h) → end ≤ 2048
-    with-short = ends-short S r f h out area goes k (6 + length area + (length f - inner)) links with-long n at out1 long linked
-
-    pub with-done : (a : Answer) (end : ℕ) (out2 : List ℕ) → a ≡ wroteBy 50 end (r .neighbour) → end ≡ at + length (restWith area f h)
-        → out2 ≡ put out1 at (restWith area f h) → 2048 ≤ length out → Done (onward S r f h [] 0) a out out2
-    with-done = onward-done S r f h out area goes k (6 + length area + (length f - inner)) links with-long n at out1 long linked
-
-    pub with-fits : Ready f h → length area ≤ 124 → length out1 ≡ length out → 2048 ≤ length out → Fits area f h out1 at
-    with-fits = onward-fits S r f h out area goes k (6 + length area + (length f - inner)) links with-long n at out1 long linked
+pub with-long : (f : List ℕ) (h : Header) (area : List ℕ) (inner : ℕ) → inner ≡ innerStart h
+    → 6 + length area + (length f - inner) ≡ length (restWith area f h)
+with-long f h area inner start = omega (arith, rest-long f h area)
 
 module _ {f : List ℕ} {h : Header} (is : Ready f h) (area : List ℕ) (few : length area ≤ 124) (inner : ℕ) where
   pub with-size : 6 + length area + (length f - inner) < 18446744073709551616
   with-size = omega (arith, is .short)
 
   pub with-sum : (r : NextHop) (k : ℕ) → k ≡ linkSize (r .vlan) → k + (6 + length area + (length f - inner)) < 18446744073709551616
-  with-sum r k e = by-test (eqb (r .vlan) 0) (λ t. omega (arith, rw t at e, is .short)) (λ t. omega (arith, rw t at e, is .short))
+  with-sum r k e = omega (arith, link-sized (r .vlan), is .short)
 
-pub ruleset send-with-laws = (needs, ready, link-room, with-size, with-sum, with-over, with-short, with-done, with-fits)
+pub ruleset send-with-laws = (onward-laws, with-long, with-size, with-sum)
 
 -- what is left of an area, stripped aside
 pub aside-room : {f : List ℕ} {h : Header} → Ready f h → (lent : List ℕ) → lent ≡ areaOf f h → 0 + length lent ≤ 124
-aside-room is lent held = rw held (omega (arith, area-words is))
+aside-room is lent held = rw held (omega (arith, area-few is))
 
 module _ {f : List ℕ} {h : Header} (is : Ready f h) (n : ℕ) (lent : List ℕ) (left : n ≡ length (stripped lent)) (held : lent ≡ areaOf f h)
     (well : draftRead (areaOf f h) ≡ WellFormed) where
@@ -219,16 +182,13 @@ pub ruleset send-stripped-laws = (needs, ready, area-held, aside-room, kept-ther
 pub strips-some : (f : List ℕ) (h : Header) → Ready f h → (strip flag : Bool) → strip ≡ (leb 2 (opLength (h .word)) && flag) → strip ≡ true
     → 4 ≤ length (areaOf f h)
 strips-some f h is strip flag so t =
-    by-test (leb 2 (opLength (h .word)))
-    (λ e. omega (arith, area-words is, leb-true 2 (opLength (h .word)) e))
-    (λ e. let z : true ≡ false = sym t ∙ so ∙ (rw e) in absurd (true≢false z))
+    omega (arith, area-words is, leb-true 2 (opLength (h .word)) (and-true (leb 2 (opLength (h .word))) flag (sym so ∙ t) .0))
 
 module _ (S : Ways) (f : List ℕ) (h : Header) (ready : Ready f h) (strip : Bool)
     (flag : strip ≡ (leb 2 (opLength (h .word)) && (S .strip && not (S .rfc7179)))) where
   pub sends-stripped : strip ≡ true → areaSent S (areaOf f h) ≡ stripped (areaOf f h)
   unfolding areaSent
-  sends-stripped t =
-      by-test (S .strip && not (S .rfc7179)) (λ e. rw e) (λ e. let z : true ≡ false = sym t ∙ flag ∙ (rw (e, and-no)) in absurd (true≢false z))
+  sends-stripped t = rw (and-true (leb 2 (opLength (h .word))) (S .strip && not (S .rfc7179)) (sym flag ∙ t) .1)
 
   pub sends-whole : strip ≡ false → areaSent S (areaOf f h) ≡ areaOf f h
   unfolding areaSent

@@ -1,13 +1,14 @@
 -- A buffer written in stages: what fits is written, and writes to places side by side are one write. By laws of `put`.
 -- Assumes nothing.
-use mathlib.Core.Path.{_≡_, ap, _∙_}
-use mathlib.Core.List.{List, _++_}
+use borrow.Author.{Needs.needs, Tests.eq-eqb, Tests.ne-eqb}
+use Rattle.rules.specs.Octets.{if_then_else_, put}
+use mathlib.Core.{Path._≡_, Path.ap, Path._∙_, List.List, List._++_}
 use Prim.Native.Nat.{ℕ, _+_, _-_, _≤_}
 use native.Mathlib.Omega.{arith}
 use lib.ListN.{length, take, drop, length-drop}
-use lib.Seq.{take-all}
-use Rattle.rules.specs.Octets.{put}
-use Rattle.rules.proofs.OctetLaws.{put-put, length-put}
+use lib.{Seq.take-all, Dec.eqb}
+use Rattle.rules.proofs.{OctetLaws.put-put, OctetLaws.length-put, TestLaws.by-test}
+use Rattle.handler.specs.Shapes.{linkSize}
 use Rattle.octets.specs.Copy.{putFitting}
 use Rattle.octets.proofs.Ends.{put-fits}
 
@@ -28,3 +29,17 @@ module _ (d d1 d2 : List ℕ) (at n : ℕ) (a b : List ℕ) where
   copied-after s p q is e h =
       let same : length d1 ≡ length d = ap length p ∙ length-put d at a (omega arith) in
       after p (copied d1 d2 n s b q is (omega arith)) e h
+
+-- a link header has 14 octets, or 18 with a tag
+pub link-sized : (vlan : ℕ) → (14 ≤ linkSize vlan) × (linkSize vlan ≤ 18)
+link-sized vlan = by-test (eqb vlan 0) (λ e. rw e (omega arith)) (λ e. rw e (omega arith))
+
+-- a choice by whether two numbers are equal
+module _ {A : Type 0} (r x y : A) (n k : ℕ) where
+  pub if-equal : n ≡ k → r ≡ x → r ≡ (if eqb n k then x else y)
+  if-equal e is = rw (eq-eqb n k e) is
+
+  pub if-other : (n ≡ k → ⊥) → r ≡ y → r ≡ (if eqb n k then x else y)
+  if-other o is = rw (ne-eqb n k o) is
+
+pub ruleset if-laws = (needs, if-equal, if-other)

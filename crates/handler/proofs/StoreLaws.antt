@@ -1,36 +1,24 @@
 -- A store as the code reads it: one law for each way out, over what the tests and calls before it say. By computation. Assumes nothing.
 use Prim.Native.Nat.{ℕ, _+_, _*_, _/_, _%_, _^_, _≤_, _<_}
 use mathlib.Core.Path.{_≡_, refl, sym, ap, _∙_}
-use mathlib.Core.List.{List, []}
-use mathlib.Core.Bool.{Bool, true, false, not, _&&_, true≢false}
+use mathlib.Core.List.{List}
+use mathlib.Core.Bool.{Bool, true, false, not, _&&_}
 use native.Mathlib.Omega.{arith}
 use borrow.Author.Needs.{needs}
 use borrow.Author.Tests.{lt-ltb, le-ltb, le-leb, lt-leb, eq-eqb, ne-eqb, leb-true, not-true, not-false}
 use lib.Dec.{ltb, leb, eqb}
 use lib.ListN.{length, getD}
-use Rattle.rules.specs.Settings.{Ways, nicknameValid}
-use Rattle.rules.specs.declared.Header.{Header}
-use Rattle.rules.specs.declared.NextHop.{NextHop}
-use Rattle.rules.specs.declared.Ruling.{Ruling}
-use Rattle.rules.specs.declared.Ruling.the-variants.{Found, Absent}
+use Rattle.rules.specs.{Settings.nicknameValid, Handling.routed}
+use Rattle.rules.specs.declared.{Header.Header, NextHop.NextHop, Ruling.Ruling, Ruling.the-variants.Found, Ruling.the-variants.Absent}
 use Rattle.rules.proofs.TestLaws.{and-true, and-no}
 use Rattle.rules.specs.Answer as A
-use Rattle.rules.specs.Handling.{routed}
-use Rattle.rules.proofs.OctetLaws.{put-none}
-use Rattle.handler.specs.declared.answers.Answer.{Answer}
-use Rattle.handler.specs.declared.way.Own.{Own}
-use Rattle.handler.specs.declared.way.Told.{Told}
-use Rattle.handler.specs.declared.handling.Task.{Task}
-use Rattle.handler.specs.declared.handling.Task.the-variants as TaskIs
-use Rattle.handler.specs.declared.handling.Received.{Received}
-use Rattle.handler.specs.declared.handling.Received.the-variants.{Answered, Trill}
-use Rattle.handler.specs.Shapes.{answerOf, droppedBy, ownOf, onlyFor, waysBy, Ready, Done}
-use Rattle.handler.specs.Tasks.{receivedBy, Receiving, Both}
-use Rattle.handler.proofs.RouteLaws.{received-lent}
-use Rattle.handler.proofs.TaskLaws.{kept, tells, task-laws, replies-none, replies-so, replied, said-forwardable}
+use Rattle.handler.specs.declared.{answers.Answer.Answer, way.Own.Own, handling.Received.Received}
+use Rattle.handler.specs.declared.{handling.Received.the-variants.Answered, handling.Received.the-variants.Trill}
+use Rattle.handler.specs.{Shapes.droppedBy, Shapes.ownOf, Shapes.onlyFor, Shapes.waysBy, Tasks.receivedBy, Tasks.Receiving, Tasks.Both}
+use Rattle.handler.proofs.{RouteLaws.received-lent, StageLaws.done-dropped}
+use Rattle.handler.proofs.TaskLaws.{both-of, kept, tells, replies-none, replies-so, replied, said-forwardable}
 use Rattle.stores.proofs.PlaceLaws.{step-past, step-up, step-stay, place-hinted, place-searched, for-past, for-other}
-use Rattle.stores.specs.Store.{nicknameIn, countIn, valueAt, destOf, destAt, hopOf, hopAt, stepped, searched, lastAt, hintAt, placeIn, hopFor}
-use Rattle.stores.specs.Store.{waysIn, storeGood, handledIn, Whole}
+use Rattle.stores.specs.Store.{nicknameIn, countIn, valueAt, destAt, hopOf, hopAt, lastAt, hintAt, placeIn, hopFor, waysIn, storeGood, handledIn, Whole}
 
 -- which words are good
 module _ (w : List ℕ) where
@@ -76,12 +64,6 @@ pub ruleset store-good-laws = (needs, good-short, good-nobody, good-above, good-
 
 -- the search
 pub ruleset step-laws = (needs, step-past, step-up, step-stay)
-
-pub six-steps : (w : List ℕ) (n d a b c e f r : ℕ) → r ≡ stepped w n d f 1 → f ≡ stepped w n d e 2 → e ≡ stepped w n d c 4 → c ≡ stepped w n d b 8
-    → b ≡ stepped w n d a 16 → a ≡ stepped w n d 0 32 → r ≡ searched w n d
-six-steps w n d a b c e f r s t u v x y = rw (s, t, u, v, x, y)
-
-pub ruleset search-laws = (needs, six-steps)
 
 -- the last record of a destination
 module _ (w : List ℕ) (n d i : ℕ) where
@@ -134,13 +116,6 @@ module _ (w : List ℕ) (n d i : ℕ) (a : i < n) (key : ℕ) (is : key ≡ dest
       rw (lt-ltb i n a, ← is, eq-eqb key d b, ne-eqb (valueAt w i % 65536) 0 (λ z. h (gone ∙ z))) in
       rw there (ap Found e)
 
-pub hop-made : (key value dest : ℕ) → dest ≡ destOf key
-    → _≡_ {A = NextHop} (record { destination = dest; neighbour = value % 65536; mac = value / 65536; serial = key / 65536 % 4294967296; vlan = key % 65536 })
-    (hopOf key value)
-hop-made key value dest e = rw e
-
-pub ruleset hop-of-laws = (needs, hop-made)
-
 pub ruleset hop-for-laws = (needs, for-past, for-other, for-withdrawn, for-found)
 
 module _ {w : List ℕ} (whole : Whole w) where
@@ -166,7 +141,7 @@ module _ (w clock f out beside : List ℕ) (ok : Bool) (is : ok ≡ storeGood w)
 
   pub store-bad : not ok ≡ true → (r : Answer) → r ≡ droppedBy 1 0 → Both answer r out out beside beside
   unfolding handledIn
-  store-bad n r e = rw (← is, not-true ok n) (record { answer = e; after = sym (put-none out 0); after-beside = sym (put-none beside 0) })
+  store-bad n r e = rw (← is, not-true ok n) (both-of beside (done-dropped 1 refl e))
 
   module _ (n : not ok ≡ false) where
     pub good-store : Whole w
@@ -178,20 +153,15 @@ module _ (w clock f out beside : List ℕ) (ok : Bool) (is : ok ≡ storeGood w)
       comes = rw (← is, not-false ok n) (x .same (waysIn w) o)
 
       pub store-early : (a : Answer) → received ≡ Answered a → Both answer a out out beside beside
-      store-early a e =
-          let got = rw e at (x .got) in
-          rw (comes, e) (record { answer = kept a (got .0) (got .1); after = sym (put-none out 0); after-beside = sym (put-none beside 0) })
+      store-early a e = rw (comes, e) (both-of beside (kept a out (rw e at (x .got))))
 
-      module _ (h : Header) (e : received ≡ Trill h) where
-        pub store-done : (r : Answer) (out2 beside2 : List ℕ) → Both (routed (waysIn w) clock f h) r out out2 beside beside2
-            → Both answer r out out2 beside beside2
-        store-done r out2 beside2 d = rw (comes, e) d
+      pub store-done : (h : Header) → received ≡ Trill h → (r : Answer) (out2 beside2 : List ℕ) → Both (routed (waysIn w) clock f h) r out out2 beside beside2
+          → Both answer r out out2 beside beside2
+      store-done h e r out2 beside2 d = rw (comes, e) d
 
 pub ruleset handle-prepared-laws = (needs, received-lent, good-store, store-bad, store-early, store-done)
 
 -- a frame that was received, by a good store
-pub ruleset handle-received-laws = task-laws
-
 pub ruleset forward-in-laws = (needs, replied, replies-none, said-forwardable)
 
 pub ruleset reply-in-laws = (needs, replies-so, said-forwardable)

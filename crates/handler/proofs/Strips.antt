@@ -3,22 +3,19 @@ use mathlib.Core.Path.{_≡_, refl, sym, ap, _∙_}
 use mathlib.Core.List.{List, [], _∷_, _++_, append-assoc, append-nil}
 use mathlib.Core.Bool.{Bool, true, false}
 use Prim.Native.Nat.{ℕ, suc, _+_, _-_, _≤_, _<_}
-use native.Mathlib.Omega.{arith}
-use native.Mathlib.Nat.{add-zero}
+use native.Mathlib.{Omega.arith, Nat.add-zero}
 use borrow.Author.Needs.{needs}
 use lib.ListN.{length, take, getD, length-append}
 use lib.Seq.{length-take-le}
 use Rattle.rules.specs.Octets.{be16, part, put}
-use Rattle.rules.specs.Options.{TlvOption, options, keyOf, lengthOf, optionSize, optionsFrom, optionsOf}
-use Rattle.rules.specs.Options.{strippable, keptOptions, octetsOf, WellFormed, draftRead, stripped}
+use Rattle.rules.specs.Options.{TlvOption, options, keyOf, lengthOf, optionSize, optionsFrom, optionsOf, strippable, keptOptions, octetsOf, WellFormed}
+use Rattle.rules.specs.Options.{draftRead, stripped}
 use Rattle.rules.proofs.TestLaws.{by-test}
 use Rattle.rules.proofs.OctetLaws.{put-none, put-put, length-put, length-part}
-use Rattle.rules.proofs.OptionLaws.{Walked, ended, took, walked, options-end, options-same, kept-nothing}
-use Rattle.rules.proofs.OptionLaws.{kept-not, kept-too, area-well, stripped-is, stripped-shorter}
+use Rattle.rules.proofs.OptionLaws.{Walked, ended, took, walked, options-end, kept-nothing, kept-not, kept-too, area-well, stripped-is, stripped-shorter}
 use Rattle.octets.specs.Copy.{putFitting}
 use Rattle.octets.proofs.Ends.{put-fits}
-use Rattle.handler.specs.Shapes.{keptIf, keptFrom}
-use Rattle.handler.specs.Treatment.{Treats, strippedBy}
+use Rattle.handler.specs.{Shapes.keptIf, Shapes.keptFrom, Treatment.Treats, Treatment.strippedBy}
 use Rattle.handler.proofs.Stages.{copied, after}
 
 -- what stays of one option
@@ -67,11 +64,28 @@ pub record Stripping (area out₀ : List ℕ) (from : ℕ) (out : List ℕ) (at 
   pub same : length out ≡ length out₀
 
 -- the next option, as it stands in the area
+abbrev sizeIn : List ℕ → ℕ → ℕ
+sizeIn area at = optionSize (lengthOf (be16 area at))
+
+abbrev optionIn : List ℕ → ℕ → TlvOption
+optionIn area at = record { key = keyOf (be16 area at); size = lengthOf (be16 area at); octets = part area at (sizeIn area at) }
+
 record Next (area : List ℕ) (at fuel : ℕ) (left : List TlvOption) : Type 0 where
   after : List TlvOption
-  fits : at + optionSize (lengthOf (be16 area at)) ≤ length area
-  others : optionsFrom fuel area (keyOf (be16 area at) + 1) (at + optionSize (lengthOf (be16 area at))) ≡ options after
-  first : left ≡ record { key = keyOf (be16 area at); size = lengthOf (be16 area at); octets = part area at (optionSize (lengthOf (be16 area at))) } ∷ after
+  fits : at + sizeIn area at ≤ length area
+  others : optionsFrom fuel area (keyOf (be16 area at) + 1) (at + sizeIn area at) ≡ options after
+  first : left ≡ optionIn area at ∷ after
+
+next-of : {fuel : ℕ} {area : List ℕ} {floor at : ℕ} {left : List TlvOption} → Walked fuel area floor at left → at < length area → Next area at fuel left
+next-of (ended le is) h = absurd (omega arith)
+next-of {at = at} (took key size next os lt r is f) h =
+    let n : next - at ≡ optionSize size = omega (arith, r .ends) in
+    record {
+      after = os;
+      fits = rw (r .its-size) (omega (arith, r .ends, r .within));
+      others = rw (r .its-key, r .its-size, ← r .ends) f;
+      first = rw (r .its-key, r .its-size, ← n) is;
+    }
 
 module _ (area out₀ : List ℕ) (from : ℕ) where
   pub strip-begin : draftRead area ≡ WellFormed → 4 ≤ length area → Stripping area out₀ from out₀ 4 from
@@ -96,10 +110,7 @@ module _ (area out₀ : List ℕ) (from : ℕ) where
 
   module _ (room : from + length area ≤ length out₀ + 4) (out : List ℕ) (at to : ℕ) (s : Stripping area out₀ from out at to) where
     all-written : length area ≤ at → s .written ≡ keptFrom (optionsOf area)
-    all-written h =
-        let none-left : s .left ≡ [] = options-same (s .left) [] (sym (s .next-ones) ∙ options-end (s .fuel) area (s .floor) at h) in
-        sym (append-nil (s .written))
-        ∙ ap (λ (x : List ℕ). s .written ++ x) (sym (ap (λ (os : List TlvOption). octetsOf (keptOptions os)) none-left ∙ kept-empty)) ∙ s .rest
+    all-written h = cc (options-end (s .fuel) area (s .floor) at h, append-nil (s .written), kept-empty)
 
     pub strip-ends : length area ≤ at → to ≡ from + length (keptFrom (optionsOf area))
     strip-ends h = rw (← all-written h) (s .place)
@@ -112,19 +123,7 @@ module _ (area out₀ : List ℕ) (from : ℕ) where
 
     module _ (h : at < length area) where
       next-option : Next area at (s .fuel) (s .left)
-      next-option = go (walked (s .fuel) area (s .floor) at (s .left) (s .next-ones))
-        where
-          go : Walked (s .fuel) area (s .floor) at (s .left) → Next area at (s .fuel) (s .left)
-          go (ended le is) = absurd (omega arith)
-          go (took key size next os lt r is f) =
-              let e : next ≡ at + optionSize size = r .ends in
-              let n : next - at ≡ optionSize size = omega (arith, e) in
-              record {
-                after = os;
-                fits = rw (r .its-size) (omega (arith, e, r .within));
-                others = rw (r .its-key, r .its-size, ← e) f;
-                first = rw (r .its-key, r .its-size, ← n) is;
-              }
+      next-option = next-of (walked (s .fuel) area (s .floor) at (s .left) (s .next-ones)) h
 
       -- what the code reads there
       module _ (w : ℕ) (word : w ≡ be16 area at) where
@@ -135,7 +134,7 @@ module _ (area out₀ : List ℕ) (from : ℕ) where
         strip-length size n = omega (arith, n)
 
         module _ (size : ℕ) (n : size ≡ lengthOf w) (step : ℕ) (long : step ≡ optionSize size) where
-          its-step : step ≡ optionSize (lengthOf (be16 area at))
+          its-step : step ≡ sizeIn area at
           its-step = long ∙ rw (n, word)
 
           pub strip-next : at + step ≤ length area
@@ -162,17 +161,14 @@ module _ (area out₀ : List ℕ) (from : ℕ) where
           strip-on table treats key ik gone ig out′ to′ et eo =
               let a = next-option in
               let k : List ℕ = keptIf gone lent in
-              let kl : length k ≤ length lent = kept-short gone lent in
-              let as-long : at + step - at ≡ optionSize (lengthOf (be16 area at)) = omega (arith, its-step) in
+              let kl = kept-short gone lent in
+              let wl = length-append (s .written) k in
               let f : suc (s .fuel - 1) ≡ s .fuel = omega (arith, s .enough, its-step, a .fits) in
-              let wl : length (s .written ++ k) ≡ length (s .written) + length k = length-append (s .written) k in
+              let as-long : at + step - at ≡ sizeIn area at = omega (arith, its-step) in
               let gone-is : gone ≡ strippable (keyOf (be16 area at)) (lengthOf (be16 area at)) =
               ig ∙ treats .strip key size (omega (arith, ik)) ∙ rw (ik, n, word) in
               let here : octetsOf (keptOptions (s .left)) ≡ k ++ octetsOf (keptOptions (a .after)) =
-              ap (λ (os : List TlvOption). octetsOf (keptOptions os)) (a .first)
-              ∙ kept-first
-              (record { key = keyOf (be16 area at); size = lengthOf (be16 area at); octets = part area at (optionSize (lengthOf (be16 area at))) }) (a .after)
-              ∙ rw (← gone-is, ← as-long) in
+              cc (a .first, gone-is, as-long, kept-first (optionIn area at) (a .after)) in
               record {
                 start = omega (arith, s .start);
                 within = strip-next;
@@ -189,14 +185,14 @@ module _ (area out₀ : List ℕ) (from : ℕ) where
                     ∙ rw (s .is)
                     (put-put out₀ from (s .written) (omega (arith, s .fewer, s .within)) to k (s .place)
                     (omega (arith, s .place, s .fewer, kl, its-part, strip-next)));
-                rest = append-assoc (s .written) k (octetsOf (keptOptions (a .after))) ∙ ap (λ (x : List ℕ). s .written ++ x) (sym here) ∙ s .rest;
+                rest = cc (append-assoc (s .written) k (octetsOf (keptOptions (a .after))), here, s .rest);
                 same = ap length eo ∙ length-put out to k (omega (arith, s .same, s .place, s .fewer, kl, its-part, strip-next)) ∙ s .same;
               }
 
 pub ruleset keep-laws = (needs, gone-end, gone-put, keep-end, keep-put)
 
 pub ruleset strip-options-laws =
-    (needs, strip-begin, strip-ends, strip-wrote, strip-same, strip-key, strip-length, strip-next, strip-from, strip-less, strip-fits, strip-on)
+    (needs, strip-begin, strip-ends, strip-wrote, strip-key, strip-length, strip-next, strip-less, strip-fits, strip-on)
 
 -- a whole area: its first word, then what is kept
 pub strip-whole : (area : List ℕ) → draftRead area ≡ WellFormed → stripped area ≡ take 4 area ++ keptFrom (optionsOf area)
@@ -210,7 +206,7 @@ module _ (area d d1 d2 : List ℕ) (base end : ℕ) (well : draftRead area ≡ W
   kept = keptFrom (optionsOf area)
 
   long : length (stripped area) ≡ 4 + length kept
-  long = ap length (strip-whole area well) ∙ length-append (take 4 area) kept ∙ ap (λ (x : ℕ). x + length kept) (length-take-le 4 area some)
+  long = cc (strip-whole area well, length-append (take 4 area) kept, length-take-le 4 area some)
 
   pub area-ends : end ≡ base + 4 + length kept → end - base ≡ length (stripped area)
   area-ends e = omega (arith, long, e)

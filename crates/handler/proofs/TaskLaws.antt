@@ -3,48 +3,35 @@
 use mathlib.Core.Path.{_≡_, refl, sym, ap, _∙_}
 use mathlib.Core.List.{List, [], _++_}
 use mathlib.Core.Bool.{Bool, true, false, not, true≢false}
-use Prim.Native.Nat.{ℕ, _+_, _≤_, _<_}
+use Prim.Native.Nat.{ℕ, _+_, _≤_}
 use native.Mathlib.Omega.{arith}
-use borrow.Author.Needs.{needs}
-use borrow.Author.Tests.{ne-eqb, eqb-true, eqb-false, leb-true, leb-false, not-true}
-use lib.Dec.{leb, eqb}
+use borrow.Author.{Needs.needs, Tests.ne-eqb, Tests.eqb-true, Tests.eqb-false, Tests.not-true}
+use lib.Dec.{ltb, eqb}
 use lib.ListN.{length, length-append}
-use Rattle.rules.specs.Octets.{if_then_else_, put}
-use Rattle.rules.specs.Settings.{Ways}
-use Rattle.rules.specs.Header.{areaOf, innerOf}
-use Rattle.rules.specs.Options.{WellFormed, draftRead}
+use Rattle.rules.specs.{Octets.if_then_else_, Settings.Ways, Header.innerOf, Link.link}
 use Rattle.rules.specs.Extension as E
-use Rattle.rules.specs.Link.{link}
 use Rattle.rules.specs.Channel as Ch
-use Rattle.rules.specs.Channel.{bodyOf, replyMode, silenced, returnPath, errorReply, echoReply, replyRest}
+use Rattle.rules.specs.Channel.{bodyOf, replyMode, silenced, returnPath, errorReply, echoReply, replyRest, errorBody, echoBody}
 use Rattle.rules.specs.Handling as Rules
 use Rattle.rules.specs.Handling.{forwarded, onward, faulted, echoed, routed}
 use Rattle.rules.specs.Answer as A
-use Rattle.rules.specs.declared.NextHop.{NextHop}
-use Rattle.rules.specs.declared.Header.{Header}
-use Rattle.rules.specs.declared.Ruling.{Ruling}
-use Rattle.rules.specs.declared.Ruling.the-variants.{Found, Absent}
-use Rattle.rules.specs.declared.Alert.{Alert}
+use Rattle.rules.specs.declared.{NextHop.NextHop, Header.Header, Ruling.Ruling, Ruling.the-variants.Found, Ruling.the-variants.Absent, Alert.Alert}
 use Rattle.rules.specs.declared.Alert.the-variants.{NoAlert, AlertFault, AlertErr, AlertRequest}
-use Rattle.rules.proofs.TestLaws.{by-test}
-use Rattle.rules.proofs.OctetLaws.{put-none}
-use Rattle.rules.proofs.FrameLaws.{link-length, link-written}
-use Rattle.rules.proofs.HandlingLaws.{onward-long, onward-sent, faulted-silent, faulted-none, faulted-over, echoed-mode, echoed-none, echoed-over}
-use Rattle.handler.specs.declared.answers.Answer.{Answer}
-use Rattle.handler.specs.declared.way.Own.{Own}
-use Rattle.handler.specs.declared.way.Told.{Told}
-use Rattle.handler.specs.declared.handling.Task.{Task}
+use Rattle.rules.proofs.{TestLaws.by-test, OctetLaws.put-none, FrameLaws.link-length, FrameLaws.link-written}
+use Rattle.rules.proofs.HandlingLaws.{faulted-silent, faulted-none, faulted-over, echoed-mode, echoed-none, echoed-over}
+use Rattle.handler.specs.declared.{answers.Answer.Answer, way.Own.Own, way.Told.Told, handling.Task.Task}
 use Rattle.handler.specs.declared.handling.Task.the-variants.{Answered, Forward, Error, Echo}
 use Rattle.handler.specs.Tasks as Tasks
 use Rattle.handler.specs.Tasks.{answerBy, alertRefusal, alertQuiet, transitQuiet, alertedBy, transitBy, transitAt, doneAt, asksBack, Forwardable}
-use Rattle.handler.specs.Tasks.{Left, Role, Routes, FaultTold, EchoAnswered, AlertAnswered, Both}
+use Rattle.handler.specs.Tasks.{Routes, FaultTold, EchoAnswered, AlertAnswered, Both}
 use Rattle.handler.specs.Calls.{Replies}
-use Rattle.handler.specs.Shapes.{answerOf, droppedBy, wroteBy, repliedBy, besideBy, viaOf, neighbourOf, ownOf, onlyFor, waysBy, Ready, Replied, Done}
-use Rattle.handler.proofs.StageLaws.{done-dropped, reply-few}
+use Rattle.handler.specs.Shapes.{answerOf, repliedBy, besideBy, viaOf, neighbourOf, ownOf, onlyFor, waysBy, Ready, Replied, Done}
+use Rattle.handler.proofs.StageLaws.{by-hop, back, done-dropped, reply-few}
 
--- an answer that writes nothing, from its numbers and back
-pub kept : (a : Answer) → a .written ≡ 0 → a .beside ≡ 0 → a ≡ answerOf (answerBy a)
-kept a z y = ap (λ (w : ℕ). numbers w (a .beside)) z ∙ ap (λ (w : ℕ). numbers 0 w) y
+-- an answer that writes nothing, from its numbers
+pub kept : (a : Answer) (out : List ℕ) → (a .written ≡ 0) × (a .beside ≡ 0) → Done (answerBy a) a out out
+kept a out z =
+    record { answer = ap (λ (w : ℕ). numbers w (a .beside)) (z .0) ∙ ap (λ (w : ℕ). numbers 0 w) (z .1); after = sym (put-none out 0); alone = refl }
   where
     numbers : ℕ → ℕ → Answer
     numbers w b =
@@ -61,63 +48,57 @@ kept a z y = ap (λ (w : ℕ). numbers w (a .beside)) z ∙ ap (λ (w : ℕ). nu
 -- what a reply comes to: no reply, or one to the next hop back
 module _ (S : Ways) (f : List ℕ) (h : Header) (P : A.Handled → Type 0) where
   by-fault : (code : ℕ) → P (A.dropped 25)
-      → ((hop : NextHop) → returnPath S (h .ingress) ≡ Found hop → P (A.wrote 53 (errorReply S hop f h code) (hop .neighbour))) → P (faulted S f h code)
+      → ((hop : NextHop) → back S h ≡ Found hop → P (A.wrote 53 (errorReply S hop f h code) (hop .neighbour))) → P (faulted S f h code)
   by-fault code none some =
-      by-test (silenced code (innerOf f h)) (λ t. rw (faulted-silent S f h code t) none) (λ t. go t (returnPath S (h .ingress)) refl)
-    where
-      go : silenced code (innerOf f h) ≡ false → (R : Ruling) → returnPath S (h .ingress) ≡ R → P (faulted S f h code)
-      go t Absent q = rw (faulted-none S f h code t q) none
-      go t (Found hop) q = rw (faulted-over S f h code t hop q) (some hop q)
+      by-test (silenced code (innerOf f h))
+      (λ t. rw (faulted-silent S f h code t) none)
+      (λ t. by-hop (back S h) (λ q. rw (faulted-none S f h code t q) none) (λ hop q. rw (faulted-over S f h code t hop q) (some hop q)))
 
   by-echo : (clock : List ℕ) → P (A.dropped 28)
-      → ((hop : NextHop) → returnPath S (h .ingress) ≡ Found hop → P (A.wrote 54 (echoReply S hop h clock (bodyOf (innerOf f h))) (hop .neighbour)))
+      → ((hop : NextHop) → back S h ≡ Found hop → P (A.wrote 54 (echoReply S hop h clock (bodyOf (innerOf f h))) (hop .neighbour)))
       → P (echoed S clock f h)
   by-echo clock none some =
-      by-test (eqb (replyMode (bodyOf (innerOf f h))) 2) (λ t. go (eqb-true (replyMode (bodyOf (innerOf f h))) 2 t) (returnPath S (h .ingress)) refl)
-      (λ t. rw (echoed-mode S f h clock (eqb-false (replyMode (bodyOf (innerOf f h))) 2 t)) none)
-    where
-      go : replyMode (bodyOf (innerOf f h)) ≡ 2 → (R : Ruling) → returnPath S (h .ingress) ≡ R → P (echoed S clock f h)
-      go t Absent q = rw (echoed-none S f h clock t q) none
-      go t (Found hop) q = rw (echoed-over S f h clock t hop q) (some hop q)
-
--- nothing is beside it
-faulted-alone : (S : Ways) (f : List ℕ) (h : Header) (code : ℕ) → faulted S f h code .beside ≡ []
-faulted-alone S f h code = by-fault S f h (λ a. a .beside ≡ []) code refl (λ hop q. refl)
-
-echoed-alone : (S : Ways) (clock f : List ℕ) (h : Header) → echoed S clock f h .beside ≡ []
-echoed-alone S clock f h = by-echo S f h (λ a. a .beside ≡ []) clock refl (λ hop q. refl)
+      let mode = replyMode (bodyOf (innerOf f h)) in
+      by-test (eqb mode 2)
+      (λ t. let asked = eqb-true mode 2 t in
+      by-hop (back S h) (λ q. rw (echoed-none S f h clock asked q) none) (λ hop q. rw (echoed-over S f h clock asked hop q) (some hop q)))
+      (λ t. rw (echoed-mode S f h clock (eqb-false mode 2 t)) none)
 
 -- a reply has octets, and goes to the next hop that is told
 some-octets : (S : Ways) (r : NextHop) (rest : List ℕ) → eqb (length (link S r ++ rest)) 0 ≡ false
 some-octets S r rest =
     rw length-append (ne-eqb (length (link S r) + length rest) 0 (λ e. absurd (omega (arith, link-written S r .long, link-length (link S r)))))
 
-told-back : (t : Told) (ingress : ℕ) (hop : NextHop) → returnPath (waysBy t) ingress ≡ Found hop → hop .neighbour ≡ neighbourOf t
+told-back : (t : Told) (h : Header) (hop : NextHop) → back (waysBy t) h ≡ Found hop → neighbourOf t ≡ hop .neighbour
 unfolding returnPath
-told-back t ingress hop = go (eqb ingress (t .own .nickname)) (t .hop)
+told-back t h hop = go (eqb (h .ingress) (t .own .nickname)) (t .hop)
   where
-    go : (b : Bool) (R : Ruling) → (if b then Absent else R) ≡ Found hop → hop .neighbour ≡ viaOf R
-    go true R e = let z : false ≡ true = cc e in absurd (true≢false (sym z))
+    go : (b : Bool) (R : Ruling) → (if b then Absent else R) ≡ Found hop → viaOf R ≡ hop .neighbour
+    go true R e = cc e
     go false R e = rw e
 
-module _ (t : Told) (f : List ℕ) (h : Header) (n : ℕ) where
-  some-error : (code : ℕ) (hop : NextHop) → eqb (length (errorReply (waysBy t) hop f h code)) 0 ≡ false
+module _ (refusal number via : ℕ) {n : ℕ} {out out1 : List ℕ} where
+  unsent : Replied [] n out out1 → Done (A.dropped refusal) (repliedBy refusal number n via) out out1
+  unsent p = record { answer = rw (p .long); after = p .after; alone = refl }
+
+  sent : (S : Ways) (r : NextHop) (rest : List ℕ) → via ≡ r .neighbour → Replied (link S r ++ rest) n out out1
+      → Done (A.wrote number (link S r ++ rest) (r .neighbour)) (repliedBy refusal number n via) out out1
+  sent S r rest v p = record { answer = rw (p .long, some-octets S r rest, v); after = p .after; alone = refl }
+
+module _ (t : Told) (f : List ℕ) (h : Header) {n : ℕ} {out out1 : List ℕ} where
+  fault-done : (code : ℕ) → Replied (faulted (waysBy t) f h code .octets) n out out1
+      → Done (faulted (waysBy t) f h code) (repliedBy 25 53 n (neighbourOf t)) out out1
   unfolding errorReply
-  some-error code hop = some-octets (waysBy t) hop (replyRest (waysBy t) (h .ingress) 0x001 code (Ch.errorBody f h))
+  fault-done code =
+      by-fault (waysBy t) f h (λ a. Replied (a .octets) n out out1 → Done a (repliedBy 25 53 n (neighbourOf t)) out out1) code (unsent 25 53 (neighbourOf t))
+      (λ hop q. sent 25 53 (neighbourOf t) (waysBy t) hop (replyRest (waysBy t) (h .ingress) 0x001 code (errorBody f h)) (told-back t h hop q))
 
-  fault-answer : (code : ℕ) → n ≡ length (faulted (waysBy t) f h code .octets) → repliedBy 25 53 n (neighbourOf t) ≡ answerOf (faulted (waysBy t) f h code)
-  fault-answer code =
-      by-fault (waysBy t) f h (λ a. n ≡ length (a .octets) → repliedBy 25 53 n (neighbourOf t) ≡ answerOf a) code (λ e. rw e)
-      (λ hop q e. rw (e, some-error code hop, told-back t (h .ingress) hop q))
-
-  some-echo : (clock : List ℕ) (hop : NextHop) → eqb (length (echoReply (waysBy t) hop h clock (bodyOf (innerOf f h)))) 0 ≡ false
+  echo-done : (clock : List ℕ) → Replied (echoed (waysBy t) clock f h .octets) n out out1
+      → Done (echoed (waysBy t) clock f h) (repliedBy 28 54 n (neighbourOf t)) out out1
   unfolding echoReply
-  some-echo clock hop = some-octets (waysBy t) hop (replyRest (waysBy t) (h .ingress) 0xFF8 0 (Ch.echoBody (bodyOf (innerOf f h)) clock))
-
-  echo-answer : (clock : List ℕ) → n ≡ length (echoed (waysBy t) clock f h .octets) → repliedBy 28 54 n (neighbourOf t) ≡ answerOf (echoed (waysBy t) clock f h)
-  echo-answer clock =
-      by-echo (waysBy t) f h (λ a. n ≡ length (a .octets) → repliedBy 28 54 n (neighbourOf t) ≡ answerOf a) clock (λ e. rw e)
-      (λ hop q e. rw (e, some-echo clock hop, told-back t (h .ingress) hop q))
+  echo-done clock =
+      by-echo (waysBy t) f h (λ a. Replied (a .octets) n out out1 → Done a (repliedBy 28 54 n (neighbourOf t)) out out1) clock (unsent 28 54 (neighbourOf t))
+      (λ hop q. sent 28 54 (neighbourOf t) (waysBy t) hop (replyRest (waysBy t) (h .ingress) 0xFF8 0 (echoBody (bodyOf (innerOf f h)) clock)) (told-back t h hop q))
 
 -- 21, the alert's 25 and 26, and 50
 module _ (T : Ways) (f : List ℕ) (h : Header) (alert : Alert) (out : List ℕ) (R : Ruling) (asks : R ≡ T .hop (h .egress)) where
@@ -134,36 +115,24 @@ module _ (T : Ways) (f : List ℕ) (h : Header) (alert : Alert) (out : List ℕ)
     unfolding transitQuiet
     transit-sent z out1 d = rw (transitQuiet, sym asks ∙ found, ← refuses, z) d
 
-module _ {rfc7179 : Bool} {f : List ℕ} {h : Header} {alert : Alert} (x : Forwardable rfc7179 f h alert) where
-  pub forward-ready : Ready f h
-  forward-ready = x .is-ready
-
-  pub forward-well : rfc7179 ≡ false → draftRead (areaOf f h) ≡ WellFormed
-  forward-well = x .well
-
-pub ruleset transit-laws = (needs, transit-lost, transit-refused, transit-sent, forward-ready, forward-well)
+pub ruleset transit-laws = (needs, transit-lost, transit-refused, transit-sent)
 
 -- the answers of a reply that is made, or not
 module _ (t : Told) (f : List ℕ) (h : Header) (n via : ℕ) (v : via ≡ neighbourOf t) (r : Answer) (out out1 : List ℕ) where
   pub error-answered : (code : ℕ) → Replied (faulted (waysBy t) f h code .octets) n out out1 → r ≡ repliedBy 25 53 n via
       → Done (faulted (waysBy t) f h code) r out out1
-  error-answered code p is =
-      record { answer = is ∙ rw v (fault-answer t f h n code (p .long)); after = p .after; alone = faulted-alone (waysBy t) f h code }
+  error-answered code p is = rw (is, v) (fault-done t f h code p)
 
   pub echo-answered : (clock : List ℕ) → Replied (echoed (waysBy t) clock f h .octets) n out out1 → r ≡ repliedBy 28 54 n via
       → Done (echoed (waysBy t) clock f h) r out out1
-  echo-answered clock p is =
-      record { answer = is ∙ rw v (echo-answer t f h n clock (p .long)); after = p .after; alone = echoed-alone (waysBy t) clock f h }
+  echo-answered clock p is = rw (is, v) (echo-done t f h clock p)
 
 pub ruleset reply-answer-laws = (needs, error-answered, echo-answered, reply-few)
 
 -- what is left to do
 module _ {nickname : ℕ} {rfc7179 : Bool} {f : List ℕ} {h : Header} {task : Task} (x : Routes nickname rfc7179 f h task) where
-  pub left-forward : (alert : Alert) → task ≡ Forward alert → Forwardable rfc7179 f h alert
-  left-forward alert e = rw e at (x .left)
-
   pub left-onward : (edition : Bool) → rfc7179 ≡ edition → (alert : Alert) → task ≡ Forward alert → Forwardable edition f h alert
-  left-onward edition two alert e = rw two at (left-forward alert e)
+  left-onward edition two alert e = rw (← two) (rw e at (x .left))
 
   pub left-18 : task ≡ Echo → 18 ≤ length (bodyOf (innerOf f h))
   left-18 e = rw e at (x .left) .0 .0
@@ -175,139 +144,95 @@ pub reply-room : (out : List ℕ) → 2048 ≤ length out → 576 ≤ length out
 reply-room out h = omega arith
 
 -- with nothing beside it
-both-of : {a : A.Handled} {r : Answer} {out out1 : List ℕ} (beside : List ℕ) → Done a r out out1 → Both a r out out1 beside beside
+pub both-of : {a : A.Handled} {r : Answer} {out out1 : List ℕ} (beside : List ℕ) → Done a r out out1 → Both a r out out1 beside beside
 both-of beside d = record { answer = d .answer; after = d .after; after-beside = rw (d .alone) (sym (put-none beside 0)) }
 
--- an answer of another number
-numbered : {a : A.Handled} {r : Answer} {out out1 : List ℕ} (n : ℕ) → Done a r out out1 → a ≡ A.dropped n → r .number ≡ n
-numbered n d e = ap (λ (x : Answer). x .number) (d .answer) ∙ ap (λ (x : A.Handled). x .number) e
+numbered : {a : A.Handled} {r : Answer} {out out1 : List ℕ} → Done a r out out1 → r .number ≡ a .number
+numbered d = ap (λ (x : Answer). x .number) (d .answer)
+
+-- a frame in transit without what is replied to an alert, and with it: by the next hop, and for an echo request by the length too
+module _ (T B : Ways) (clock f : List ℕ) (h : Header) (P : A.Handled → A.Handled → Type 0) where
+  by-transit : (alert : Alert) → P (A.dropped 21) (A.dropped 21)
+      → ((r : NextHop) → P (alertQuiet T r f h alert) (alertedBy T B r clock f h alert)) → P (transitQuiet T f h alert) (transitBy T B clock f h alert)
+  unfolding transitQuiet Tasks.transitBy
+  by-transit alert lost found =
+      by-hop (T .hop (h .egress)) (λ q. rw (transitQuiet, Tasks.transitBy, q) lost) (λ r q. rw (transitQuiet, Tasks.transitBy, q) (found r))
+
+  by-request : ((n : ℕ) → (n ≡ 50 → ⊥) → P (A.dropped n) (A.dropped n))
+      → ((r : NextHop) → P (A.wrote 50 (forwarded T r f h) (r .neighbour))
+      (A.wroteBoth 50 (forwarded T r f h) (r .neighbour) (echoed B clock f h .octets) (echoed B clock f h .via)))
+      → P (transitQuiet T f h AlertRequest) (transitBy T B clock f h AlertRequest)
+  unfolding onward
+  by-request lost sent =
+      by-transit AlertRequest (lost 21 (omega arith))
+      (λ r. by-test (ltb 2048 (length (forwarded T r f h))) (λ l. rw l (lost 29 (omega arith))) (λ l. rw l (sent r)))
 
 -- 53 or 25 in place of 50
 module _ (b : Told) (f : List ℕ) (h : Header) (code : ℕ) (a : Answer) (out : List ℕ) where
-  module _ (T : Ways) (clock before : List ℕ) (d : Done (transitQuiet T f h (AlertFault code)) a before out) where
-    quiet-lost : T .hop (h .egress) ≡ Absent → transitQuiet T f h (AlertFault code) ≡ A.dropped 21
-    unfolding transitQuiet
-    quiet-lost q = rw (transitQuiet, q)
-
-    quiet-fault : (r : NextHop) → T .hop (h .egress) ≡ Found r → transitQuiet T f h (AlertFault code) ≡ A.dropped 25
-    unfolding transitQuiet
-    quiet-fault r q = rw (transitQuiet, q)
-
-    over-lost : T .hop (h .egress) ≡ Absent → transitBy T (waysBy b) clock f h (AlertFault code) ≡ A.dropped 21
-    unfolding Tasks.transitBy
-    over-lost q = rw (Tasks.transitBy, q)
-
-    over-fault : (r : NextHop) → T .hop (h .egress) ≡ Found r → transitBy T (waysBy b) clock f h (AlertFault code) ≡ faulted (waysBy b) f h code
-    unfolding Tasks.transitBy
-    over-fault r q = rw (Tasks.transitBy, q)
-
   pub tell-21 : a .number ≡ 21 → FaultTold (waysBy b) f h code a a out out
-  tell-21 e = record { over = λ T clock before d. go T clock before d (T .hop (h .egress)) refl }
-    where
-      go : (T : Ways) (clock before : List ℕ) → Done (transitQuiet T f h (AlertFault code)) a before out → (R : Ruling) → T .hop (h .egress) ≡ R
-          → Done (transitBy T (waysBy b) clock f h (AlertFault code)) a before out
-      go T clock before d Absent q = rw (over-lost T clock before d q) (rw (quiet-lost T clock before d q) at d)
-      go T clock before d (Found r) q = absurd (omega (arith, e, numbered 25 d (quiet-fault T clock before d r q)))
+  tell-21 e =
+      record {
+        over = λ T clock before.
+            by-transit T (waysBy b) clock f h (λ quiet told. Done quiet a before out → Done told a before out) (AlertFault code)
+            (λ d. d) (λ r d. absurd (omega (arith, e, numbered d)));
+      }
 
   pub tell-so : (a .number ≡ 21 → ⊥) → (r : Answer) (out1 : List ℕ) → Done (faulted (waysBy b) f h code) r out out1
       → FaultTold (waysBy b) f h code a r out out1
-  tell-so z r out1 p = record { over = λ T clock before d. go T clock before d (T .hop (h .egress)) refl }
-    where
-      go : (T : Ways) (clock before : List ℕ) → Done (transitQuiet T f h (AlertFault code)) a before out → (R : Ruling) → T .hop (h .egress) ≡ R
-          → Done (transitBy T (waysBy b) clock f h (AlertFault code)) r before out1
-      go T clock before d Absent q = absurd (z (numbered 21 d (quiet-lost T clock before d q)))
-      go T clock before d (Found hop) q =
-          let same : out ≡ before = rw (quiet-fault T clock before d hop q, put-none before 0) at (d .after) in
-          rw (over-fault T clock before d hop q) (rw same at p)
+  tell-so z r out1 p =
+      record {
+        over = λ T clock before.
+            by-transit T (waysBy b) clock f h (λ quiet told. Done quiet a before out → Done told r before out1) (AlertFault code)
+            (λ d. absurd (z (numbered d))) (λ hop d. rw (d .after ∙ put-none before 0) at p);
+      }
 
 pub ruleset tell-fault-laws = (needs, tell-21, tell-so, error-answered, reply-few)
 
 -- an echo reply beside 50
 module _ (b : Told) (clock f : List ℕ) (h : Header) (a : Answer) (beside : List ℕ) where
-  module _ (T : Ways) (before out : List ℕ) (d : Done (transitQuiet T f h AlertRequest) a before out) where
-    on-lost : T .hop (h .egress) ≡ Absent → (transitQuiet T f h AlertRequest ≡ A.dropped 21) × (transitBy T (waysBy b) clock f h AlertRequest ≡ A.dropped 21)
-    unfolding transitQuiet Tasks.transitBy
-    on-lost q = (rw (transitQuiet, q), rw (Tasks.transitBy, q))
-
-    module _ (r : NextHop) (q : T .hop (h .egress) ≡ Found r) where
-      on-quiet : transitQuiet T f h AlertRequest ≡ onward T r f h [] 0
-      unfolding transitQuiet
-      on-quiet = rw (transitQuiet, q)
-
-      on-over : transitBy T (waysBy b) clock f h AlertRequest ≡ onward T r f h (echoed (waysBy b) clock f h .octets) (echoed (waysBy b) clock f h .via)
-      unfolding Tasks.transitBy
-      on-over = rw (Tasks.transitBy, q)
-
-      long-29 : 2048 < length (forwarded T r f h) → a .number ≡ 29
-      long-29 l = numbered 29 d (on-quiet ∙ onward-long T f h r [] 0 l)
-
-      short-50 : length (forwarded T r f h) ≤ 2048 → a ≡ answerOf (A.wrote 50 (forwarded T r f h) (r .neighbour))
-      short-50 l = d .answer ∙ ap answerOf (on-quiet ∙ onward-sent T f h r [] 0 l)
-
   pub echo-not : (a .number ≡ 50 → ⊥) → EchoAnswered (waysBy b) clock f h a a beside beside
-  echo-not z = record { over = λ T before out d. go T before out d (T .hop (h .egress)) refl }
-    where
-      go : (T : Ways) (before out : List ℕ) → Done (transitQuiet T f h AlertRequest) a before out → (R : Ruling) → T .hop (h .egress) ≡ R
-          → Both (transitBy T (waysBy b) clock f h AlertRequest) a before out beside beside
-      go T before out d Absent q = let e = on-lost T before out d q in rw (e .1) (both-of beside (rw (e .0) at d))
-      go T before out d (Found r) q =
-          by-test (leb (length (forwarded T r f h)) 2048)
-          (λ l. absurd (z (ap (λ (x : Answer). x .number) (short-50 T before out d r q (leb-true (length (forwarded T r f h)) 2048 l)))))
-          (λ l.
-          let long : 2048 < length (forwarded T r f h) = leb-false (length (forwarded T r f h)) 2048 l in
-          rw (on-over T before out d r q, onward-long T f h r (echoed (waysBy b) clock f h .octets) (echoed (waysBy b) clock f h .via) long)
-          (both-of beside (rw (on-quiet T before out d r q, onward-long T f h r [] 0 long) at d)))
+  echo-not z =
+      record {
+        over = λ T before out.
+            by-request T (waysBy b) clock f h (λ quiet over. Done quiet a before out → Both over a before out beside beside)
+            (λ n other. both-of beside) (λ r d. absurd (z (numbered d)));
+      }
 
   pub echo-so : a .number ≡ 50 → (n via : ℕ) (beside1 : List ℕ) → Replied (echoed (waysBy b) clock f h .octets) n beside beside1 → via ≡ neighbourOf b
       → (r : Answer) → r ≡ besideBy a n via → EchoAnswered (waysBy b) clock f h a r beside beside1
-  echo-so e n via beside1 p v r is = record { over = λ T before out d. go T before out d (T .hop (h .egress)) refl }
+  unfolding echoReply
+  echo-so e n via beside1 p v r is =
+      record {
+        over = λ T before out.
+            by-request T (waysBy b) clock f h (λ quiet over. Done quiet a before out → Both over r before out beside beside1)
+            (λ n other d. absurd (other (sym (numbered d) ∙ e)))
+            (λ hop d. record { answer = with-reply (forwarded T hop f h) (hop .neighbour) (d .answer); after = d .after; after-beside = p .after });
+      }
     where
-      with-reply : (T : Ways) (hop : NextHop) → a ≡ answerOf (A.wrote 50 (forwarded T hop f h) (hop .neighbour))
-          → r ≡ answerOf (A.wroteBoth 50 (forwarded T hop f h) (hop .neighbour) (echoed (waysBy b) clock f h .octets) (echoed (waysBy b) clock f h .via))
-      with-reply T hop made =
-          by-echo (waysBy b) f h (λ y. n ≡ length (y .octets) → r ≡ answerOf (A.wroteBoth 50 (forwarded T hop f h) (hop .neighbour) (y .octets) (y .via))) clock
+      with-reply : (octets : List ℕ) (to : ℕ) → a ≡ answerOf (A.wrote 50 octets to)
+          → r ≡ answerOf (A.wroteBoth 50 octets to (echoed (waysBy b) clock f h .octets) (echoed (waysBy b) clock f h .via))
+      with-reply octets to made =
+          by-echo (waysBy b) f h (λ y. n ≡ length (y .octets) → r ≡ answerOf (A.wroteBoth 50 octets to (y .octets) (y .via))) clock
           (λ long. is ∙ rw long made)
-          (λ back q long. is ∙ rw (long, some-echo b f h n clock back, made, v, ← told-back b (h .ingress) back q))
+          (λ hop q long. is ∙ rw (long, some-octets (waysBy b) hop, made, v, told-back b h hop q))
           (p .long)
-
-      go : (T : Ways) (before out : List ℕ) → Done (transitQuiet T f h AlertRequest) a before out → (R : Ruling) → T .hop (h .egress) ≡ R
-          → Both (transitBy T (waysBy b) clock f h AlertRequest) r before out beside beside1
-      go T before out d Absent q = absurd (omega (arith, e, numbered 21 d (on-lost T before out d q .0)))
-      go T before out d (Found hop) q =
-          by-test (leb (length (forwarded T hop f h)) 2048)
-          (λ l.
-          let short : length (forwarded T hop f h) ≤ 2048 = leb-true (length (forwarded T hop f h)) 2048 l in
-          rw (on-over T before out d hop q, onward-sent T f h hop (echoed (waysBy b) clock f h .octets) (echoed (waysBy b) clock f h .via) short)
-          (record {
-            answer = with-reply T hop (short-50 T before out d hop q short);
-            after = rw (on-quiet T before out d hop q, onward-sent T f h hop [] 0 short) at (d .after);
-            after-beside = p .after;
-          }))
-          (λ l. absurd (omega (arith, e, long-29 T before out d hop q (leb-false (length (forwarded T hop f h)) 2048 l))))
 
 pub ruleset answer-echo-laws = (needs, echo-not, echo-so, reply-few)
 
 -- an alert that asks for no reply, and one that does
-same-transit : (T B : Ways) (clock f : List ℕ) (h : Header) (alert : Alert) → asksBack alert ≡ false → transitQuiet T f h alert ≡ transitBy T B clock f h alert
-unfolding transitQuiet Tasks.transitBy
-same-transit T B clock f h alert e = go (T .hop (h .egress)) refl alert e
-  where
-    go : (R : Ruling) → T .hop (h .egress) ≡ R → (alert : Alert) → asksBack alert ≡ false → transitQuiet T f h alert ≡ transitBy T B clock f h alert
-    go Absent q alert e = rw (transitQuiet, Tasks.transitBy, q)
-    go (Found r) q NoAlert e = rw (transitQuiet, Tasks.transitBy, q)
-    go (Found r) q (AlertFault code) e = absurd (true≢false e)
-    go (Found r) q AlertErr e = rw (transitQuiet, Tasks.transitBy, q)
-    go (Found r) q AlertRequest e = absurd (true≢false e)
+module _ (T B : Ways) (clock f : List ℕ) (h : Header) where
+  same-alert : (alert : Alert) → asksBack alert ≡ false → (r : NextHop) → alertQuiet T r f h alert ≡ alertedBy T B r clock f h alert
+  same-alert NoAlert e r = refl
+  same-alert (AlertFault code) e r = absurd (true≢false e)
+  same-alert AlertErr e r = refl
+  same-alert AlertRequest e r = absurd (true≢false e)
+
+  same-transit : (alert : Alert) → asksBack alert ≡ false → transitQuiet T f h alert ≡ transitBy T B clock f h alert
+  same-transit alert e = by-transit T B clock f h (λ quiet over. quiet ≡ over) alert refl (same-alert alert e)
 
 module _ (B : Ways) (clock f : List ℕ) (h : Header) (alert : Alert) (a : Answer) (out beside : List ℕ) where
-  unanswered : asksBack alert ≡ false → AlertAnswered B clock f h alert a a out out beside beside
-  unanswered e = record { over = λ T before d. both-of beside (rw (same-transit T B clock f h alert e) at d) }
-
-  pub alert-none : alert ≡ NoAlert → AlertAnswered B clock f h alert a a out out beside beside
-  alert-none e = unanswered (ap asksBack e)
-
-  pub alert-err : alert ≡ AlertErr → AlertAnswered B clock f h alert a a out out beside beside
-  alert-err e = unanswered (ap asksBack e)
+  pub alert-quiet : (x : Alert) → alert ≡ x → asksBack x ≡ false → AlertAnswered B clock f h alert a a out out beside beside
+  alert-quiet x e n = rw e (record { over = λ T before d. both-of beside (rw (same-transit T B clock f h x n) at d) })
 
   pub alert-fault : (code : ℕ) → alert ≡ AlertFault code → (r : Answer) (out1 : List ℕ) → FaultTold B f h code a r out out1
       → AlertAnswered B clock f h alert a r out out1 beside beside
@@ -324,45 +249,11 @@ module _ {rfc7179 : Bool} {f : List ℕ} {h : Header} {alert : Alert} (x : Forwa
   pub alert-530 : length (bodyOf (innerOf f h)) ≤ 530
   alert-530 = rw e at (x .answerable) .1
 
-pub ruleset answer-alert-laws = (needs, alert-none, alert-err, alert-fault, alert-request, forward-ready, alert-18, alert-530, reply-room)
-
--- the answers of a reply
-module _ (written : ℕ) (r : Answer) where
-  module _ (refusal number via : ℕ) where
-    pub replied-none : written ≡ 0 → r ≡ droppedBy refusal 0 → r ≡ repliedBy refusal number written via
-    replied-none z e = rw z e
-
-    pub replied-some : (written ≡ 0 → ⊥) → r ≡ wroteBy number written via → r ≡ repliedBy refusal number written via
-    replied-some z e = rw (ne-eqb written 0 z) e
-
-  pub beside-none : (via : ℕ) → written ≡ 0 → r ≡ besideBy r written via
-  beside-none via z = rw z
-
-pub beside-some : (a : Answer) (written via : ℕ) → (written ≡ 0 → ⊥)
-    → _≡_ {A = Answer}
-    (record {
-      number = a .number;
-      written = a .written;
-      start = a .start;
-      length = a .length;
-      neighbour = a .neighbour;
-      beside = written;
-      «beside_neighbour» = via;
-    })
-    (besideBy a written via)
-beside-some a written via z = rw (ne-eqb written 0 z)
-
-pub ruleset answer-laws = (needs, replied-none, replied-some, beside-none, beside-some)
+pub ruleset answer-alert-laws = (needs, alert-quiet, alert-fault, alert-request, alert-18, alert-530, reply-room)
 
 pub tells : (S : Ways) (d : ℕ) (own : Own) (strip rfc7179 : Bool) (hop : Ruling) → own ≡ ownOf S → strip ≡ S .strip → rfc7179 ≡ S .rfc7179 → hop ≡ S .hop d
     → waysBy (record { own = own; strip = strip; rfc7179 = rfc7179; hop = hop }) ≡ onlyFor d S
-tells S d own strip rfc7179 hop o s t p =
-    ap (λ (x : Own). record { nickname = x .nickname; mac = x .mac; strip = strip; rfc7179 = rfc7179; hop = λ e. hop }) o
-    ∙ ap (λ (x : Bool). record { nickname = S .nickname; mac = S .mac; strip = x; rfc7179 = rfc7179; hop = λ e. hop }) s
-    ∙ ap (λ (x : Bool). record { nickname = S .nickname; mac = S .mac; strip = S .strip; rfc7179 = x; hop = λ e. hop }) t
-    ∙ ap (λ (x : Ruling). record { nickname = S .nickname; mac = S .mac; strip = S .strip; rfc7179 = S .rfc7179; hop = λ e. x }) p
-
-pub ruleset told-laws = (needs, tells)
+tells S d own strip rfc7179 hop o s t p = rw (o, s, t, p)
 
 -- transit by what is told of the egress and, where an alert asks, of the ingress
 module _ (S : Ways) (clock f : List ℕ) (h : Header) where
@@ -423,9 +314,7 @@ module _ (S : Ways) (clock f : List ℕ) (h : Header) (own : Own) (o : own ≡ o
   comes = x .same S clock (ap (λ (y : Own). y .nickname) o) two
 
   pub task-answered : task ≡ Answered r → Both (routed S clock f h) r out out beside beside
-  task-answered e =
-      let left = rw e at (x .left) in
-      rw (comes, e) (record { answer = kept r (left .0) (left .1); after = sym (put-none out 0); after-beside = sym (put-none beside 0) })
+  task-answered e = rw (comes, e) (both-of beside (kept r out (rw e at (x .left))))
 
   module _ (out1 : List ℕ) where
     pub task-forward : (alert : Alert) → task ≡ Forward alert → (beside1 : List ℕ) → Both (transitAt S clock f h alert) r out out1 beside beside1
@@ -438,4 +327,4 @@ module _ (S : Ways) (clock f : List ℕ) (h : Header) (own : Own) (o : own ≡ o
     pub task-echo : task ≡ Echo → Done (echoed S clock f h) r out out1 → Both (routed S clock f h) r out out1 beside beside
     task-echo e d = rw (comes, e) (both-of beside d)
 
-pub ruleset task-laws = (needs, task-answered, task-forward, task-error, task-echo, left-forward, left-onward, left-18, left-530, reply-room)
+pub ruleset task-laws = (needs, task-answered, task-forward, task-error, task-echo, left-onward, left-18, left-530, reply-room)

@@ -1,12 +1,9 @@
 -- The table of option treatments agrees with the flag definitions: one test computed over all 512 keys, and from it each entry. Assumes nothing.
-use mathlib.Core.Path.{_≡_, refl, sym, ap, _∙_}
-use mathlib.Core.List.{List}
+use mathlib.Core.{Path._≡_, Path.refl, Path.sym, Path._∙_, List.List}
 use mathlib.Core.Bool.{Bool, true, false, not, _&&_, _||_, false≢true}
-use Prim.Native.Nat.{ℕ, _<_}
-use borrow.Author.Needs.{needs}
-use borrow.Author.Tests.{eqb-true, eqb-false, eq-eqb, ne-eqb}
-use lib.ListN.{getD}
-use lib.Dec.{eqb}
+use Prim.Native.Nat.{ℕ}
+use borrow.Author.{Needs.needs, Tests.eqb-true, Tests.eqb-false, Tests.eq-eqb, Tests.ne-eqb}
+use lib.{ListN.getD, Dec.eqb}
 use Rattle.rules.specs.Options.{hopByHopCritical, ingressToEgressCritical, implemented, strippable}
 use Rattle.rules.proofs.TestLaws.{by-test, and-true, and-no, and-yes, everyBelow, each-below}
 use Rattle.handler.specs.Treatment.{Treats, transitDiscards, egressDiscards, stripApplies, isFlowId, strippedBy}
@@ -34,36 +31,22 @@ unfolding strippable implemented
 strippable-other key size h = rw (ne-eqb size 2 h)
 
 -- from the test to each entry
-module _ (table : List ℕ) (all : everyBelow 512 (agrees table) ≡ true) (key : ℕ) (h : key < 512) where
-  abbrev entry : ℕ
-  entry = getD table key 0
+and-left : (a b : Bool) → (a && b) ≡ true → a ≡ true
+and-left a b e = and-true a b e .0
 
-  abbrev critical : Bool
-  critical = hopByHopCritical key || ingressToEgressCritical key
-
-  its : (transitDiscards entry ≡ hopByHopCritical key)
-      × (egressDiscards entry ≡ critical)
-      × ((not (eqb key 0x083) && stripApplies entry) ≡ strippable key 2)
-      × (stripApplies entry ≡ strippable key 0)
-  its =
-      let t = same (transitDiscards entry) (hopByHopCritical key) in
-      let e = same (egressDiscards entry) critical in
-      let two = same (not (eqb key 0x083) && stripApplies entry) (strippable key 2) in
-      let other = same (stripApplies entry) (strippable key 0) in
-      let a = and-true (t && e && two) other (each-below 512 (agrees table) all key h) in
-      let b = and-true (t && e) two (a .0) in
-      let d = and-true t e (b .0) in
-      (is-same _ _ (d .0), is-same _ _ (d .1), is-same _ _ (b .1), is-same _ _ (a .1))
+and-right : (a b : Bool) → (a && b) ≡ true → b ≡ true
+and-right a b e = and-true a b e .1
 
 pub table-treats : (table : List ℕ) → everyBelow 512 (agrees table) ≡ true → Treats table
 table-treats table all =
     record {
-      transit = λ key h. its table all key h .0;
-      egress = λ key h. its table all key h .1;
+      transit = λ key h. let e = each-below 512 (agrees table) all key h in is-same _ _ (search (and-left, and-right));
+      egress = λ key h. let e = each-below 512 (agrees table) all key h in is-same _ _ (search (and-left, and-right));
       strip = λ key size h.
+          let e = each-below 512 (agrees table) all key h in
           by-test (eqb size 2)
-          (λ e. rw (eqb-true size 2 e, and-yes) (its table all key h .2))
-          (λ e. rw (e, and-no, strippable-other key size (eqb-false size 2 e)) (its table all key h .3));
+          (λ two. rw (eqb-true size 2 two, and-yes) (is-same _ _ (search (and-left, and-right))))
+          (λ other. rw (other, and-no, strippable-other key size (eqb-false size 2 other)) (is-same _ _ (search (and-left, and-right))));
     }
 
 -- the tests beside the table

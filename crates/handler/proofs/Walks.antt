@@ -5,27 +5,21 @@ use mathlib.Core.List.{List, []}
 use mathlib.Core.Bool.{Bool, true, false, not, _&&_, _||_}
 use Prim.Native.Nat.{ℕ, suc, _+_, _-_, _≤_, _<_}
 use native.Mathlib.Omega.{arith}
-use borrow.Author.Needs.{needs}
-use borrow.Author.Tests.{eqb-true, ne-eqb}
-use lib.Dec.{eqb}
-use lib.ListN.{length, getD}
+use borrow.Author.{Needs.needs, Tests.eqb-true, Tests.ne-eqb}
+use lib.{Dec.eqb, ListN.length, ListN.getD}
 use Rattle.rules.specs.Octets.{if_then_else_, be16, part}
 use Rattle.rules.specs.Options as O
 use Rattle.rules.specs.Options.{Taken, Fault, TlvOption, Options, options, fault, keyOf, lengthOf, optionSize, optionFirst, optionAt, optionsFrom, optionsOf}
 use Rattle.rules.specs.Options.{some-key, ie, nc, hopByHopCritical, ingressToEgressCritical, chbh, cite, summarized, draftRead, draftStops}
 use Rattle.rules.proofs.TestLaws.{and-true, and-no, and-yes, or-no, or-assoc}
 use Rattle.rules.proofs.OptionLaws.{option-reserved, option-past, option-below, option-equal, option-taken, option-read, options-end, options-fault, options-on}
-use Rattle.handler.specs.declared.options.Cursor.{Cursor}
-use Rattle.handler.specs.declared.options.AreaRead.{AreaRead}
-use Rattle.handler.specs.declared.options.AreaRead.the-variants.{Read, Faulty}
-use Rattle.handler.specs.Shapes.{readBy, ended, stopped, foundBy, walkOf, judgedBy}
+use Rattle.handler.specs.declared.{options.Cursor.Cursor, options.AreaRead.AreaRead, options.AreaRead.the-variants.Read}
+use Rattle.handler.specs.declared.{options.AreaRead.the-variants.Faulty}
+use Rattle.handler.specs.Shapes.{readBy, ended, foundBy, walkOf, judgedBy}
 use Rattle.handler.specs.Treatment.{Treats, transitDiscards, egressDiscards}
 
 -- what the table says of an option met
 module _ (seen : Bool) (entry : ℕ) {discards : Bool} (none-yet : seen ≡ false) (is : discards ≡ transitDiscards entry) where
-  pub hop-now : discards ≡ (seen || transitDiscards entry)
-  hop-now = rw none-yet is
-
   pub egress-not : discards ≡ true → false ≡ (seen || (egressDiscards entry && not (transitDiscards entry)))
   egress-not e = rw (none-yet, sym is ∙ e, and-no)
 
@@ -81,14 +75,15 @@ module _ (area : List ℕ) (c : Cursor) (w : ℕ) (word : w ≡ be16 area (c .at
             → egress ≡ (c .egress || (egressDiscards (getD table key 0) && not (transitDiscards (getD table key 0))))
             → Read (record { at = c .at + size; floor = key + 1; hop = hop; egress = egress }) ≡ readBy c found
         at-read other table t hop egress eh ee =
-            let above : c .floor ≤ keyOf (be16 area (c .at)) = rw keyed (omega arith) in
-            let th : transitDiscards (getD table key 0) ≡ hopByHopCritical key = t .transit key key-small in
-            let te : egressDiscards (getD table key 0) ≡ (hopByHopCritical key || ingressToEgressCritical key) = t .egress key key-small in
-            let alone = egress-alone (hopByHopCritical key) (ingressToEgressCritical key) (critical-kinds key) in
-            let as-found : found ≡ Taken key n (c .at + size) = sym (option-taken area (c .floor) (c .at) small fits above) ∙ cc (keyed, long, taken) in
-            rw (eh, ee, th, te, alone) (ap (readBy c) (sym as-found))
-
-pub ruleset hop-met-laws = (needs, hop-now)
+            cc (
+              option-taken area (c .floor) (c .at) small fits (rw keyed (omega arith)),
+              keyed,
+              long,
+              taken,
+              t .transit key key-small,
+              t .egress key key-small,
+              egress-alone (hopByHopCritical key) (ingressToEgressCritical key) (critical-kinds key),
+            )
 
 pub ruleset egress-met-laws = (needs, egress-not, egress-now)
 
@@ -106,9 +101,10 @@ walk-first : (hop egress : Bool) (o : TlvOption) (w : Options)
     → walkOf hop egress (optionFirst o w) ≡ walkOf (hop || hopByHopCritical (o .key)) (egress || ingressToEgressCritical (o .key)) w
 unfolding some-key
 walk-first hop egress o (options os) =
-    let one = or-assoc hop (hopByHopCritical (o .key)) (some-key hopByHopCritical os) in
-    let two = or-assoc egress (ingressToEgressCritical (o .key)) (some-key ingressToEgressCritical os) in
-    rw (one, two)
+    rw (
+      or-assoc hop (hopByHopCritical (o .key)) (some-key hopByHopCritical os),
+      or-assoc egress (ingressToEgressCritical (o .key)) (some-key ingressToEgressCritical os),
+    )
 walk-first hop egress o (fault number place) = refl
 
 walk-none : (hop egress : Bool) → walkOf hop egress (options []) ≡ ended hop egress
@@ -119,46 +115,50 @@ pub walk-begin : (area : List ℕ) → Walking area (record { at = 4; floor = 0;
 unfolding optionsOf
 walk-begin area = record { from = omega arith; fuel = length area; enough = omega arith; rest = refl }
 
+-- by what is read, of one option and of all
+by-read : {X : Type 0} (o : O.OptionRead) → ((m q : ℕ) → o ≡ Fault m q → X) → ((key size next : ℕ) → o ≡ Taken key size next → X) → X
+by-read (Fault m q) bad good = bad m q refl
+by-read (Taken key size next) bad good = good key size next refl
+
+by-options : {X : Type 0} (o : Options) → ((m q : ℕ) → o ≡ fault m q → X) → ((os : List TlvOption) → o ≡ options os → X) → X
+by-options (fault m q) bad good = bad m q refl
+by-options (options os) bad good = good os refl
+
+read-same : {c d : Cursor} → Read c ≡ Read d → c ≡ d
+read-same e = cc
+
 module _ (area : List ℕ) (c : Cursor) (w : Walking area c) where
   pub walk-end : length area ≤ c .at → ended (c .hop) (c .egress) ≡ walkOf false false (optionsOf area)
-  walk-end h = sym (walk-none (c .hop) (c .egress)) ∙ ap (walkOf (c .hop) (c .egress)) (sym (options-end (w .fuel) area (c .floor) (c .at) h)) ∙ w .rest
+  walk-end h = cc (walk-none (c .hop) (c .egress), options-end (w .fuel) area (c .floor) (c .at) h)
 
   module _ (h : c .at < length area) (read : AreaRead) (r : read ≡ readBy c (optionAt area (c .floor) (c .at))) where
     pub walk-stop : (number place : ℕ) → read ≡ Faulty number place → foundBy read ≡ walkOf false false (optionsOf area)
-    walk-stop number place e = go (optionAt area (c .floor) (c .at)) refl
-      where
-        go : (o : O.OptionRead) → optionAt area (c .floor) (c .at) ≡ o → foundBy read ≡ walkOf false false (optionsOf area)
-        go (Fault m q) f =
-            ap foundBy (r ∙ ap (readBy c) f) ∙ ap (walkOf (c .hop) (c .egress)) (sym (options-fault (w .fuel) area (c .floor) (c .at) m q h f)) ∙ w .rest
-        go (Taken key size next) f = let z : _≡_ {A = ℕ} 0 1 = cc (sym e ∙ r ∙ ap (readBy c) f) in absurd (omega arith)
+    walk-stop number place e =
+        by-read (optionAt area (c .floor) (c .at)) (λ m q f. cc (options-fault (w .fuel) area (c .floor) (c .at) m q h f)) (λ key size next f. cc)
 
     module _ (d : Cursor) (e : read ≡ Read d) where
       walk-next : (length area - d .at < length area - c .at) × Walking area d
-      walk-next = go (optionAt area (c .floor) (c .at)) refl
-        where
-          go : (o : O.OptionRead) → optionAt area (c .floor) (c .at) ≡ o → (length area - d .at < length area - c .at) × Walking area d
-          go (Fault m q) f = let z : _≡_ {A = ℕ} 0 1 = cc (sym e ∙ r ∙ ap (readBy c) f) in absurd (omega arith)
-          go (Taken key size next) f =
-              let its = option-read area (c .floor) (c .at) key size next f in
-              let fuel : suc (w .fuel - 1) ≡ w .fuel = omega (arith, w .enough, its .ends) in
-              let o : TlvOption = record { key = key; size = size; octets = part area (c .at) (next - c .at) } in
-              let is : readBy c (Taken key size next) ≡ Read d = ap (readBy c) (sym f) ∙ sym r ∙ e in
-              let e1 : next ≡ d .at = cc is in
-              let e2 : key + 1 ≡ d .floor = cc is in
-              let e3 : (c .hop || hopByHopCritical key) ≡ d .hop = cc is in
-              let e4 : (c .egress || ingressToEgressCritical key) ≡ d .egress = cc is in (
-                omega (arith, its .ends, its .within, e1),
-                record {
-                  from = omega (arith, w .from, its .ends, e1);
-                  fuel = w .fuel - 1;
-                  enough = omega (arith, w .enough, its .ends, e1);
-                  rest =
-                      rw (← e1, ← e2, ← e3, ← e4, fuel)
-                      (sym (walk-first (c .hop) (c .egress) o (optionsFrom (w .fuel) area (key + 1) next))
-                      ∙ ap (walkOf (c .hop) (c .egress)) (sym (options-on (w .fuel) area (c .floor) (c .at) key size next h f))
-                      ∙ w .rest);
-                },
-              )
+      walk-next =
+          by-read (optionAt area (c .floor) (c .at))
+          (λ m q f. let z : _≡_ {A = ℕ} 0 1 = cc in absurd (omega arith))
+          (λ key size next f.
+          let its = option-read area (c .floor) (c .at) key size next f in
+          let fuel : suc (w .fuel - 1) ≡ w .fuel = omega (arith, w .enough, its .ends) in
+          let o : TlvOption = record { key = key; size = size; octets = part area (c .at) (next - c .at) } in
+          rw (← read-same (ap (readBy c) (sym f) ∙ sym r ∙ e)) (
+            omega (arith, its .ends, its .within),
+            record {
+              from = omega (arith, w .from, its .ends);
+              fuel = w .fuel - 1;
+              enough = omega (arith, w .enough, its .ends);
+              rest =
+                  cc (
+                    fuel,
+                    walk-first (c .hop) (c .egress) o (optionsFrom (w .fuel) area (key + 1) next),
+                    options-on (w .fuel) area (c .floor) (c .at) key size next h f,
+                  );
+            },
+          ))
 
       pub walk-less : length area - d .at < length area - c .at
       walk-less = walk-next .0
@@ -177,30 +177,13 @@ area-short area h = rw (options-end (length area) area 0 4 h)
 module _ (area : List ℕ) (read : AreaRead) (is : foundBy read ≡ walkOf false false (optionsOf area)) where
   pub area-faulty : (number place : ℕ) → read ≡ Faulty number place → judgedBy read ≡ draftRead area
   unfolding draftRead summarized
-  area-faulty number place e = go (optionsOf area) refl
-    where
-      go : (o : Options) → optionsOf area ≡ o → judgedBy read ≡ draftRead area
-      go (fault m q) f =
-          let same : stopped number place ≡ stopped m q = ap foundBy (sym e) ∙ is ∙ ap (walkOf false false) f in
-          rw (draftRead, f, summarized, e) (cc same)
-      go (options os) f = let z : _≡_ {A = ℕ} 0 1 = cc (ap foundBy (sym e) ∙ is ∙ ap (walkOf false false) f) in absurd (omega arith)
+  area-faulty number place e = by-options (optionsOf area) (λ m q f. cc) (λ os f. cc)
 
   module _ (c : Cursor) (e : read ≡ Read c) where
-    abbrev summed : O.AreaRead
-    summed = if c .hop && not (chbh area) then O.Faulty 34 0 else if c .egress && not (cite area) then O.Faulty 35 0 else O.WellFormed
-
-    area-ended : draftRead area ≡ summed
+    area-ended : draftRead area
+        ≡ (if c .hop && not (chbh area) then O.Faulty 34 0 else if c .egress && not (cite area) then O.Faulty 35 0 else O.WellFormed)
     unfolding draftRead summarized
-    area-ended = go (optionsOf area) refl
-      where
-        go : (o : Options) → optionsOf area ≡ o → draftRead area ≡ summed
-        go (options os) f =
-            let q : ended (some-key hopByHopCritical os) (some-key ingressToEgressCritical os) ≡ ended (c .hop) (c .egress) =
-            sym (is ∙ ap (walkOf false false) f) ∙ ap foundBy e in
-            let h : some-key hopByHopCritical os ≡ c .hop = cc q in
-            let g : some-key ingressToEgressCritical os ≡ c .egress = cc q in
-            rw (draftRead, f, summarized, h, g)
-        go (fault m q) f = let z : _≡_ {A = ℕ} 0 1 = cc (ap foundBy (sym e) ∙ is ∙ ap (walkOf false false) f) in absurd (omega arith)
+    area-ended = by-options (optionsOf area) (λ m q f. cc) (λ os f. cc)
 
     module _ {summary lacks : Bool} (s : summary ≡ chbh area) (m : lacks ≡ (c .hop && not summary)) where
       lacking : {b : Bool} → lacks ≡ b → (c .hop && not (chbh area)) ≡ b

@@ -1,36 +1,17 @@
 -- The link header towards a next hop, and the next hop back: one law for each way out. By the VLAN, and by cases of the ingress. Assumes nothing.
-use mathlib.Core.Path.{_≡_, refl, sym, ap, _∙_}
-use mathlib.Core.List.{List, [], _∷_, _++_}
-use Prim.Native.Nat.{ℕ, _+_, _/_, _%_, _≤_}
+use mathlib.Core.Path.{_≡_, refl, sym, _∙_}
+use mathlib.Core.List.{List, _++_}
+use Prim.Native.Nat.{ℕ, _≤_}
 use native.Mathlib.Omega.{arith}
-use borrow.Author.Needs.{needs}
-use borrow.Author.Tests.{eq-eqb, ne-eqb}
-use lib.Dec.{eqb}
+use borrow.Author.{Needs.needs, Tests.ne-eqb}
 use lib.ListN.{length}
-use Rattle.rules.specs.Octets.{put, octets16, octets48}
-use Rattle.rules.specs.Settings.{Ways}
+use Rattle.rules.specs.{Octets.put, Octets.octets16, Octets.octets48, Settings.Ways, Link.link}
 use Rattle.rules.specs.Link as L
-use Rattle.rules.specs.Link.{link}
-use Rattle.rules.specs.Channel as Ch
-use Rattle.rules.specs.Channel.{returnPath}
 use Rattle.rules.specs.declared.NextHop.{NextHop}
-use Rattle.rules.specs.declared.Ruling.{Ruling}
-use Rattle.rules.specs.declared.Ruling.the-variants.{Found, Absent}
-use Rattle.rules.proofs.TestLaws.{by-test}
 use Rattle.rules.proofs.FrameLaws.{length-link}
-use Rattle.handler.specs.declared.way.Told.{Told}
 use Rattle.octets.specs.Copy.{putFitting}
-use Rattle.handler.specs.Shapes.{taggedOctets, linkSize, waysBy}
-use Rattle.handler.proofs.Stages.{copied, copied-after}
-
-module _ (vlan : ℕ) where
-  pub size-plain : vlan ≡ 0 → 14 ≡ linkSize vlan
-  size-plain e = rw e
-
-  pub size-tagged : (vlan ≡ 0 → ⊥) → 18 ≡ linkSize vlan
-  size-tagged n = rw (ne-eqb vlan 0 n)
-
-pub ruleset link-length-laws = (needs, size-plain, size-tagged)
+use Rattle.handler.specs.Shapes.{taggedOctets, linkSize}
+use Rattle.handler.proofs.Stages.{copied, copied-after, link-sized}
 
 -- both MACs
 pub macs-written : (to own : ℕ) (d d1 d2 a b : List ℕ) → 14 ≤ length d → d1 ≡ putFitting d 0 a → a ≡ octets48 to → d2 ≡ putFitting d1 6 b → b ≡ octets48 own
@@ -42,7 +23,7 @@ pub ruleset write-macs-laws = (needs, macs-written)
 
 -- what stands behind them
 pub macs-room : (r : NextHop) (out : List ℕ) → linkSize (r .vlan) ≤ length out → 14 ≤ length out
-macs-room r out h = by-test (eqb (r .vlan) 0) (λ e. rw e at h) (λ e. let more : 18 ≤ length out = rw e at h in omega arith)
+macs-room r out h = omega (arith, link-sized (r .vlan))
 
 module _ (S : Ways) (r : NextHop) (mac : ℕ) (own : mac ≡ S .mac) (d d1 d2 end : List ℕ) (p : d1 ≡ put d 0 (octets48 (r .mac) ++ octets48 mac))
     (q : d2 ≡ putFitting d1 12 end)
@@ -65,15 +46,3 @@ module _ (S : Ways) (r : NextHop) where
   link-tagged n = sym (length-link S r ∙ rw (ne-eqb (r .vlan) 0 n))
 
 pub ruleset write-link-laws = (needs, macs-room, link-plain, plain-written, link-tagged, tagged-written)
-
--- the way back, to ourselves and to another
-module _ (t : Told) (ingress : ℕ) where
-  pub return-own : ingress ≡ t .own .nickname → Absent ≡ returnPath (waysBy t) ingress
-  unfolding Ch.returnPath
-  return-own e = rw (eq-eqb ingress (t .own .nickname) e)
-
-  pub return-other : (ingress ≡ t .own .nickname → ⊥) → t .hop ≡ returnPath (waysBy t) ingress
-  unfolding Ch.returnPath
-  return-other n = rw (ne-eqb ingress (t .own .nickname) n)
-
-pub ruleset return-path-laws = (needs, return-own, return-other)

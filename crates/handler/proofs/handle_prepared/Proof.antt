@@ -1,21 +1,10 @@
--- `handle_prepared` meets its contract, by one law for each way out. Assumes nothing.
+-- `handle_prepared` meets its contract, by one law for each way out.
 use Rattle.handler.proofs.StoreLaws.{handle-prepared-laws as laws}
-use Rattle.handler.proofs.handle_prepared.Statement.{statement}
-use Rattle.handler.proofs.handle_prepared.Tie as tie
+use Rattle.handler.proofs.handle_prepared as fn
 
-pub handle-prepared-spec : {M : Type 1} → statement M
+pub handle-prepared-spec : {M : Type 1} → fn.Statement.statement M
 handle-prepared-spec =
-    tie.close
-    (tie.spec
-    (λ c κs. search laws)
-    (λ c κs. search laws)
-    (λ c. search laws)
-    (λ c κs. search laws)
-    (λ c κs. search laws)
-    (λ c. search laws)
-    (λ c. search laws)
-    (λ c κs. search laws)
-    (λ c. search laws)
-    (λ c. search laws)
-    (λ c. search laws)
-    (λ c. search laws))
+    fn.Tie.close
+    (fn.Tie.spec
+    (λ c κs. search laws) (λ c κs. search laws) (λ c. search laws) (λ c κs. search laws) (λ c κs. search laws) (λ c. search laws) (λ c. search laws)
+    (λ c κs. search laws) (λ c. search laws) (λ c. search laws) (λ c. search laws) (λ c. search laws))

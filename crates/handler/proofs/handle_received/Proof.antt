@@ -1,5 +1,5 @@
 -- `handle_received` meets its contract, by one law for each task. Assumes nothing.
-use Rattle.handler.proofs.StoreLaws.{handle-received-laws as laws}
+use Rattle.handler.proofs.TaskLaws.{task-laws as laws}
 use Rattle.handler.proofs.handle_received as fn
 
 pub handle-received-spec : {M : Type 1} → fn.Statement.statement M

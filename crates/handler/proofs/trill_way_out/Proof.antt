@@ -1,16 +1,9 @@
 -- `handler::trill_way_out` meets its contract: bad settings are 1, and good ones tell the way out.
 use Rattle.handler.proofs.WayOutLaws.{trill-way-out-laws as laws}
-use Rattle.handler.proofs.trill_way_out.Statement.{statement}
-use Rattle.handler.proofs.trill_way_out.Tie as tie
+use Rattle.handler.proofs.trill_way_out as fn
 
-pub trill-way-out-spec : {M : Type 1} → statement M
+pub trill-way-out-spec : {M : Type 1} → fn.Statement.statement M
 trill-way-out-spec =
-    tie.close
-    (tie.spec
-    (λ c κs. search laws)
-    (λ c κs. search laws)
-    (λ c κs. search laws)
-    (λ c. search laws)
-    (λ c κs. search laws)
-    (λ c. search laws)
-    (λ c. search laws))
+    fn.Tie.close
+    (fn.Tie.spec
+    (λ c κs. search laws) (λ c κs. search laws) (λ c κs. search laws) (λ c. search laws) (λ c κs. search laws) (λ c. search laws) (λ c. search laws))

@@ -1,29 +1,11 @@
--- `channel::channel_read` meets its contract, by one law of `channelRead` for each way out. Assumes nothing.
+-- `channel::channel_read` meets its contract, by one law of `channelRead` for each way out.
 use Rattle.handler.proofs.ChannelLaws.{channel-read-laws as laws}
-use Rattle.handler.proofs.channel.channel_read.Statement.{statement}
-use Rattle.handler.proofs.channel.channel_read.Tie as tie
+use Rattle.handler.proofs.channel.channel_read as fn
 
-pub channel-read-spec : {M : Type 1} → statement M
+pub channel-read-spec : {M : Type 1} → fn.Statement.statement M
 channel-read-spec =
-    tie.close
-    (tie.spec
-    (λ c κs. search laws)
-    (λ c κs. search laws)
-    (λ c. search laws)
-    (λ c. search laws)
-    (λ c κs. search laws)
-    (λ c κs. search laws)
-    (λ c κs. search laws)
-    (λ c. search laws)
-    (λ c κs. search laws)
-    (λ c. search laws)
-    (λ c κs. search laws)
-    (λ c. search laws)
-    (λ c. search laws)
-    (λ c κs. search laws)
-    (λ c. search laws)
-    (λ c. search laws)
-    (λ c. search laws)
-    (λ c. search laws)
-    (λ c κs. search laws)
-    (λ c. search laws))
+    fn.Tie.close
+    (fn.Tie.spec
+    (λ c κs. search laws) (λ c κs. search laws) (λ c. search laws) (λ c. search laws) (λ c κs. search laws) (λ c κs. search laws)
+    (λ c κs. search laws) (λ c. search laws) (λ c κs. search laws) (λ c. search laws) (λ c κs. search laws) (λ c. search laws) (λ c. search laws)
+    (λ c κs. search laws) (λ c. search laws) (λ c. search laws) (λ c. search laws) (λ c. search laws) (λ c κs. search laws) (λ c. search laws))

@@ -1,16 +1,9 @@
--- `channel::echo_read` meets its contract, by one law of `echoRead` for each way out. Assumes nothing.
+-- `channel::echo_read` meets its contract, by one law of `echoRead` for each way out.
 use Rattle.handler.proofs.ChannelLaws.{echo-read-laws as laws}
-use Rattle.handler.proofs.channel.echo_read.Statement.{statement}
-use Rattle.handler.proofs.channel.echo_read.Tie as tie
+use Rattle.handler.proofs.channel.echo_read as fn
 
-pub echo-read-spec : {M : Type 1} → statement M
+pub echo-read-spec : {M : Type 1} → fn.Statement.statement M
 echo-read-spec =
-    tie.close
-    (tie.spec
-    (λ c. search laws)
-    (λ c. search laws)
-    (λ c κs. search laws)
-    (λ c κs. search laws)
-    (λ c. search laws)
-    (λ c. search laws)
-    (λ c. search laws))
+    fn.Tie.close
+    (fn.Tie.spec
+    (λ c. search laws) (λ c. search laws) (λ c κs. search laws) (λ c κs. search laws) (λ c. search laws) (λ c. search laws) (λ c. search laws))

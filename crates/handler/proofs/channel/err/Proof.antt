@@ -1,10 +1,6 @@
--- `handler::channel::err` meets its contract, by a mask as a remainder. Assumes nothing.
+-- `handler::channel::err` meets its contract, by a mask as a remainder.
 use lib.Bits.{and-mask}
-use Rattle.handler.proofs.channel.err.Statement.{statement}
-use Rattle.handler.proofs.channel.err.Tie as tie
+use Rattle.handler.proofs.channel.err as fn
 
-returns : tie.Need-returns
-returns c = and-mask (c .args .w) 4
-
-pub err-spec : {M : Type 1} → statement M
-err-spec = tie.close (tie.spec returns)
+pub err-spec : {M : Type 1} → fn.Statement.statement M
+err-spec = fn.Tie.close (fn.Tie.spec (λ c. and-mask (c .args .w) 4))

@@ -1,11 +1,6 @@
--- `channel::foreign` meets its contract, by its test. Assumes nothing.
+-- `channel::foreign` meets its contract, by its test.
 use Rattle.handler.proofs.ChannelLaws.{foreign-laws as laws}
-use Rattle.handler.proofs.channel.foreign.Statement.{statement}
-use Rattle.handler.proofs.channel.foreign.Tie as tie
+use Rattle.handler.proofs.channel.foreign as fn
 
-pub foreign-spec : {M : Type 1} → statement M
-foreign-spec =
-    tie.close
-    (tie.spec
-    (λ c. search laws)
-    (λ c. search laws))
+pub foreign-spec : {M : Type 1} → fn.Statement.statement M
+foreign-spec = fn.Tie.close (fn.Tie.spec (λ c. search laws) (λ c. search laws))

@@ -1,10 +1,6 @@
--- `handler::channel::protocol` meets its contract, by a mask as a remainder. Assumes nothing.
+-- `handler::channel::protocol` meets its contract, by a mask as a remainder.
 use lib.Bits.{and-mask}
-use Rattle.handler.proofs.channel.protocol.Statement.{statement}
-use Rattle.handler.proofs.channel.protocol.Tie as tie
+use Rattle.handler.proofs.channel.protocol as fn
 
-returns : tie.Need-returns
-returns c = and-mask (c .args .w) 12
-
-pub protocol-spec : {M : Type 1} → statement M
-protocol-spec = tie.close (tie.spec returns)
+pub protocol-spec : {M : Type 1} → fn.Statement.statement M
+protocol-spec = fn.Tie.close (fn.Tie.spec (λ c. and-mask (c .args .w) 12))

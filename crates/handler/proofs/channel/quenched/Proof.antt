@@ -1,11 +1,6 @@
--- `channel::quenched` meets its contract, by its test. Assumes nothing.
+-- `channel::quenched` meets its contract, by its test.
 use Rattle.handler.proofs.ChannelLaws.{quenched-laws as laws}
-use Rattle.handler.proofs.channel.quenched.Statement.{statement}
-use Rattle.handler.proofs.channel.quenched.Tie as tie
+use Rattle.handler.proofs.channel.quenched as fn
 
-pub quenched-spec : {M : Type 1} → statement M
-quenched-spec =
-    tie.close
-    (tie.spec
-    (λ c. search laws)
-    (λ c. search laws))
+pub quenched-spec : {M : Type 1} → fn.Statement.statement M
+quenched-spec = fn.Tie.close (fn.Tie.spec (λ c. search laws) (λ c. search laws))

@@ -1,10 +1,6 @@
--- `extension::cr_hbh` meets its contract: a mask is a remainder. Assumes nothing.
+-- `extension::cr_hbh` meets its contract: a mask is a remainder.
 use Rattle.handler.proofs.ExtensionLaws.{bit-laws as laws}
-use Rattle.handler.proofs.extension.cr_hbh.Statement.{statement}
-use Rattle.handler.proofs.extension.cr_hbh.Tie as tie
+use Rattle.handler.proofs.extension.cr_hbh as fn
 
-pub cr-hbh-spec : {M : Type 1} → statement M
-cr-hbh-spec =
-    tie.close
-    (tie.spec
-    (λ c. search laws))
+pub cr-hbh-spec : {M : Type 1} → fn.Statement.statement M
+cr-hbh-spec = fn.Tie.close (fn.Tie.spec (λ c. search laws))

@@ -1,10 +1,6 @@
--- `extension::cr_ite` meets its contract: a mask is a remainder. Assumes nothing.
+-- `extension::cr_ite` meets its contract: a mask is a remainder.
 use Rattle.handler.proofs.ExtensionLaws.{bit-laws as laws}
-use Rattle.handler.proofs.extension.cr_ite.Statement.{statement}
-use Rattle.handler.proofs.extension.cr_ite.Tie as tie
+use Rattle.handler.proofs.extension.cr_ite as fn
 
-pub cr-ite-spec : {M : Type 1} → statement M
-cr-ite-spec =
-    tie.close
-    (tie.spec
-    (λ c. search laws))
+pub cr-ite-spec : {M : Type 1} → fn.Statement.statement M
+cr-ite-spec = fn.Tie.close (fn.Tie.spec (λ c. search laws))

@@ -1,10 +1,6 @@
--- `extension::cr_rsv` meets its contract: a mask is a remainder. Assumes nothing.
+-- `extension::cr_rsv` meets its contract: a mask is a remainder.
 use Rattle.handler.proofs.ExtensionLaws.{bit-laws as laws}
-use Rattle.handler.proofs.extension.cr_rsv.Statement.{statement}
-use Rattle.handler.proofs.extension.cr_rsv.Tie as tie
+use Rattle.handler.proofs.extension.cr_rsv as fn
 
-pub cr-rsv-spec : {M : Type 1} → statement M
-cr-rsv-spec =
-    tie.close
-    (tie.spec
-    (λ c. search laws))
+pub cr-rsv-spec : {M : Type 1} → fn.Statement.statement M
+cr-rsv-spec = fn.Tie.close (fn.Tie.spec (λ c. search laws))

@@ -1,10 +1,6 @@
--- `extension::critical_alert` meets its contract: a mask is a remainder. Assumes nothing.
+-- `extension::critical_alert` meets its contract: a mask is a remainder.
 use Rattle.handler.proofs.ExtensionLaws.{bit-laws as laws}
-use Rattle.handler.proofs.extension.critical_alert.Statement.{statement}
-use Rattle.handler.proofs.extension.critical_alert.Tie as tie
+use Rattle.handler.proofs.extension.critical_alert as fn
 
-pub critical-alert-spec : {M : Type 1} → statement M
-critical-alert-spec =
-    tie.close
-    (tie.spec
-    (λ c. search laws))
+pub critical-alert-spec : {M : Type 1} → fn.Statement.statement M
+critical-alert-spec = fn.Tie.close (fn.Tie.spec (λ c. search laws))

@@ -1,23 +1,12 @@
--- `extension::flag_unsummarized` meets its contract, by its tests in their order. Assumes nothing.
+-- `extension::flag_unsummarized` meets its contract, by its tests in their order.
 use Rattle.rules.specs.Extension.{flagUnsummarized}
 use Rattle.handler.proofs.ExtensionLaws.{three-laws as laws}
-use Rattle.handler.proofs.extension.flag_unsummarized.Statement.{statement}
-use Rattle.handler.proofs.extension.flag_unsummarized.Tie as tie
+use Rattle.handler.proofs.extension.flag_unsummarized as fn
 
-pub flag-unsummarized-spec : {M : Type 1} → statement M
+pub flag-unsummarized-spec : {M : Type 1} → fn.Statement.statement M
 unfolding flagUnsummarized
 flag-unsummarized-spec =
-    tie.close
-    (tie.spec
-    (λ c. search laws)
-    (λ c. search laws)
-    (λ c. search laws)
-    (λ c. search laws)
-    (λ c. search laws)
-    (λ c. search laws)
-    (λ c. search laws)
-    (λ c. search laws)
-    (λ c. search laws)
-    (λ c. search laws)
-    (λ c. search laws)
-    (λ c. search laws))
+    fn.Tie.close
+    (fn.Tie.spec
+    (λ c. search laws) (λ c. search laws) (λ c. search laws) (λ c. search laws) (λ c. search laws) (λ c. search laws) (λ c. search laws)
+    (λ c. search laws) (λ c. search laws) (λ c. search laws) (λ c. search laws) (λ c. search laws))

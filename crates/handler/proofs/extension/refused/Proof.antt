@@ -1,14 +1,6 @@
--- `extension::refused` meets its contract, by its tests in their order. Assumes nothing.
-use Rattle.handler.proofs.ExtensionLaws.{refused-laws as laws}
-use Rattle.handler.proofs.extension.refused.Statement.{statement}
-use Rattle.handler.proofs.extension.refused.Tie as tie
+-- `extension::refused` meets its contract, by its tests in their order.
+use borrow.Author.Needs.{needs}
+use Rattle.handler.proofs.extension.refused as fn
 
-pub refused-spec : {M : Type 1} → statement M
-refused-spec =
-    tie.close
-    (tie.spec
-    (λ c. search laws)
-    (λ c. search laws)
-    (λ c. search laws)
-    (λ c. search laws)
-    (λ c. search laws))
+pub refused-spec : {M : Type 1} → fn.Statement.statement M
+refused-spec = fn.Tie.close (fn.Tie.spec (λ c. search needs) (λ c. cc) (λ c. search needs) (λ c. cc) (λ c. cc))

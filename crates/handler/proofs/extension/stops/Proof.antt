@@ -1,18 +1,10 @@
--- `extension::stops` meets its contract, by its tests in their order. Assumes nothing.
+-- `extension::stops` meets its contract, by its tests in their order.
 use Rattle.handler.proofs.ExtensionLaws.{stops-laws as laws}
-use Rattle.handler.proofs.extension.stops.Statement.{statement}
-use Rattle.handler.proofs.extension.stops.Tie as tie
+use Rattle.handler.proofs.extension.stops as fn
 
-pub stops-spec : {M : Type 1} → statement M
+pub stops-spec : {M : Type 1} → fn.Statement.statement M
 stops-spec =
-    tie.close
-    (tie.spec
-    (λ c. search laws)
-    (λ c. search laws)
-    (λ c. search laws)
-    (λ c. search laws)
-    (λ c. search laws)
-    (λ c. search laws)
-    (λ c. search laws)
-    (λ c. search laws)
-    (λ c. search laws))
+    fn.Tie.close
+    (fn.Tie.spec
+    (λ c. search laws) (λ c. search laws) (λ c. search laws) (λ c. search laws) (λ c. search laws) (λ c. search laws) (λ c. search laws)
+    (λ c. search laws) (λ c. search laws))

@@ -1,23 +1,12 @@
--- `extension::summary_bare` meets its contract, by its tests in their order. Assumes nothing.
+-- `extension::summary_bare` meets its contract, by its tests in their order.
 use Rattle.rules.specs.Extension.{summaryBare}
 use Rattle.handler.proofs.ExtensionLaws.{three-laws as laws}
-use Rattle.handler.proofs.extension.summary_bare.Statement.{statement}
-use Rattle.handler.proofs.extension.summary_bare.Tie as tie
+use Rattle.handler.proofs.extension.summary_bare as fn
 
-pub summary-bare-spec : {M : Type 1} → statement M
+pub summary-bare-spec : {M : Type 1} → fn.Statement.statement M
 unfolding summaryBare
 summary-bare-spec =
-    tie.close
-    (tie.spec
-    (λ c. search laws)
-    (λ c. search laws)
-    (λ c. search laws)
-    (λ c. search laws)
-    (λ c. search laws)
-    (λ c. search laws)
-    (λ c. search laws)
-    (λ c. search laws)
-    (λ c. search laws)
-    (λ c. search laws)
-    (λ c. search laws)
-    (λ c. search laws))
+    fn.Tie.close
+    (fn.Tie.spec
+    (λ c. search laws) (λ c. search laws) (λ c. search laws) (λ c. search laws) (λ c. search laws) (λ c. search laws) (λ c. search laws)
+    (λ c. search laws) (λ c. search laws) (λ c. search laws) (λ c. search laws) (λ c. search laws))

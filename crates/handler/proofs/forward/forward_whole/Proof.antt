@@ -1,25 +1,11 @@
--- `forward::forward_whole` meets its contract: the header, and the rest in one copy. Assumes nothing.
+-- `forward::forward_whole` meets its contract: the header, and the rest in one copy.
 use Rattle.handler.proofs.Rests.{forward-laws as laws}
-use Rattle.handler.proofs.forward.forward_whole.Statement.{statement}
-use Rattle.handler.proofs.forward.forward_whole.Tie as tie
+use Rattle.handler.proofs.forward.forward_whole as fn
 
-pub forward-whole-spec : {M : Type 1} → statement M
+pub forward-whole-spec : {M : Type 1} → fn.Statement.statement M
 forward-whole-spec =
-    tie.close
-    (tie.spec
-    (λ c. search laws)
-    (λ c. search laws)
-    (λ c. search laws)
-    (λ c. search laws)
-    (λ c. search laws)
-    (λ c. search laws)
-    (λ c. search laws)
-    (λ c. search laws)
-    (λ c. search laws)
-    (λ c. search laws)
-    (λ c. search laws)
-    (λ c. search laws)
-    (λ c. search laws)
-    (λ c. search laws)
-    (λ c. search laws)
-    (λ c. search laws))
+    fn.Tie.close
+    (fn.Tie.spec
+    (λ c. search laws) (λ c. search laws) (λ c. search laws) (λ c. search laws) (λ c. search laws) (λ c. search laws) (λ c. search laws)
+    (λ c. search laws) (λ c. search laws) (λ c. search laws) (λ c. search laws) (λ c. search laws) (λ c. search laws) (λ c. search laws)
+    (λ c. search laws) (λ c. search laws))

@@ -1,29 +1,11 @@
--- `forward::forward_with` meets its contract: three writes side by side are one. Assumes nothing.
+-- `forward::forward_with` meets its contract: three writes side by side are one.
 use Rattle.handler.proofs.Rests.{forward-laws as laws}
-use Rattle.handler.proofs.forward.forward_with.Statement.{statement}
-use Rattle.handler.proofs.forward.forward_with.Tie as tie
+use Rattle.handler.proofs.forward.forward_with as fn
 
-pub forward-with-spec : {M : Type 1} → statement M
+pub forward-with-spec : {M : Type 1} → fn.Statement.statement M
 forward-with-spec =
-    tie.close
-    (tie.spec
-    (λ c. search laws)
-    (λ c. search laws)
-    (λ c. search laws)
-    (λ c. search laws)
-    (λ c. search laws)
-    (λ c. search laws)
-    (λ c. search laws)
-    (λ c. search laws)
-    (λ c. search laws)
-    (λ c. search laws)
-    (λ c. search laws)
-    (λ c. search laws)
-    (λ c. search laws)
-    (λ c. search laws)
-    (λ c. search laws)
-    (λ c. search laws)
-    (λ c. search laws)
-    (λ c. search laws)
-    (λ c. search laws)
-    (λ c. search laws))
+    fn.Tie.close
+    (fn.Tie.spec
+    (λ c. search laws) (λ c. search laws) (λ c. search laws) (λ c. search laws) (λ c. search laws) (λ c. search laws) (λ c. search laws)
+    (λ c. search laws) (λ c. search laws) (λ c. search laws) (λ c. search laws) (λ c. search laws) (λ c. search laws) (λ c. search laws)
+    (λ c. search laws) (λ c. search laws) (λ c. search laws) (λ c. search laws) (λ c. search laws) (λ c. search laws))

@@ -1,16 +1,10 @@
--- `handler::forward::header_octets` meets its contract: each octet by what `high` and `low` ensure. Assumes nothing.
-use Rattle.handler.proofs.Rests.{header-octets-laws as laws}
-use Rattle.handler.proofs.forward.header_octets.Statement.{statement}
-use Rattle.handler.proofs.forward.header_octets.Tie as tie
+-- `handler::forward::header_octets` meets its contract: each octet by what `high` and `low` ensure.
+use borrow.Author.Needs.{needs}
+use Rattle.handler.proofs.forward.header_octets as fn
 
-pub header-octets-spec : {M : Type 1} → statement M
+pub header-octets-spec : {M : Type 1} → fn.Statement.statement M
 header-octets-spec =
-    tie.close
-    (tie.spec
-    (λ c κs. search laws)
-    (λ c κs. search laws)
-    (λ c κs. search laws)
-    (λ c κs. search laws)
-    (λ c κs. search laws)
-    (λ c κs. search laws)
-    (λ c. search laws))
+    fn.Tie.close
+    (fn.Tie.spec
+    (λ c κs. search needs) (λ c κs. search needs) (λ c κs. search needs) (λ c κs. search needs) (λ c κs. search needs) (λ c κs. search needs)
+    (λ c. cc))

@@ -1,20 +1,10 @@
--- `handling::alert_of` meets its contract, by its tests in their order. Assumes nothing.
+-- `handling::alert_of` meets its contract, by its tests in their order.
 use Rattle.handler.proofs.RouteLaws.{alert-of-laws as laws}
-use Rattle.handler.proofs.handling.alert_of.Statement.{statement}
-use Rattle.handler.proofs.handling.alert_of.Tie as tie
+use Rattle.handler.proofs.handling.alert_of as fn
 
-pub alert-of-spec : {M : Type 1} → statement M
+pub alert-of-spec : {M : Type 1} → fn.Statement.statement M
 alert-of-spec =
-    tie.close
-    (tie.spec
-    (λ c. search laws)
-    (λ c. search laws)
-    (λ c. search laws)
-    (λ c. search laws)
-    (λ c. search laws)
-    (λ c. search laws)
-    (λ c. search laws)
-    (λ c. search laws)
-    (λ c. search laws)
-    (λ c. search laws)
-    (λ c. search laws))
+    fn.Tie.close
+    (fn.Tie.spec
+    (λ c. search laws) (λ c. search laws) (λ c. search laws) (λ c. search laws) (λ c. search laws) (λ c. search laws) (λ c. search laws)
+    (λ c. search laws) (λ c. search laws) (λ c. search laws) (λ c. search laws))

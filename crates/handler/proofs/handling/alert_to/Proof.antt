@@ -1,24 +1,13 @@
--- `handling::alert_to` meets its contract, by the cases of the message. Assumes nothing.
+-- `handling::alert_to` meets its contract, by the cases of the message.
+use Rattle.rules.specs.Handling.{alertTo}
 use Rattle.handler.proofs.RouteLaws.{alert-to-laws as laws}
-use Rattle.handler.proofs.handling.alert_to.Statement.{statement}
-use Rattle.handler.proofs.handling.alert_to.Tie as tie
+use Rattle.handler.proofs.handling.alert_to as fn
 
-pub alert-to-spec : {M : Type 1} → statement M
+pub alert-to-spec : {M : Type 1} → fn.Statement.statement M
+unfolding alertTo
 alert-to-spec =
-    tie.close
-    (tie.spec
-    (λ c. search laws)
-    (λ c. search laws)
-    (λ c. search laws)
-    (λ c. search laws)
-    (λ c. search laws)
-    (λ c. search laws)
-    (λ c. search laws)
-    (λ c. search laws)
-    (λ c. search laws)
-    (λ c. search laws)
-    (λ c. search laws)
-    (λ c. search laws)
-    (λ c. search laws)
-    (λ c. search laws)
+    fn.Tie.close
+    (fn.Tie.spec
+    (λ c. search laws) (λ c. search laws) (λ c. search laws) (λ c. search laws) (λ c. search laws) (λ c. search laws) (λ c. search laws)
+    (λ c. search laws) (λ c. search laws) (λ c. search laws) (λ c. search laws) (λ c. search laws) (λ c. search laws) (λ c. search laws)
     (λ c. search laws))

@@ -1,14 +1,6 @@
--- `handling::area_stops` meets its contract, by the edition. Assumes nothing.
-use Rattle.handler.proofs.RouteLaws.{area-stops-laws as laws}
-use Rattle.handler.proofs.handling.area_stops.Statement.{statement}
-use Rattle.handler.proofs.handling.area_stops.Tie as tie
+-- `handling::area_stops` meets its contract, by the edition.
+use borrow.Author.Needs.{needs}
+use Rattle.handler.proofs.handling.area_stops as fn
 
-pub area-stops-spec : {M : Type 1} → statement M
-area-stops-spec =
-    tie.close
-    (tie.spec
-    (λ c. search laws)
-    (λ c. search laws)
-    (λ c. search laws)
-    (λ c. search laws)
-    (λ c. search laws))
+pub area-stops-spec : {M : Type 1} → fn.Statement.statement M
+area-stops-spec = fn.Tie.close (fn.Tie.spec (λ c. search needs) (λ c. search needs) (λ c. cc) (λ c. search needs) (λ c. cc))

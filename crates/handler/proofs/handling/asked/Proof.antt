@@ -1,14 +1,6 @@
--- `handling::asked` meets its contract, by what was received. Assumes nothing.
+-- `handling::asked` meets its contract, by what was received.
 use Rattle.handler.proofs.RouteLaws.{asked-laws as laws}
-use Rattle.handler.proofs.handling.asked.Statement.{statement}
-use Rattle.handler.proofs.handling.asked.Tie as tie
+use Rattle.handler.proofs.handling.asked as fn
 
-pub asked-spec : {M : Type 1} → statement M
-asked-spec =
-    tie.close
-    (tie.spec
-    (λ c. search laws)
-    (λ c. search laws)
-    (λ c κs. search laws)
-    (λ c. search laws)
-    (λ c. search laws))
+pub asked-spec : {M : Type 1} → fn.Statement.statement M
+asked-spec = fn.Tie.close (fn.Tie.spec (λ c. search laws) (λ c. search laws) (λ c κs. search laws) (λ c. search laws) (λ c. search laws))

@@ -1,16 +1,9 @@
--- `handling::channel_message` meets its contract, by its tests in their order. Assumes nothing.
+-- `handling::channel_message` meets its contract, by its tests in their order.
 use Rattle.handler.proofs.RouteLaws.{channel-message-laws as laws}
-use Rattle.handler.proofs.handling.channel_message.Statement.{statement}
-use Rattle.handler.proofs.handling.channel_message.Tie as tie
+use Rattle.handler.proofs.handling.channel_message as fn
 
-pub channel-message-spec : {M : Type 1} → statement M
+pub channel-message-spec : {M : Type 1} → fn.Statement.statement M
 channel-message-spec =
-    tie.close
-    (tie.spec
-    (λ c. search laws)
-    (λ c. search laws)
-    (λ c. search laws)
-    (λ c. search laws)
-    (λ c. search laws)
-    (λ c. search laws)
-    (λ c. search laws))
+    fn.Tie.close
+    (fn.Tie.spec
+    (λ c. search laws) (λ c. search laws) (λ c. search laws) (λ c. search laws) (λ c. search laws) (λ c. search laws) (λ c. search laws))

@@ -1,28 +1,11 @@
--- `handling::decapsulated` meets its contract, by its tests in their order. Assumes nothing.
+-- `handling::decapsulated` meets its contract, by its tests in their order.
 use Rattle.handler.proofs.RouteLaws.{decapsulated-laws as laws}
-use Rattle.handler.proofs.handling.decapsulated.Statement.{statement}
-use Rattle.handler.proofs.handling.decapsulated.Tie as tie
+use Rattle.handler.proofs.handling.decapsulated as fn
 
-pub decapsulated-spec : {M : Type 1} → statement M
+pub decapsulated-spec : {M : Type 1} → fn.Statement.statement M
 decapsulated-spec =
-    tie.close
-    (tie.spec
-    (λ c κs. search laws)
-    (λ c. search laws)
-    (λ c. search laws)
-    (λ c. search laws)
-    (λ c. search laws)
-    (λ c. search laws)
-    (λ c. search laws)
-    (λ c. search laws)
-    (λ c. search laws)
-    (λ c. search laws)
-    (λ c. search laws)
-    (λ c. search laws)
-    (λ c. search laws)
-    (λ c. search laws)
-    (λ c. search laws)
-    (λ c. search laws)
-    (λ c. search laws)
-    (λ c. search laws)
-    (λ c. search laws))
+    fn.Tie.close
+    (fn.Tie.spec
+    (λ c κs. search laws) (λ c. search laws) (λ c. search laws) (λ c. search laws) (λ c. search laws) (λ c. search laws) (λ c. search laws)
+    (λ c. search laws) (λ c. search laws) (λ c. search laws) (λ c. search laws) (λ c. search laws) (λ c. search laws) (λ c. search laws)
+    (λ c. search laws) (λ c. search laws) (λ c. search laws) (λ c. search laws) (λ c. search laws))

@@ -1,23 +1,10 @@
--- `handling::echoed` meets its contract, by the next hop back that was found. Assumes nothing.
+-- `handling::echoed` meets its contract, by the next hop back that was found.
 use Rattle.handler.proofs.StageLaws.{echoed-laws as laws}
-use Rattle.handler.proofs.handling.echoed.Statement.{statement}
-use Rattle.handler.proofs.handling.echoed.Tie as tie
+use Rattle.handler.proofs.handling.echoed as fn
 
-pub echoed-spec : {M : Type 1} → statement M
+pub echoed-spec : {M : Type 1} → fn.Statement.statement M
 echoed-spec =
-    tie.close
-    (tie.spec
-    (λ c κs. search laws)
-    (λ c. search laws)
-    (λ c. search laws)
-    (λ c. search laws)
-    (λ c. search laws)
-    (λ c κs. search laws)
-    (λ c. search laws)
-    (λ c κs. search laws)
-    (λ c. search laws)
-    (λ c. search laws)
-    (λ c. search laws)
-    (λ c κs. search laws)
-    (λ c. search laws)
-    (λ c. search laws))
+    fn.Tie.close
+    (fn.Tie.spec
+    (λ c κs. search laws) (λ c. search laws) (λ c. search laws) (λ c. search laws) (λ c. search laws) (λ c κs. search laws) (λ c. search laws)
+    (λ c κs. search laws) (λ c. search laws) (λ c. search laws) (λ c. search laws) (λ c κs. search laws) (λ c. search laws) (λ c. search laws))

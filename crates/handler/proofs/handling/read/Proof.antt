@@ -1,16 +1,9 @@
--- `handling::read` meets its contract, by the cases of the frame. Assumes nothing.
+-- `handling::read` meets its contract, by the cases of the frame.
 use Rattle.handler.proofs.RouteLaws.{read-laws as laws}
-use Rattle.handler.proofs.handling.read.Statement.{statement}
-use Rattle.handler.proofs.handling.read.Tie as tie
+use Rattle.handler.proofs.handling.read as fn
 
-pub read-spec : {M : Type 1} → statement M
+pub read-spec : {M : Type 1} → fn.Statement.statement M
 read-spec =
-    tie.close
-    (tie.spec
-    (λ c. search laws)
-    (λ c. search laws)
-    (λ c. search laws)
-    (λ c. search laws)
-    (λ c κs. search laws)
-    (λ c. search laws)
-    (λ c. search laws))
+    fn.Tie.close
+    (fn.Tie.spec
+    (λ c. search laws) (λ c. search laws) (λ c. search laws) (λ c. search laws) (λ c κs. search laws) (λ c. search laws) (λ c. search laws))

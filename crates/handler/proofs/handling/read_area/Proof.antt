@@ -1,15 +1,6 @@
--- `handling::read_area` meets its contract, by the edition. Assumes nothing.
+-- `handling::read_area` meets its contract, by the edition.
 use Rattle.handler.proofs.RouteLaws.{read-area-laws as laws}
-use Rattle.handler.proofs.handling.read_area.Statement.{statement}
-use Rattle.handler.proofs.handling.read_area.Tie as tie
+use Rattle.handler.proofs.handling.read_area as fn
 
-pub read-area-spec : {M : Type 1} → statement M
-read-area-spec =
-    tie.close
-    (tie.spec
-    (λ c. search laws)
-    (λ c. search laws)
-    (λ c. search laws)
-    (λ c. search laws)
-    (λ c. search laws)
-    (λ c. search laws))
+pub read-area-spec : {M : Type 1} → fn.Statement.statement M
+read-area-spec = fn.Tie.close (fn.Tie.spec (λ c. search laws) (λ c. search laws) (λ c. search laws) (λ c. search laws) (λ c. search laws) (λ c. search laws))

@@ -1,19 +1,10 @@
--- `handling::receive` meets its contract, by its tests in their order. Assumes nothing.
+-- `handling::receive` meets its contract, by its tests in their order.
 use Rattle.handler.proofs.RouteLaws.{receive-laws as laws}
-use Rattle.handler.proofs.handling.receive.Statement.{statement}
-use Rattle.handler.proofs.handling.receive.Tie as tie
+use Rattle.handler.proofs.handling.receive as fn
 
-pub receive-spec : {M : Type 1} → statement M
+pub receive-spec : {M : Type 1} → fn.Statement.statement M
 receive-spec =
-    tie.close
-    (tie.spec
-    (λ c. search laws)
-    (λ c. search laws)
-    (λ c. search laws)
-    (λ c. search laws)
-    (λ c. search laws)
-    (λ c. search laws)
-    (λ c. search laws)
-    (λ c. search laws)
-    (λ c. search laws)
-    (λ c. search laws))
+    fn.Tie.close
+    (fn.Tie.spec
+    (λ c. search laws) (λ c. search laws) (λ c. search laws) (λ c. search laws) (λ c. search laws) (λ c. search laws) (λ c. search laws)
+    (λ c. search laws) (λ c. search laws) (λ c. search laws))

@@ -1,30 +1,11 @@
--- `handling::route` meets its contract, by the area and our role. Assumes nothing.
+-- `handling::route` meets its contract, by the area and our role.
 use Rattle.handler.proofs.RouteLaws.{route-laws as laws}
-use Rattle.handler.proofs.handling.route.Statement.{statement}
-use Rattle.handler.proofs.handling.route.Tie as tie
+use Rattle.handler.proofs.handling.route as fn
 
-pub route-spec : {M : Type 1} → statement M
+pub route-spec : {M : Type 1} → fn.Statement.statement M
 route-spec =
-    tie.close
-    (tie.spec
-    (λ c. search laws)
-    (λ c κs. search laws)
-    (λ c. search laws)
-    (λ c. search laws)
-    (λ c. search laws)
-    (λ c. search laws)
-    (λ c. search laws)
-    (λ c κs. search laws)
-    (λ c. search laws)
-    (λ c. search laws)
-    (λ c. search laws)
-    (λ c. search laws)
-    (λ c. search laws)
-    (λ c. search laws)
-    (λ c. search laws)
-    (λ c. search laws)
-    (λ c. search laws)
-    (λ c. search laws)
-    (λ c. search laws)
-    (λ c. search laws)
-    (λ c. search laws))
+    fn.Tie.close
+    (fn.Tie.spec
+    (λ c. search laws) (λ c κs. search laws) (λ c. search laws) (λ c. search laws) (λ c. search laws) (λ c. search laws) (λ c. search laws)
+    (λ c κs. search laws) (λ c. search laws) (λ c. search laws) (λ c. search laws) (λ c. search laws) (λ c. search laws) (λ c. search laws)
+    (λ c. search laws) (λ c. search laws) (λ c. search laws) (λ c. search laws) (λ c. search laws) (λ c. search laws) (λ c. search laws))

@@ -1,16 +1,9 @@
--- `handling::send` meets its contract, by the area that is sent. Assumes nothing.
+-- `handling::send` meets its contract, by the area that is sent.
 use Rattle.handler.proofs.StageLaws.{send-laws as laws}
-use Rattle.handler.proofs.handling.send.Statement.{statement}
-use Rattle.handler.proofs.handling.send.Tie as tie
+use Rattle.handler.proofs.handling.send as fn
 
-pub send-spec : {M : Type 1} → statement M
+pub send-spec : {M : Type 1} → fn.Statement.statement M
 send-spec =
-    tie.close
-    (tie.spec
-    (λ c. search laws)
-    (λ c κs. search laws)
-    (λ c. search laws)
-    (λ c. search laws)
-    (λ c κs. search laws)
-    (λ c. search laws)
-    (λ c. search laws))
+    fn.Tie.close
+    (fn.Tie.spec
+    (λ c. search laws) (λ c κs. search laws) (λ c. search laws) (λ c. search laws) (λ c κs. search laws) (λ c. search laws) (λ c. search laws))

@@ -1,21 +1,10 @@
--- `handling::send_stripped` meets its contract: what was stripped aside is the area that is sent. Assumes nothing.
+-- `handling::send_stripped` meets its contract: what was stripped aside is the area that is sent.
 use Rattle.handler.proofs.StageLaws.{send-stripped-laws as laws}
-use Rattle.handler.proofs.handling.send_stripped.Statement.{statement}
-use Rattle.handler.proofs.handling.send_stripped.Tie as tie
+use Rattle.handler.proofs.handling.send_stripped as fn
 
-pub send-stripped-spec : {M : Type 1} → statement M
+pub send-stripped-spec : {M : Type 1} → fn.Statement.statement M
 send-stripped-spec =
-    tie.close
-    (tie.spec
-    (λ c. search laws)
-    (λ c κs. search laws)
-    (λ c. search laws)
-    (λ c. search laws)
-    (λ c. search laws)
-    (λ c. search laws)
-    (λ c κs. search laws)
-    (λ c. search laws)
-    (λ c. search laws)
-    (λ c κs. search laws)
-    (λ c. search laws)
-    (λ c. search laws))
+    fn.Tie.close
+    (fn.Tie.spec
+    (λ c. search laws) (λ c κs. search laws) (λ c. search laws) (λ c. search laws) (λ c. search laws) (λ c. search laws) (λ c κs. search laws)
+    (λ c. search laws) (λ c. search laws) (λ c κs. search laws) (λ c. search laws) (λ c. search laws))

@@ -1,19 +1,10 @@
--- `handling::send_whole` meets its contract, by how long the frame is. Assumes nothing.
+-- `handling::send_whole` meets its contract, by how long the frame is.
 use Rattle.handler.proofs.StageLaws.{send-whole-laws as laws}
-use Rattle.handler.proofs.handling.send_whole.Statement.{statement}
-use Rattle.handler.proofs.handling.send_whole.Tie as tie
+use Rattle.handler.proofs.handling.send_whole as fn
 
-pub send-whole-spec : {M : Type 1} → statement M
+pub send-whole-spec : {M : Type 1} → fn.Statement.statement M
 send-whole-spec =
-    tie.close
-    (tie.spec
-    (λ c. search laws)
-    (λ c. search laws)
-    (λ c. search laws)
-    (λ c. search laws)
-    (λ c. search laws)
-    (λ c. search laws)
-    (λ c κs. search laws)
-    (λ c κs. search laws)
-    (λ c. search laws)
-    (λ c. search laws))
+    fn.Tie.close
+    (fn.Tie.spec
+    (λ c. search laws) (λ c. search laws) (λ c. search laws) (λ c. search laws) (λ c. search laws) (λ c. search laws) (λ c κs. search laws)
+    (λ c κs. search laws) (λ c. search laws) (λ c. search laws))

@@ -1,22 +1,10 @@
--- `handling::send_with` meets its contract, by how long the frame is with that area. Assumes nothing.
+-- `handling::send_with` meets its contract, by how long the frame is with that area.
 use Rattle.handler.proofs.StageLaws.{send-with-laws as laws}
-use Rattle.handler.proofs.handling.send_with.Statement.{statement}
-use Rattle.handler.proofs.handling.send_with.Tie as tie
+use Rattle.handler.proofs.handling.send_with as fn
 
-pub send-with-spec : {M : Type 1} → statement M
+pub send-with-spec : {M : Type 1} → fn.Statement.statement M
 send-with-spec =
-    tie.close
-    (tie.spec
-    (λ c κs. search laws)
-    (λ c. search laws)
-    (λ c. search laws)
-    (λ c. search laws)
-    (λ c. search laws)
-    (λ c. search laws)
-    (λ c. search laws)
-    (λ c. search laws)
-    (λ c. search laws)
-    (λ c κs. search laws)
-    (λ c κs. search laws)
-    (λ c. search laws)
-    (λ c. search laws))
+    fn.Tie.close
+    (fn.Tie.spec
+    (λ c κs. search laws) (λ c. search laws) (λ c. search laws) (λ c. search laws) (λ c. search laws) (λ c. search laws) (λ c. search laws)
+    (λ c. search laws) (λ c. search laws) (λ c κs. search laws) (λ c κs. search laws) (λ c. search laws) (λ c. search laws))

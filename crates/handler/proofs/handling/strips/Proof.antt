@@ -1,13 +1,6 @@
--- `handling::strips` meets its contract, by its tests in their order. Assumes nothing.
+-- `handling::strips` meets its contract, by its tests in their order.
 use Rattle.handler.proofs.StageLaws.{strips-laws as laws}
-use Rattle.handler.proofs.handling.strips.Statement.{statement}
-use Rattle.handler.proofs.handling.strips.Tie as tie
+use Rattle.handler.proofs.handling.strips as fn
 
-pub strips-spec : {M : Type 1} → statement M
-strips-spec =
-    tie.close
-    (tie.spec
-    (λ c. search laws)
-    (λ c. search laws)
-    (λ c. search laws)
-    (λ c. search laws))
+pub strips-spec : {M : Type 1} → fn.Statement.statement M
+strips-spec = fn.Tie.close (fn.Tie.spec (λ c. search laws) (λ c. search laws) (λ c. search laws) (λ c. search laws))

@@ -1,13 +1,6 @@
--- `handling::to_all_egress` meets its contract, by what was read. Assumes nothing.
+-- `handling::to_all_egress` meets its contract, by what was read.
 use borrow.Author.Needs.{needs}
-use Rattle.handler.proofs.handling.to_all_egress.Statement.{statement}
-use Rattle.handler.proofs.handling.to_all_egress.Tie as tie
+use Rattle.handler.proofs.handling.to_all_egress as fn
 
-be48-requires : tie.Need-be48-requires
-be48-requires c κs = search needs
-
-returns : tie.Need-returns
-returns c = rw (c .be48 .ensures)
-
-pub to-all-egress-spec : {M : Type 1} → statement M
-to-all-egress-spec = tie.close (tie.spec be48-requires returns)
+pub to-all-egress-spec : {M : Type 1} → fn.Statement.statement M
+to-all-egress-spec = fn.Tie.close (fn.Tie.spec (λ c κs. search needs) (λ c. rw (c .be48 .ensures)))

@@ -1,19 +1,10 @@
--- `handling::transit` meets its contract, by the next hop and the alert. Assumes nothing.
+-- `handling::transit` meets its contract, by the next hop and the alert.
 use Rattle.handler.proofs.TaskLaws.{transit-laws as laws}
-use Rattle.handler.proofs.handling.transit.Statement.{statement}
-use Rattle.handler.proofs.handling.transit.Tie as tie
+use Rattle.handler.proofs.handling.transit as fn
 
-pub transit-spec : {M : Type 1} → statement M
+pub transit-spec : {M : Type 1} → fn.Statement.statement M
 transit-spec =
-    tie.close
-    (tie.spec
-    (λ c. search laws)
-    (λ c. search laws)
-    (λ c κs. search laws)
-    (λ c. search laws)
-    (λ c κs. search laws)
-    (λ c κs. search laws)
-    (λ c. search laws)
-    (λ c κs. search laws)
-    (λ c. search laws)
-    (λ c. search laws))
+    fn.Tie.close
+    (fn.Tie.spec
+    (λ c. search laws) (λ c. search laws) (λ c κs. search laws) (λ c. search laws) (λ c κs. search laws) (λ c κs. search laws) (λ c. search laws)
+    (λ c κs. search laws) (λ c. search laws) (λ c. search laws))

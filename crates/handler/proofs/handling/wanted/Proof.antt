@@ -1,12 +1,6 @@
--- `handling::wanted` meets its contract, by our role. Assumes nothing.
+-- `handling::wanted` meets its contract, by our role.
 use Rattle.handler.proofs.RouteLaws.{wanted-laws as laws}
-use Rattle.handler.proofs.handling.wanted.Statement.{statement}
-use Rattle.handler.proofs.handling.wanted.Tie as tie
+use Rattle.handler.proofs.handling.wanted as fn
 
-pub wanted-spec : {M : Type 1} → statement M
-wanted-spec =
-    tie.close
-    (tie.spec
-    (λ c. search laws)
-    (λ c. search laws)
-    (λ c. search laws))
+pub wanted-spec : {M : Type 1} → fn.Statement.statement M
+wanted-spec = fn.Tie.close (fn.Tie.spec (λ c. search laws) (λ c. search laws) (λ c. search laws))

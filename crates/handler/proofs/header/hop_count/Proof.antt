@@ -1,10 +1,6 @@
--- `handler::header::hop_count` meets its contract, by a mask as a remainder. Assumes nothing.
+-- `handler::header::hop_count` meets its contract, by a mask as a remainder.
 use lib.Bits.{and-mask}
-use Rattle.handler.proofs.header.hop_count.Statement.{statement}
-use Rattle.handler.proofs.header.hop_count.Tie as tie
+use Rattle.handler.proofs.header.hop_count as fn
 
-returns : tie.Need-returns
-returns c = and-mask (c .args .w) 6
-
-pub hop-count-spec : {M : Type 1} → statement M
-hop-count-spec = tie.close (tie.spec returns)
+pub hop-count-spec : {M : Type 1} → fn.Statement.statement M
+hop-count-spec = fn.Tie.close (fn.Tie.spec (λ c. and-mask (c .args .w) 6))

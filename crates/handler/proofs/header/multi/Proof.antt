@@ -1,11 +1,7 @@
--- `handler::header::multi` meets its contract, by a mask as a remainder. Assumes nothing.
+-- `handler::header::multi` meets its contract, by a mask as a remainder.
 use lib.Bits.{and-mask}
 use Prim.Native.Nat.{_/_}
-use Rattle.handler.proofs.header.multi.Statement.{statement}
-use Rattle.handler.proofs.header.multi.Tie as tie
+use Rattle.handler.proofs.header.multi as fn
 
-returns : tie.Need-returns
-returns c = and-mask (c .args .w / 2048) 1
-
-pub multi-spec : {M : Type 1} → statement M
-multi-spec = tie.close (tie.spec returns)
+pub multi-spec : {M : Type 1} → fn.Statement.statement M
+multi-spec = fn.Tie.close (fn.Tie.spec (λ c. and-mask (c .args .w / 2048) 1))

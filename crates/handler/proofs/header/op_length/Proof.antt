@@ -1,11 +1,7 @@
--- `handler::header::op_length` meets its contract, by a mask as a remainder. Assumes nothing.
+-- `handler::header::op_length` meets its contract, by a mask as a remainder.
 use lib.Bits.{and-mask}
 use Prim.Native.Nat.{_/_}
-use Rattle.handler.proofs.header.op_length.Statement.{statement}
-use Rattle.handler.proofs.header.op_length.Tie as tie
+use Rattle.handler.proofs.header.op_length as fn
 
-returns : tie.Need-returns
-returns c = and-mask (c .args .w / 64) 5
-
-pub op-length-spec : {M : Type 1} → statement M
-op-length-spec = tie.close (tie.spec returns)
+pub op-length-spec : {M : Type 1} → fn.Statement.statement M
+op-length-spec = fn.Tie.close (fn.Tie.spec (λ c. and-mask (c .args .w / 64) 5))

@@ -1,11 +1,7 @@
--- `handler::header::reserved` meets its contract, by a mask as a remainder. Assumes nothing.
+-- `handler::header::reserved` meets its contract, by a mask as a remainder.
 use lib.Bits.{and-mask}
 use Prim.Native.Nat.{_/_}
-use Rattle.handler.proofs.header.reserved.Statement.{statement}
-use Rattle.handler.proofs.header.reserved.Tie as tie
+use Rattle.handler.proofs.header.reserved as fn
 
-returns : tie.Need-returns
-returns c = and-mask (c .args .w / 4096) 2
-
-pub reserved-spec : {M : Type 1} → statement M
-reserved-spec = tie.close (tie.spec returns)
+pub reserved-spec : {M : Type 1} → fn.Statement.statement M
+reserved-spec = fn.Tie.close (fn.Tie.spec (λ c. and-mask (c .args .w / 4096) 2))

@@ -1,11 +1,6 @@
--- `handler::header::we_are_egress` meets its contract, by its tests in their order. Assumes nothing.
+-- `handler::header::we_are_egress` meets its contract, by its tests in their order.
 use Rattle.rules.proofs.HeaderLaws.{we-are-egress-laws as laws}
-use Rattle.handler.proofs.header.we_are_egress.Statement.{statement}
-use Rattle.handler.proofs.header.we_are_egress.Tie as tie
+use Rattle.handler.proofs.header.we_are_egress as fn
 
-pub we-are-egress-spec : {M : Type 1} → statement M
-we-are-egress-spec =
-    tie.close
-    (tie.spec
-    (λ c. search laws)
-    (λ c. search laws))
+pub we-are-egress-spec : {M : Type 1} → fn.Statement.statement M
+we-are-egress-spec = fn.Tie.close (fn.Tie.spec (λ c. search laws) (λ c. search laws))

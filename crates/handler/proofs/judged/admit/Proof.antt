@@ -1,30 +1,11 @@
--- `judged::admit` meets its contract, by one law of `hopTaken` for each way out. Assumes nothing.
+-- `judged::admit` meets its contract, by one law of `hopTaken` for each way out.
 use Rattle.handler.proofs.KeyLaws.{admit-laws as laws}
-use Rattle.handler.proofs.judged.admit.Statement.{statement}
-use Rattle.handler.proofs.judged.admit.Tie as tie
+use Rattle.handler.proofs.judged.admit as fn
 
-pub admit-spec : {M : Type 1} → statement M
+pub admit-spec : {M : Type 1} → fn.Statement.statement M
 admit-spec =
-    tie.close
-    (tie.spec
-    (λ c. search laws)
-    (λ c. search laws)
-    (λ c. search laws)
-    (λ c. search laws)
-    (λ c. search laws)
-    (λ c. search laws)
-    (λ c. search laws)
-    (λ c. search laws)
-    (λ c. search laws)
-    (λ c. search laws)
-    (λ c κs. search laws)
-    (λ c. search laws)
-    (λ c. search laws)
-    (λ c. search laws)
-    (λ c. search laws)
-    (λ c. search laws)
-    (λ c. search laws)
-    (λ c. search laws)
-    (λ c. search laws)
-    (λ c. search laws)
-    (λ c. search laws))
+    fn.Tie.close
+    (fn.Tie.spec
+    (λ c. search laws) (λ c. search laws) (λ c. search laws) (λ c. search laws) (λ c. search laws) (λ c. search laws) (λ c. search laws)
+    (λ c. search laws) (λ c. search laws) (λ c. search laws) (λ c κs. search laws) (λ c. search laws) (λ c. search laws) (λ c. search laws)
+    (λ c. search laws) (λ c. search laws) (λ c. search laws) (λ c. search laws) (λ c. search laws) (λ c. search laws) (λ c. search laws))

@@ -1,13 +1,6 @@
--- `judged::flagged` meets its contract, by the tag. Assumes nothing.
+-- `judged::flagged` meets its contract, by the tag.
 use Rattle.handler.proofs.FieldWalks.{flagged-laws as laws}
-use Rattle.handler.proofs.judged.flagged.Statement.{statement}
-use Rattle.handler.proofs.judged.flagged.Tie as tie
+use Rattle.handler.proofs.judged.flagged as fn
 
-pub flagged-spec : {M : Type 1} → statement M
-flagged-spec =
-    tie.close
-    (tie.spec
-    (λ c. search laws)
-    (λ c. search laws)
-    (λ c. search laws)
-    (λ c. search laws))
+pub flagged-spec : {M : Type 1} → fn.Statement.statement M
+flagged-spec = fn.Tie.close (fn.Tie.spec (λ c. search laws) (λ c. search laws) (λ c. search laws) (λ c. search laws))

@@ -1,23 +1,10 @@
--- `judged::judge` meets its contract, by one law for each way out. Assumes nothing.
+-- `judged::judge` meets its contract, by one law for each way out.
 use Rattle.handler.proofs.ScanLaws.{judge-laws as laws}
-use Rattle.handler.proofs.judged.judge.Statement.{statement}
-use Rattle.handler.proofs.judged.judge.Tie as tie
+use Rattle.handler.proofs.judged.judge as fn
 
-pub judge-spec : {M : Type 1} → statement M
+pub judge-spec : {M : Type 1} → fn.Statement.statement M
 judge-spec =
-    tie.close
-    (tie.spec
-    (λ c. search laws)
-    (λ c. search laws)
-    (λ c. search laws)
-    (λ c. search laws)
-    (λ c. search laws)
-    (λ c. search laws)
-    (λ c. search laws)
-    (λ c. search laws)
-    (λ c. search laws)
-    (λ c. search laws)
-    (λ c. search laws)
-    (λ c κs. search laws)
-    (λ c. search laws)
-    (λ c. search laws))
+    fn.Tie.close
+    (fn.Tie.spec
+    (λ c. search laws) (λ c. search laws) (λ c. search laws) (λ c. search laws) (λ c. search laws) (λ c. search laws) (λ c. search laws)
+    (λ c. search laws) (λ c. search laws) (λ c. search laws) (λ c. search laws) (λ c κs. search laws) (λ c. search laws) (λ c. search laws))

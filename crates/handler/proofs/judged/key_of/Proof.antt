@@ -1,14 +1,6 @@
--- `judged::key_of` meets its contract, by `|` of disjoint bits as a sum. Assumes nothing.
+-- `judged::key_of` meets its contract, by `|` of disjoint bits as a sum.
 use Rattle.handler.proofs.KeyLaws.{key-of-laws as laws}
-use Rattle.handler.proofs.judged.key_of.Statement.{statement}
-use Rattle.handler.proofs.judged.key_of.Tie as tie
+use Rattle.handler.proofs.judged.key_of as fn
 
-pub key-of-spec : {M : Type 1} → statement M
-key-of-spec =
-    tie.close
-    (tie.spec
-    (λ c κs. search laws)
-    (λ c. search laws)
-    (λ c κs. search laws)
-    (λ c. search laws)
-    (λ c. search laws))
+pub key-of-spec : {M : Type 1} → fn.Statement.statement M
+key-of-spec = fn.Tie.close (fn.Tie.spec (λ c κs. search laws) (λ c. search laws) (λ c κs. search laws) (λ c. search laws) (λ c. search laws))

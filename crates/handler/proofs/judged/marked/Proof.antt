@@ -1,11 +1,8 @@
--- `judged::marked` meets its contract, by its test. Assumes nothing.
-use Rattle.handler.proofs.KeyLaws.{marked-laws as laws}
-use Rattle.handler.proofs.judged.marked.Statement.{statement}
-use Rattle.handler.proofs.judged.marked.Tie as tie
+-- `judged::marked` meets its contract, by its test.
+use Rattle.handler.specs.Keys.{markedBy}
+use Rattle.handler.proofs.Stages.{if-laws as laws}
+use Rattle.handler.proofs.judged.marked as fn
 
-pub marked-spec : {M : Type 1} → statement M
-marked-spec =
-    tie.close
-    (tie.spec
-    (λ c. search laws)
-    (λ c. search laws))
+pub marked-spec : {M : Type 1} → fn.Statement.statement M
+unfolding markedBy
+marked-spec = fn.Tie.close (fn.Tie.spec (λ c. search laws) (λ c. search laws))

@@ -1,4 +1,4 @@
--- `judged::met` meets its contract. The invariant: what was found, or is found from place i on, is whether the key is met. Assumes nothing.
+-- `judged::met` meets its contract. The invariant: what was found, or is found from place i on, is whether the key is met.
 use mathlib.Core.Path.{_≡_}
 use mathlib.Core.Bool.{_||_}
 use Prim.Native.Nat.{_-_, _≤_}
@@ -6,26 +6,17 @@ use lib.ListN.{take}
 use lib.Seq.{slice}
 use Rattle.handler.specs.Keys.{keyMet}
 use Rattle.handler.proofs.KeyLaws.{met-laws as laws}
-use Rattle.handler.proofs.judged.met.Statement.{statement}
-use Rattle.handler.proofs.judged.met.Tie as tie
+use Rattle.handler.proofs.judged.met as fn
 
-abbrev Inv-loop : tie.InvT-loop
+abbrev Inv-loop : fn.Tie.InvT-loop
 Inv-loop keys n key found₀ i₀ found i = (i ≤ n) × ((found || keyMet key (slice i n keys)) ≡ keyMet key (take n keys))
 
-abbrev μ-loop : tie.MeasureT-loop
+abbrev μ-loop : fn.Tie.MeasureT-loop
 μ-loop keys n key found₀ i₀ found i = n - i
 
-pub met-spec : {M : Type 1} → statement M
+pub met-spec : {M : Type 1} → fn.Statement.statement M
 met-spec =
-    tie.close
-    (tie.spec
-    Inv-loop
-    μ-loop
-    (λ c. search laws)
-    (λ c. search laws)
-    (λ c. search laws)
-    (λ c κs. search laws)
-    (λ c. search laws)
-    (λ c. search laws)
-    (λ c. search laws)
-    (λ c. search laws))
+    fn.Tie.close
+    (fn.Tie.spec
+    Inv-loop μ-loop (λ c. search laws) (λ c. search laws) (λ c. search laws) (λ c κs. search laws) (λ c. search laws) (λ c. search laws)
+    (λ c. search laws) (λ c. search laws))

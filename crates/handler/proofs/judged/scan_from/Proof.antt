@@ -1,47 +1,21 @@
--- `judged::scan_from` meets its contract. The invariant: what was read is judged, and folded to the record that rules and the flags. Assumes nothing.
+-- `judged::scan_from` meets its contract. The invariant: what was read is judged, and folded to the record that rules and the flags.
 use Prim.Native.Nat.{_-_}
 use lib.ListN.{length}
 use Rattle.handler.proofs.ScanLaws.{Scanning, scan-laws as laws}
-use Rattle.handler.proofs.judged.scan_from.Statement.{statement}
-use Rattle.handler.proofs.judged.scan_from.Tie as tie
+use Rattle.handler.proofs.judged.scan_from as fn
 
-abbrev Inv-loop : tie.InvT-loop
+abbrev Inv-loop : fn.Tie.InvT-loop
 Inv-loop s from d keys₀ seen₀ n₀ best₀ flags₀ at₀ keys seen n best flags at = Scanning s from d keys seen n best flags at
 
-abbrev μ-loop : tie.MeasureT-loop
+abbrev μ-loop : fn.Tie.MeasureT-loop
 μ-loop s from d keys₀ seen₀ n₀ best₀ flags₀ at₀ keys seen n best flags at = length s - at
 
-pub scan-from-spec : {M : Type 1} → statement M
+pub scan-from-spec : {M : Type 1} → fn.Statement.statement M
 scan-from-spec =
-    tie.close
-    (tie.spec
-    Inv-loop
-    μ-loop
-    (λ c. search laws)
-    (λ c κs. search laws)
-    (λ c. search laws)
-    (λ c. search laws)
-    (λ c κs. search laws)
-    (λ c. search laws)
-    (λ c. search laws)
-    (λ c. search laws)
-    (λ c. search laws)
-    (λ c. search laws)
-    (λ c. search laws)
-    (λ c. search laws)
-    (λ c κs. search laws)
-    (λ c κs. search laws)
-    (λ c. search laws)
-    (λ c κs. search laws)
-    (λ c. search laws)
-    (λ c. search laws)
-    (λ c κs. search laws)
-    (λ c. search laws)
-    (λ c. search laws)
-    (λ c κs. search laws)
-    (λ c κs. search laws)
-    (λ c. search laws)
-    (λ c κs. search laws)
-    (λ c. search laws)
-    (λ c. search laws)
+    fn.Tie.close
+    (fn.Tie.spec
+    Inv-loop μ-loop (λ c. search laws) (λ c κs. search laws) (λ c. search laws) (λ c. search laws) (λ c κs. search laws) (λ c. search laws)
+    (λ c. search laws) (λ c. search laws) (λ c. search laws) (λ c. search laws) (λ c. search laws) (λ c. search laws) (λ c κs. search laws)
+    (λ c κs. search laws) (λ c. search laws) (λ c κs. search laws) (λ c. search laws) (λ c. search laws) (λ c κs. search laws) (λ c. search laws)
+    (λ c. search laws) (λ c κs. search laws) (λ c κs. search laws) (λ c. search laws) (λ c κs. search laws) (λ c. search laws) (λ c. search laws)
     (λ c. search laws))

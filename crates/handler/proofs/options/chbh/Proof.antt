@@ -1,15 +1,8 @@
--- `handler::options::chbh` meets its contract, by a mask as a remainder. Assumes nothing.
+-- `handler::options::chbh` meets its contract, by a mask as a remainder.
 use Prim.Native.Nat.{_/_}
 use lib.Bits.{and-mask}
 use borrow.Author.Needs.{needs}
-use Rattle.handler.proofs.options.chbh.Statement.{statement}
-use Rattle.handler.proofs.options.chbh.Tie as tie
+use Rattle.handler.proofs.options.chbh as fn
 
-octet-requires : tie.Need-octet-requires
-octet-requires c κs = search needs
-
-returns : tie.Need-returns
-returns c = rw (and-mask (c .octet .result / 128) 1, c .octet .ensures)
-
-pub chbh-spec : {M : Type 1} → statement M
-chbh-spec = tie.close (tie.spec octet-requires returns)
+pub chbh-spec : {M : Type 1} → fn.Statement.statement M
+chbh-spec = fn.Tie.close (fn.Tie.spec (λ c κs. search needs) (λ c. rw (and-mask (c .octet .result / 128) 1, c .octet .ensures)))

@@ -1,12 +1,6 @@
 -- `handler::options::hop_met` meets its contract, by its test.
-use Rattle.handler.proofs.Walks.{hop-met-laws as laws}
-use Rattle.handler.proofs.options.hop_met.Statement.{statement}
-use Rattle.handler.proofs.options.hop_met.Tie as tie
+use borrow.Author.Needs.{needs}
+use Rattle.handler.proofs.options.hop_met as fn
 
-pub hop-met-spec : {M : Type 1} → statement M
-hop-met-spec =
-    tie.close
-    (tie.spec
-    (λ c. search laws)
-    (λ c κs. search laws)
-    (λ c. search laws))
+pub hop-met-spec : {M : Type 1} → fn.Statement.statement M
+hop-met-spec = fn.Tie.close (fn.Tie.spec (λ c. search needs) (λ c κs. search needs) (λ c. cc))

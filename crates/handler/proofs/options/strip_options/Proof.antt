@@ -3,35 +3,18 @@ use Prim.Native.Nat.{_-_}
 use lib.ListN.{length}
 use Rattle.handler.proofs.Strips.{Stripping}
 use Rattle.handler.proofs.Strips.{strip-options-laws as laws}
-use Rattle.handler.proofs.options.strip_options.Statement.{statement}
-use Rattle.handler.proofs.options.strip_options.Tie as tie
+use Rattle.handler.proofs.options.strip_options as fn
 
-abbrev Inv-loop : tie.InvT-loop
+abbrev Inv-loop : fn.Tie.InvT-loop
 Inv-loop area table out₀ from at₀ to₀ out at to = Stripping area out₀ from out at to
 
-abbrev μ-loop : tie.MeasureT-loop
+abbrev μ-loop : fn.Tie.MeasureT-loop
 μ-loop area table out₀ from at₀ to₀ out at to = length area - at
 
-pub strip-options-spec : {M : Type 1} → statement M
+pub strip-options-spec : {M : Type 1} → fn.Statement.statement M
 strip-options-spec =
-    tie.close
-    (tie.spec
-    Inv-loop
-    μ-loop
-    (λ c. search laws)
-    (λ c κs. search laws)
-    (λ c κs. search laws)
-    (λ c κs. search laws)
-    (λ c κs. search laws)
-    (λ c. search laws)
-    (λ c. search laws)
-    (λ c. search laws)
-    (λ c κs. search laws)
-    (λ c. search laws)
-    (λ c. search laws)
-    (λ c. search laws)
-    (λ c κs. search laws)
-    (λ c. search laws)
-    (λ c. search laws)
-    (λ c. search laws)
-    (λ c. search laws))
+    fn.Tie.close
+    (fn.Tie.spec
+    Inv-loop μ-loop (λ c. search laws) (λ c κs. search laws) (λ c κs. search laws) (λ c κs. search laws) (λ c κs. search laws) (λ c. search laws)
+    (λ c. search laws) (λ c. search laws) (λ c κs. search laws) (λ c. search laws) (λ c. search laws) (λ c. search laws) (λ c κs. search laws)
+    (λ c. search laws) (λ c. search laws) (λ c. search laws) (λ c. search laws))

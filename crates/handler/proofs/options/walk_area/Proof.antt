@@ -3,26 +3,17 @@ use Prim.Native.Nat.{_-_}
 use lib.ListN.{length}
 use Rattle.handler.proofs.Walks.{Walking}
 use Rattle.handler.proofs.Walks.{walk-area-laws as laws}
-use Rattle.handler.proofs.options.walk_area.Statement.{statement}
-use Rattle.handler.proofs.options.walk_area.Tie as tie
+use Rattle.handler.proofs.options.walk_area as fn
 
-abbrev Inv-loop : tie.InvT-loop
+abbrev Inv-loop : fn.Tie.InvT-loop
 Inv-loop area table c₀ c = Walking area c
 
-abbrev μ-loop : tie.MeasureT-loop
+abbrev μ-loop : fn.Tie.MeasureT-loop
 μ-loop area table c₀ c = length area - c .at
 
-pub walk-area-spec : {M : Type 1} → statement M
+pub walk-area-spec : {M : Type 1} → fn.Statement.statement M
 walk-area-spec =
-    tie.close
-    (tie.spec
-    Inv-loop
-    μ-loop
-    (λ c. search laws)
-    (λ c κs. search laws)
-    (λ c. search laws)
-    (λ c. search laws)
-    (λ c. search laws)
-    (λ c. search laws)
-    (λ c. search laws)
-    (λ c. search laws))
+    fn.Tie.close
+    (fn.Tie.spec
+    Inv-loop μ-loop (λ c. search laws) (λ c κs. search laws) (λ c. search laws) (λ c. search laws) (λ c. search laws) (λ c. search laws)
+    (λ c. search laws) (λ c. search laws))

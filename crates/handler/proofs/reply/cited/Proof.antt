@@ -1,20 +1,10 @@
--- `handler::reply::cited` meets its contract, by one law for each way out. Assumes nothing.
+-- `handler::reply::cited` meets its contract, by one law for each way out.
 use Rattle.handler.proofs.Bodies.{cited-laws as laws}
-use Rattle.handler.proofs.reply.cited.Statement.{statement}
-use Rattle.handler.proofs.reply.cited.Tie as tie
+use Rattle.handler.proofs.reply.cited as fn
 
-pub cited-spec : {M : Type 1} → statement M
+pub cited-spec : {M : Type 1} → fn.Statement.statement M
 cited-spec =
-    tie.close
-    (tie.spec
-    (λ c. search laws)
-    (λ c. search laws)
-    (λ c. search laws)
-    (λ c. search laws)
-    (λ c. search laws)
-    (λ c. search laws)
-    (λ c. search laws)
-    (λ c. search laws)
-    (λ c. search laws)
-    (λ c. search laws)
-    (λ c. search laws))
+    fn.Tie.close
+    (fn.Tie.spec
+    (λ c. search laws) (λ c. search laws) (λ c. search laws) (λ c. search laws) (λ c. search laws) (λ c. search laws) (λ c. search laws)
+    (λ c. search laws) (λ c. search laws) (λ c. search laws) (λ c. search laws))

@@ -1,13 +1,6 @@
--- `reply::error_reply` meets its contract: what is written behind the link header makes one write. Assumes nothing.
+-- `reply::error_reply` meets its contract: what is written behind the link header makes one write.
 use Rattle.handler.proofs.Replies.{reply-laws as laws}
-use Rattle.handler.proofs.reply.error_reply.Statement.{statement}
-use Rattle.handler.proofs.reply.error_reply.Tie as tie
+use Rattle.handler.proofs.reply.error_reply as fn
 
-pub error-reply-spec : {M : Type 1} → statement M
-error-reply-spec =
-    tie.close
-    (tie.spec
-    (λ c κs. search laws)
-    (λ c κs. search laws)
-    (λ c. search laws)
-    (λ c. search laws))
+pub error-reply-spec : {M : Type 1} → fn.Statement.statement M
+error-reply-spec = fn.Tie.close (fn.Tie.spec (λ c κs. search laws) (λ c κs. search laws) (λ c. search laws) (λ c. search laws))

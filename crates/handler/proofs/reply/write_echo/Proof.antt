@@ -1,18 +1,10 @@
--- `handler::reply::write_echo` meets its contract: head and body are one write, by the law of the echo. Assumes nothing.
+-- `handler::reply::write_echo` meets its contract: head and body are one write, by the law of the echo.
 use Rattle.handler.proofs.Bodies.{write-echo-laws as laws}
-use Rattle.handler.proofs.reply.write_echo.Statement.{statement}
-use Rattle.handler.proofs.reply.write_echo.Tie as tie
+use Rattle.handler.proofs.reply.write_echo as fn
 
-pub write-echo-spec : {M : Type 1} → statement M
+pub write-echo-spec : {M : Type 1} → fn.Statement.statement M
 write-echo-spec =
-    tie.close
-    (tie.spec
-    (λ c κs. search laws)
-    (λ c. search laws)
-    (λ c κs. search laws)
-    (λ c. search laws)
-    (λ c κs. search laws)
-    (λ c. search laws)
-    (λ c. search laws)
-    (λ c. search laws)
-    (λ c. search laws))
+    fn.Tie.close
+    (fn.Tie.spec
+    (λ c κs. search laws) (λ c. search laws) (λ c κs. search laws) (λ c. search laws) (λ c κs. search laws) (λ c. search laws) (λ c. search laws)
+    (λ c. search laws) (λ c. search laws))

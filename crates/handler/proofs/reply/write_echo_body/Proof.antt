@@ -1,17 +1,10 @@
--- `handler::reply::write_echo_body` meets its contract: the first octet and the rest are one write. Assumes nothing.
+-- `handler::reply::write_echo_body` meets its contract: the first octet and the rest are one write.
 use Rattle.handler.proofs.Bodies.{write-echo-body-laws as laws}
-use Rattle.handler.proofs.reply.write_echo_body.Statement.{statement}
-use Rattle.handler.proofs.reply.write_echo_body.Tie as tie
+use Rattle.handler.proofs.reply.write_echo_body as fn
 
-pub write-echo-body-spec : {M : Type 1} → statement M
+pub write-echo-body-spec : {M : Type 1} → fn.Statement.statement M
 write-echo-body-spec =
-    tie.close
-    (tie.spec
-    (λ c κs. search laws)
-    (λ c κs. search laws)
-    (λ c. search laws)
-    (λ c κs. search laws)
-    (λ c. search laws)
-    (λ c κs. search laws)
-    (λ c. search laws)
+    fn.Tie.close
+    (fn.Tie.spec
+    (λ c κs. search laws) (λ c κs. search laws) (λ c. search laws) (λ c κs. search laws) (λ c. search laws) (λ c κs. search laws) (λ c. search laws)
     (λ c. search laws))

@@ -1,17 +1,10 @@
--- `handler::reply::write_received` meets its contract: the two copies are one write, by the law of what is received. Assumes nothing.
+-- `handler::reply::write_received` meets its contract: the two copies are one write, by the law of what is received.
 use Rattle.handler.proofs.Bodies.{write-received-laws as laws}
-use Rattle.handler.proofs.reply.write_received.Statement.{statement}
-use Rattle.handler.proofs.reply.write_received.Tie as tie
+use Rattle.handler.proofs.reply.write_received as fn
 
-pub write-received-spec : {M : Type 1} → statement M
+pub write-received-spec : {M : Type 1} → fn.Statement.statement M
 write-received-spec =
-    tie.close
-    (tie.spec
-    (λ c κs. search laws)
-    (λ c. search laws)
-    (λ c. search laws)
-    (λ c. search laws)
-    (λ c. search laws)
-    (λ c κs. search laws)
-    (λ c. search laws)
+    fn.Tie.close
+    (fn.Tie.spec
+    (λ c κs. search laws) (λ c. search laws) (λ c. search laws) (λ c. search laws) (λ c. search laws) (λ c κs. search laws) (λ c. search laws)
     (λ c. search laws))

@@ -1,17 +1,10 @@
--- `settings::newer` meets its contract, by one law of `newer` for each way out. Assumes nothing.
+-- `settings::newer` meets its contract, by one law of `newer` for each way out.
 use Rattle.handler.proofs.FieldWalks.{newer-laws as laws}
-use Rattle.handler.proofs.settings.newer.Statement.{statement}
-use Rattle.handler.proofs.settings.newer.Tie as tie
+use Rattle.handler.proofs.settings.newer as fn
 
-pub newer-spec : {M : Type 1} → statement M
+pub newer-spec : {M : Type 1} → fn.Statement.statement M
 newer-spec =
-    tie.close
-    (tie.spec
-    (λ c κs. search laws)
-    (λ c. search laws)
-    (λ c κs. search laws)
-    (λ c. search laws)
-    (λ c. search laws)
-    (λ c. search laws)
-    (λ c. search laws)
+    fn.Tie.close
+    (fn.Tie.spec
+    (λ c κs. search laws) (λ c. search laws) (λ c κs. search laws) (λ c. search laws) (λ c. search laws) (λ c. search laws) (λ c. search laws)
     (λ c. search laws))

@@ -1,19 +1,10 @@
--- `settings::own_of` meets its contract: the fields behind the first keep nickname and MAC. Assumes nothing.
+-- `settings::own_of` meets its contract: the fields behind the first keep nickname and MAC.
 use Rattle.handler.proofs.FieldWalks.{own-of-laws as laws}
-use Rattle.handler.proofs.settings.own_of.Statement.{statement}
-use Rattle.handler.proofs.settings.own_of.Tie as tie
+use Rattle.handler.proofs.settings.own_of as fn
 
-pub own-of-spec : {M : Type 1} → statement M
+pub own-of-spec : {M : Type 1} → fn.Statement.statement M
 own-of-spec =
-    tie.close
-    (tie.spec
-    (λ c κs. search laws)
-    (λ c. search laws)
-    (λ c. search laws)
-    (λ c. search laws)
-    (λ c. search laws)
-    (λ c. search laws)
-    (λ c. search laws)
-    (λ c κs. search laws)
-    (λ c κs. search laws)
-    (λ c. search laws))
+    fn.Tie.close
+    (fn.Tie.spec
+    (λ c κs. search laws) (λ c. search laws) (λ c. search laws) (λ c. search laws) (λ c. search laws) (λ c. search laws) (λ c. search laws)
+    (λ c κs. search laws) (λ c κs. search laws) (λ c. search laws))

@@ -1,20 +1,10 @@
--- `store::good` meets its contract, by its tests in their order. Assumes nothing.
+-- `store::good` meets its contract, by its tests in their order.
 use Rattle.handler.proofs.StoreLaws.{store-good-laws as laws}
-use Rattle.handler.proofs.store.good.Statement.{statement}
-use Rattle.handler.proofs.store.good.Tie as tie
+use Rattle.handler.proofs.store.good as fn
 
-pub good-spec : {M : Type 1} → statement M
+pub good-spec : {M : Type 1} → fn.Statement.statement M
 good-spec =
-    tie.close
-    (tie.spec
-    (λ c. search laws)
-    (λ c. search laws)
-    (λ c. search laws)
-    (λ c. search laws)
-    (λ c. search laws)
-    (λ c. search laws)
-    (λ c. search laws)
-    (λ c. search laws)
-    (λ c. search laws)
-    (λ c. search laws)
-    (λ c. search laws))
+    fn.Tie.close
+    (fn.Tie.spec
+    (λ c. search laws) (λ c. search laws) (λ c. search laws) (λ c. search laws) (λ c. search laws) (λ c. search laws) (λ c. search laws)
+    (λ c. search laws) (λ c. search laws) (λ c. search laws) (λ c. search laws))

@@ -1,18 +1,10 @@
--- `store::hint_at` meets its contract, by the length of the store. Assumes nothing.
+-- `store::hint_at` meets its contract, by the length of the store.
 use Rattle.handler.proofs.StoreLaws.{hint-at-laws as laws}
-use Rattle.handler.proofs.store.hint_at.Statement.{statement}
-use Rattle.handler.proofs.store.hint_at.Tie as tie
+use Rattle.handler.proofs.store.hint_at as fn
 
-pub hint-at-spec : {M : Type 1} → statement M
+pub hint-at-spec : {M : Type 1} → fn.Statement.statement M
 hint-at-spec =
-    tie.close
-    (tie.spec
-    (λ c. search laws)
-    (λ c. search laws)
-    (λ c. search laws)
-    (λ c. search laws)
-    (λ c. search laws)
-    (λ c. search laws)
-    (λ c. search laws)
-    (λ c κs. search laws)
-    (λ c. search laws))
+    fn.Tie.close
+    (fn.Tie.spec
+    (λ c. search laws) (λ c. search laws) (λ c. search laws) (λ c. search laws) (λ c. search laws) (λ c. search laws) (λ c. search laws)
+    (λ c κs. search laws) (λ c. search laws))

@@ -1,16 +1,10 @@
--- `store::search` meets its contract: six steps. Assumes nothing.
-use Rattle.handler.proofs.StoreLaws.{search-laws as laws}
-use Rattle.handler.proofs.store.search.Statement.{statement}
-use Rattle.handler.proofs.store.search.Tie as tie
+-- `store::search` meets its contract: six steps.
+use borrow.Author.Needs.{needs}
+use Rattle.handler.proofs.store.search as fn
 
-pub search-spec : {M : Type 1} → statement M
+pub search-spec : {M : Type 1} → fn.Statement.statement M
 search-spec =
-    tie.close
-    (tie.spec
-    (λ c κs. search laws)
-    (λ c κs. search laws)
-    (λ c κs. search laws)
-    (λ c κs. search laws)
-    (λ c κs. search laws)
-    (λ c κs. search laws)
-    (λ c. search laws))
+    fn.Tie.close
+    (fn.Tie.spec
+    (λ c κs. search needs) (λ c κs. search needs) (λ c κs. search needs) (λ c κs. search needs) (λ c κs. search needs) (λ c κs. search needs)
+    (λ c. cc))

@@ -1,16 +1,9 @@
--- `store::step` meets its contract, by its tests in their order. Assumes nothing.
+-- `store::step` meets its contract, by its tests in their order.
 use Rattle.handler.proofs.StoreLaws.{step-laws as laws}
-use Rattle.handler.proofs.store.step.Statement.{statement}
-use Rattle.handler.proofs.store.step.Tie as tie
+use Rattle.handler.proofs.store.step as fn
 
-pub step-spec : {M : Type 1} → statement M
+pub step-spec : {M : Type 1} → fn.Statement.statement M
 step-spec =
-    tie.close
-    (tie.spec
-    (λ c. search laws)
-    (λ c. search laws)
-    (λ c. search laws)
-    (λ c κs. search laws)
-    (λ c. search laws)
-    (λ c. search laws)
-    (λ c. search laws))
+    fn.Tie.close
+    (fn.Tie.spec
+    (λ c. search laws) (λ c. search laws) (λ c. search laws) (λ c κs. search laws) (λ c. search laws) (λ c. search laws) (λ c. search laws))

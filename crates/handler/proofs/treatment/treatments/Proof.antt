@@ -2,9 +2,8 @@
 use borrow.Author.Needs.{needs}
 use Rattle.rules.specs.Options.{implemented, strippable}
 use Rattle.handler.proofs.TreatmentLaws.{table-treats}
-use Rattle.handler.proofs.treatment.treatments.Statement.{statement}
-use Rattle.handler.proofs.treatment.treatments.Tie as tie
+use Rattle.handler.proofs.treatment.treatments as fn
 
-pub treatments-spec : {M : Type 1} → statement M
+pub treatments-spec : {M : Type 1} → fn.Statement.statement M
 unfolding implemented strippable
-treatments-spec = tie.close (tie.spec (λ c. search (needs, table-treats)))
+treatments-spec = fn.Tie.close (fn.Tie.spec (λ c. search (needs, table-treats)))

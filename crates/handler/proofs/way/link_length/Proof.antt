@@ -1,11 +1,6 @@
--- `way::link_length` meets its contract, by the VLAN. Assumes nothing.
-use Rattle.handler.proofs.Ways.{link-length-laws as laws}
-use Rattle.handler.proofs.way.link_length.Statement.{statement}
-use Rattle.handler.proofs.way.link_length.Tie as tie
+-- `way::link_length` meets its contract, by the VLAN.
+use Rattle.handler.proofs.Stages.{if-laws as laws}
+use Rattle.handler.proofs.way.link_length as fn
 
-pub link-length-spec : {M : Type 1} → statement M
-link-length-spec =
-    tie.close
-    (tie.spec
-    (λ c. search laws)
-    (λ c. search laws))
+pub link-length-spec : {M : Type 1} → fn.Statement.statement M
+link-length-spec = fn.Tie.close (fn.Tie.spec (λ c. search laws) (λ c. search laws))

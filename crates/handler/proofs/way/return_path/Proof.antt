@@ -1,11 +1,8 @@
--- `way::return_path` meets its contract, by the cases of the ingress. Assumes nothing.
-use Rattle.handler.proofs.Ways.{return-path-laws as laws}
-use Rattle.handler.proofs.way.return_path.Statement.{statement}
-use Rattle.handler.proofs.way.return_path.Tie as tie
+-- `way::return_path` meets its contract, by the cases of the ingress.
+use Rattle.rules.specs.Channel.{returnPath}
+use Rattle.handler.proofs.Stages.{if-laws as laws}
+use Rattle.handler.proofs.way.return_path as fn
 
-pub return-path-spec : {M : Type 1} → statement M
-return-path-spec =
-    tie.close
-    (tie.spec
-    (λ c. search laws)
-    (λ c. search laws))
+pub return-path-spec : {M : Type 1} → fn.Statement.statement M
+unfolding returnPath
+return-path-spec = fn.Tie.close (fn.Tie.spec (λ c. search laws) (λ c. search laws))

@@ -1,20 +1,10 @@
--- `way::way_out` meets its contract, by one law for each way out. Assumes nothing.
+-- `way::way_out` meets its contract, by one law for each way out.
 use Rattle.handler.proofs.WayOutLaws.{way-out-laws as laws}
-use Rattle.handler.proofs.way.way_out.Statement.{statement}
-use Rattle.handler.proofs.way.way_out.Tie as tie
+use Rattle.handler.proofs.way.way_out as fn
 
-pub way-out-spec : {M : Type 1} → statement M
+pub way-out-spec : {M : Type 1} → fn.Statement.statement M
 way-out-spec =
-    tie.close
-    (tie.spec
-    (λ c. search laws)
-    (λ c. search laws)
-    (λ c. search laws)
-    (λ c. search laws)
-    (λ c. search laws)
-    (λ c. search laws)
-    (λ c. search laws)
-    (λ c. search laws)
-    (λ c. search laws)
-    (λ c. search laws)
-    (λ c. search laws))
+    fn.Tie.close
+    (fn.Tie.spec
+    (λ c. search laws) (λ c. search laws) (λ c. search laws) (λ c. search laws) (λ c. search laws) (λ c. search laws) (λ c. search laws)
+    (λ c. search laws) (λ c. search laws) (λ c. search laws) (λ c. search laws))

@@ -1,19 +1,10 @@
--- `way::write_link` meets its contract, by the VLAN: what follows the MACs is written where they end. Assumes nothing.
+-- `way::write_link` meets its contract, by the VLAN: what follows the MACs is written where they end.
 use Rattle.handler.proofs.Ways.{write-link-laws as laws}
-use Rattle.handler.proofs.way.write_link.Statement.{statement}
-use Rattle.handler.proofs.way.write_link.Tie as tie
+use Rattle.handler.proofs.way.write_link as fn
 
-pub write-link-spec : {M : Type 1} → statement M
+pub write-link-spec : {M : Type 1} → fn.Statement.statement M
 write-link-spec =
-    tie.close
-    (tie.spec
-    (λ c κs. search laws)
-    (λ c. search laws)
-    (λ c κs. search laws)
-    (λ c. search laws)
-    (λ c. search laws)
-    (λ c κs. search laws)
-    (λ c. search laws)
-    (λ c κs. search laws)
-    (λ c. search laws)
-    (λ c. search laws))
+    fn.Tie.close
+    (fn.Tie.spec
+    (λ c κs. search laws) (λ c. search laws) (λ c κs. search laws) (λ c. search laws) (λ c. search laws) (λ c κs. search laws) (λ c. search laws)
+    (λ c κs. search laws) (λ c. search laws) (λ c. search laws))
