@@ -12,6 +12,11 @@ ghost use mathlib.Core.Path.{_≡_};
 ghost use Rattle.campus.specs.Steps.{neededBy};
 ghost use Rattle.campus.specs.Done.{CampusDone};
 
+// Octets of the trace buffer: 80 entries for a campus of edition 1, 4,096 where a switch has edition 2.
+const TRACE_LEAST: usize = 640;
+
+const TRACE_MOST: usize = 32768;
+
 // What the caller is answered: 0 or the code that refuses, and the number of trace entries.
 #[repr(C)]
 pub struct Outcome {
@@ -23,7 +28,7 @@ pub struct Outcome {
 fn needed(two: bool) -> usize
     ensures { λ r. ⌜ r ≡ neededBy two ⌝ }
 {
-    if two { 32768 } else { 640 }
+    if two { TRACE_MOST } else { TRACE_LEAST }
 }
 
 // The run, with words lent for the stores of the switches: a field takes up at most 4 words for 11 octets.
@@ -54,7 +59,7 @@ fn run_in(description: &[u8], words: &mut [u64], trace: &mut [u8]) -> Outcome
 pub extern "C" fn campus_run(description: &[u8], trace: &mut [u8]) -> Outcome
     ensures { λ r. ⌜ CampusDone (now (description .entry)) (now (trace .entry)) (now (trace .exit)) (r .code) (r .count) ⌝ }
 {
-    if trace.len() < 640 {
+    if trace.len() < TRACE_LEAST {
         return Outcome { code: 49, count: 0 };
     }
     if description.len() <= 203 {

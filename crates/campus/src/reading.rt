@@ -7,6 +7,9 @@ ghost use lib.ListN.{length};
 ghost use Rattle.campus.specs.Places.{codeAfter, clockedBy, countedBy};
 ghost use Rattle.campus.specs.Stores.{wordsFor, ReadDone};
 
+// Octets of a description.
+const FILE_MOST: usize = 32768;
+
 // 0 with the number of switches, the place of the clock or 0, and the place of the entry field; or the code that refuses.
 pub struct Reading {
     pub code: u32,
@@ -73,7 +76,7 @@ pub fn read(s: &[u8], w: &mut [u64], starts: &mut [usize]) -> Reading
     requires { ⌜ (length (now starts) ≡ 16) × (wordsFor (length (now s)) ≤ length (now w)) ⌝ }
     ensures { λ r. ⌜ ReadDone (now (s .entry)) (now (w .exit)) (now (starts .exit)) r ⌝ }
 {
-    if 32768 < s.len() {
+    if FILE_MOST < s.len() {
         return refused(40);
     }
     let mut n = 0;

@@ -46,10 +46,10 @@ fn spid(octet: u8) -> u8
 fn foreign(ethertype: u16) -> bool
     ensures { λ r. ⌜ r ≡ foreignBy ethertype ⌝ }
 {
-    if ethertype == 0x8946 {
+    if ethertype == rules::ETHERTYPE_CHANNEL {
         return false;
     }
-    ethertype != 0x22F4
+    ethertype != rules::ETHERTYPE_IS_IS
 }
 
 // The codes that a message may keep from being sent.
@@ -99,10 +99,10 @@ pub fn channel_read(inner: &[u8]) -> ChannelRead
         return ChannelRead::Fault { code: 4 };
     }
     let number = protocol(word);
-    if number == 0x001 {
+    if number == rules::PROTOCOL_ERROR {
         return ChannelRead::ErrorHeard;
     }
-    if number != 0xFF8 {
+    if number != rules::PROTOCOL_ECHO {
         return ChannelRead::Fault { code: 5 };
     }
     if err(flags) != 0 {
@@ -122,7 +122,7 @@ pub fn silenced(code: u8, inner: &[u8]) -> bool
     if sl(flags) == 1 {
         return true;
     }
-    if protocol(octets::be16(inner, 18)) == 0x001 {
+    if protocol(octets::be16(inner, 18)) == rules::PROTOCOL_ERROR {
         return true;
     }
     err(flags) != 0

@@ -66,7 +66,7 @@ fn channelled(f: &[u8], h: Header) -> Task
 fn untagged(inner: &[u8]) -> bool
     ensures { λ r. ⌜ r ≡ Rules.untagged (now (inner .entry)) ⌝ }
 {
-    if octets::be16(inner, 12) != 0x8100 {
+    if octets::be16(inner, 12) != rules::ETHERTYPE_TAG {
         return true;
     }
     let vlan = octets::be16(inner, 14) & 0xFFF;
@@ -79,7 +79,7 @@ fn untagged(inner: &[u8]) -> bool
 fn to_all_egress(inner: &[u8]) -> bool
     ensures { λ r. ⌜ r ≡ Rules.toAllEgressRBridges (now (inner .entry)) ⌝ }
 {
-    octets::be48(inner, 0) == 0x0180C2000042
+    octets::be48(inner, 0) == rules::ALL_EGRESS_RBRIDGES
 }
 
 // 22 to 24 and 51 to 56.
@@ -96,12 +96,12 @@ fn decapsulated(f: &[u8], h: Header) -> Task
         return Task::Answered(answers::dropped(23));
     }
     if !to_all_egress(inner) {
-        if h.egress == 0xFFC0 {
+        if h.egress == rules::ANY_RBRIDGE {
             return Task::Answered(answers::dropped(24));
         }
         return Task::Answered(answers::delivered(51, start, inner.len()));
     }
-    if octets::be16(inner, 16) == 0x22F4 {
+    if octets::be16(inner, 16) == rules::ETHERTYPE_IS_IS {
         return Task::Answered(answers::delivered(52, start, inner.len()));
     }
     channelled(f, h)
@@ -146,7 +146,7 @@ fn channel_message(inner: &[u8]) -> bool
     if !to_all_egress(inner) {
         return false;
     }
-    octets::be16(inner, 16) == 0x8946
+    octets::be16(inner, 16) == rules::ETHERTYPE_CHANNEL
 }
 
 fn alert_to(critical: bool, answered: bool, read: ChannelRead) -> Alert
@@ -252,13 +252,13 @@ pub fn receive(own: Own, clock: &[u8], f: &[u8], room: usize, beside: usize) -> 
     if clock.len() != 6 {
         return Received::Answered(answers::dropped(1));
     }
-    if room < 2048 {
+    if room < rules::OUTPUT_LEAST {
         return Received::Answered(answers::dropped(2));
     }
-    if beside < 576 {
+    if beside < rules::BESIDE_LEAST {
         return Received::Answered(answers::dropped(37));
     }
-    if 2048 < f.len() {
+    if rules::FRAME_MOST < f.len() {
         return Received::Answered(answers::dropped(3));
     }
     read(own, f)
@@ -341,7 +341,7 @@ fn send_whole(t: Told, r: NextHop, f: &[u8], h: Header, out: &mut [u8]) -> Answe
     ensures { λ a. ⌜ Done (Rules.onward (waysBy t) r (now (f .entry)) h [] 0) a (now (out .entry)) (now (out .exit)) ⌝ }
 {
     let size = f.len() - h.place;
-    if 2048 < way::link_length(r.vlan) + size {
+    if rules::FRAME_MOST < way::link_length(r.vlan) + size {
         return answers::dropped(29);
     }
     let at = way::write_link(t, r, out);
@@ -356,7 +356,7 @@ fn send_with(t: Told, r: NextHop, area: &[u8], f: &[u8], h: Header, out: &mut [u
 {
     let inner = header::inner_start(h);
     let size = 6 + area.len() + (f.len() - inner);
-    if 2048 < way::link_length(r.vlan) + size {
+    if rules::FRAME_MOST < way::link_length(r.vlan) + size {
         return answers::dropped(29);
     }
     let at = way::write_link(t, r, out);

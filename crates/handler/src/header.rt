@@ -78,13 +78,13 @@ pub fn header_refusal(mac: u64, f: &[u8], h: Header) -> u8
     if h.ingress == 0 {
         return 15;
     }
-    if 0xFFC0 <= h.ingress {
+    if rules::ANY_RBRIDGE <= h.ingress {
         return 15;
     }
     if h.egress == 0 {
         return 16;
     }
-    if 0xFFC0 < h.egress {
+    if rules::ANY_RBRIDGE < h.egress {
         return 16;
     }
     if hop_count(h.word) == 0 {
@@ -102,5 +102,5 @@ pub fn we_are_egress(nickname: u16, h: Header) -> bool
     if h.egress == nickname {
         return true;
     }
-    h.egress == 0xFFC0
+    h.egress == rules::ANY_RBRIDGE
 }

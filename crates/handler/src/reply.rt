@@ -68,7 +68,7 @@ fn write_error(own: Own, f: &[u8], h: Header, code: u8, out: &mut [u8], at: usiz
     ensures { λ r. ⌜ (r ≡ at + (28 + length (errorBody (now (f .entry)) h)))
         × (now (out .exit) ≡ put (now (out .entry)) at (replyOctets own (h .ingress) 0x001 code ++ errorBody (now (f .entry)) h)) ⌝ }
 {
-    let head = reply_octets(own, h.ingress, 0x001, code);
+    let head = reply_octets(own, h.ingress, rules::PROTOCOL_ERROR, code);
     octets::copy(out, at, &head);
     let body = cited(f, h);
     octets::copy(out, at + 28, body);
@@ -116,7 +116,7 @@ fn write_echo(own: Own, h: Header, clock: &[u8], body: &[u8], out: &mut [u8], at
     ensures { λ r. ⌜ (r ≡ at + (28 + length (now (body .entry))))
         × (now (out .exit) ≡ put (now (out .entry)) at (replyOctets own (h .ingress) 0xFF8 0 ++ echoBody (now (body .entry)) (now (clock .entry)))) ⌝ }
 {
-    let head = reply_octets(own, h.ingress, 0xFF8, 0);
+    let head = reply_octets(own, h.ingress, rules::PROTOCOL_ECHO, 0);
     octets::copy(out, at, &head);
     write_echo_body(body, clock, out, at + 28);
     at + 28 + body.len()

@@ -8,7 +8,11 @@ ghost use Rattle.rules.specs.Header as Rules;
 fn link_length(f: &[u8]) -> usize
     ensures { λ r. ⌜ r ≡ linkLength (now (f .entry)) ⌝ }
 {
-    if crate::be16(f, 12) == 0x8100 { 18 } else { 14 }
+    if crate::be16(f, 12) == rules::ETHERTYPE_TAG {
+        18
+    } else {
+        14
+    }
 }
 
 // 10, 11 and 10 again, or the header.
@@ -22,7 +26,7 @@ pub fn read_frame(f: &[u8]) -> FrameRead
     if f.len() < n {
         return FrameRead::Unreadable(10);
     }
-    if crate::be16(f, n - 2) != 0x22F3 {
+    if crate::be16(f, n - 2) != rules::ETHERTYPE_TRILL {
         return FrameRead::Unreadable(11);
     }
     if f.len() < n + 6 {

@@ -14,7 +14,7 @@ fn nickname_valid(n: u16) -> bool
     if n == 0 {
         return false;
     }
-    n <= 0xFFBF
+    n <= rules::NICKNAME_MOST
 }
 
 // Whether the MAC at a place is individual and not all zero; its first two octets decide for nearly all.
@@ -74,7 +74,7 @@ pub fn hop_good(v: &[u8]) -> bool
     if !mac_good(v, 4) {
         return false;
     }
-    if 0xFFBF < crate::be16(v, 2) {
+    if rules::NICKNAME_MOST < crate::be16(v, 2) {
         return false;
     }
     crate::be16(v, 14) <= 4094

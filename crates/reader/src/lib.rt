@@ -21,10 +21,10 @@ fn start_refusal(bad: bool, clock: usize, room: usize, beside_room: usize) -> u3
     if clock != 6 {
         return 1;
     }
-    if room < 2048 {
+    if room < rules::OUTPUT_LEAST {
         return 2;
     }
-    if beside_room < 576 {
+    if beside_room < rules::BESIDE_LEAST {
         return 37;
     }
     0
@@ -82,16 +82,16 @@ pub extern "C" fn trill_reader_burst(reader: &mut [u64], gathered: &mut [u8], oc
     if early != 0 {
         return early as u32;
     }
-    if gathered.len() < 2048 {
+    if gathered.len() < rules::FRAME_MOST {
         return 2;
     }
     let count = reader[1];
-    if 2048 < count {
+    if rules::FRAME_MOST < count {
         reader[2] = 3;
         return 3;
     }
     let place = count as usize;
-    if 2048 - place < octets.len() {
+    if rules::FRAME_MOST - place < octets.len() {
         reader[2] = 3;
         return 3;
     }
@@ -156,7 +156,7 @@ pub extern "C" fn trill_reader_mark(
         reader[3] = 1;
         return dropped(early);
     }
-    if gathered.len() < 2048 {
+    if gathered.len() < rules::FRAME_MOST {
         return dropped(2);
     }
     let a = handle_gathered(reader, gathered, out, beside);

@@ -1,4 +1,31 @@
-// The shapes that the definitions in specs/ and the code above share. There is no code here.
+// The shapes that the definitions in specs/ and the code above share, and the numbers of the documents by name. There is no code here.
+
+// RFC 6325 and RFC 7178: Ethertypes, an address and nicknames.
+pub const ETHERTYPE_TAG: u16 = 0x8100;
+
+pub const ETHERTYPE_TRILL: u16 = 0x22F3;
+
+pub const ETHERTYPE_IS_IS: u16 = 0x22F4;
+
+pub const ETHERTYPE_CHANNEL: u16 = 0x8946;
+
+pub const ALL_EGRESS_RBRIDGES: u64 = 0x0180C2000042;
+
+pub const ANY_RBRIDGE: u16 = 0xFFC0;
+
+pub const NICKNAME_MOST: u16 = 0xFFBF;
+
+// Channel protocols: error (RFC 7178, 6) and echo (document 01).
+pub const PROTOCOL_ERROR: u16 = 0x001;
+
+pub const PROTOCOL_ECHO: u16 = 0xFF8;
+
+// Octets of a frame at most, and of the two output buffers at least (documents 01 and 02).
+pub const FRAME_MOST: usize = 2048;
+
+pub const OUTPUT_LEAST: usize = 2048;
+
+pub const BESIDE_LEAST: usize = 576;
 
 // A next-hop record (document 01, "Settings"; document 02, T-01). A neighbour of 0 is a withdrawal, a VLAN of 0 none.
 pub struct NextHop {
