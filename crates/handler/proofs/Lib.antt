@@ -2,6 +2,7 @@ pub mod ExtensionLaws
 pub mod TreatmentLaws
 pub mod Walks
 pub mod Stages
+pub mod Refusals
 pub mod Strips
 pub mod Ways
 pub mod Replies

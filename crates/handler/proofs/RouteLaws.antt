@@ -23,6 +23,9 @@ use Rattle.rules.specs.declared.Alert.the-variants.{NoAlert, AlertFault, AlertE
 use Rattle.rules.proofs.HandlingLaws.{echo-ranged, channel-echo, inner-short, inner-untagged, inner-any, inner-delivered, inner-up, inner-channel}
 use Rattle.rules.proofs.HandlingLaws.{routed-faulty, routed-stopped, routed-egress, routed-transit, handling-unread, handling-refused, handling-routed}
 use Rattle.rules.proofs.HandlingLaws.{clock-bad, room-short, beside-short, frame-long, frame-handled}
+use Rattle.handler.specs.declared.answers.{Refusal.Refusal, Refusal.the-variants.Refused, Refusal.the-variants.Passed}
+use Rattle.handler.specs.Shapes.{refusalBy}
+use Rattle.handler.proofs.Refusals.{refused-is, passed-is}
 use Rattle.handler.specs.declared.{answers.Answer.Answer, way.Own.Own, options.Cursor.Cursor, options.AreaRead.AreaRead}
 use Rattle.handler.specs.declared.{options.AreaRead.the-variants.Read, options.AreaRead.the-variants.Faulty, handling.Task.Task}
 use Rattle.handler.specs.declared.{handling.Received.Received}
@@ -294,20 +297,19 @@ module _ (f : List ℕ) (h : Header) (is : readFrame f ≡ Trill h) (own : Own) 
   pub frame-near : h .place ≤ 18
   frame-near = omega (arith, frame-read f h is .its-place, link-length f)
 
-  module _ (refusal : ℕ) (n : refusal ≡ headerRefusal (own .mac) f h) where
-    refuses : (S : Ways) → own ≡ ownOf S → refusal ≡ headerRefusal (S .mac) f h
-    refuses S o = n ∙ (rw o)
+  module _ (refusal : Refusal) (is-refusal : refusal ≡ refusalBy (headerRefusal (own .mac) f h)) where
+    pub frame-refused : (n : ℕ) → refusal ≡ Refused n → (r : Answer) → r ≡ answerOf (A.dropped n) → Receives own f (R.Answered r)
+    frame-refused n e r d =
+        let x = refused-is (headerRefusal (own .mac) f h) (sym is-refusal ∙ e) in
+        record { same = λ S clock o. handling-refused S clock f h is (rw o at (x .1)) ∙ rw (d, rw o at (x .0)); got = rw d (refl, refl) }
 
-    pub frame-refused : (r : Answer) → r ≡ answerOf (A.dropped refusal) → (refusal ≡ 0 → ⊥) → Receives own f (R.Answered r)
-    frame-refused r d z =
-        record { same = λ S clock o. handling-refused S clock f h is (λ y. z (refuses S o ∙ y)) ∙ rw (d, ← refuses S o); got = rw d (refl, refl) }
-
-    pub frame-passed : refusal ≡ 0 → length f ≤ 2048 → Receives own f (R.Trill h)
-    frame-passed z short =
+    pub frame-passed : refusal ≡ Passed → length f ≤ 2048 → Receives own f (R.Trill h)
+    frame-passed e short =
+        let z = passed-is (headerRefusal (own .mac) f h) (sym is-refusal ∙ e) in
         let S : Ways = record { nickname = own .nickname; mac = own .mac; strip = false; rfc7179 = false; hop = λ d. Absent } in
-        let p = header-passed S f h (sym n ∙ z) in
+        let p = header-passed S f h z in
         record {
-          same = λ S clock o. handling-routed S clock f h is (sym (refuses S o) ∙ z);
+          same = λ S clock o. handling-routed S clock f h is (rw o at z);
           got = record { read = is; hops-left = p .hops-left; area-whole = p .area-whole; short = short };
         }
 

@@ -19,6 +19,7 @@ use Rattle.rules.specs.declared.{NextHop.NextHop, Header.Header, Ruling.Ruling,
 use Rattle.rules.specs.declared.Alert.the-variants.{NoAlert, AlertFault, AlertErr, AlertRequest}
 use Rattle.rules.proofs.{TestLaws.by-test, OctetLaws.put-none, FrameLaws.link-length, FrameLaws.link-written}
 use Rattle.rules.proofs.HandlingLaws.{faulted-silent, faulted-none, faulted-over, echoed-mode, echoed-none, echoed-over}
+use Rattle.handler.specs.declared.answers.{Refusal.Refusal, Refusal.the-variants.Refused, Refusal.the-variants.Passed}
 use Rattle.handler.specs.declared.{answers.Answer.Answer, way.Own.Own, way.Told.Told, handling.Task.Task}
 use Rattle.handler.specs.declared.handling.Task.the-variants.{Answered, Forward, Error, Echo}
 use Rattle.handler.specs.Tasks as Tasks
@@ -106,14 +107,14 @@ module _ (T : Ways) (f : List ℕ) (h : Header) (alert : Alert) (out : List ℕ)
   unfolding transitQuiet
   transit-lost a is e = done-dropped 21 (rw (transitQuiet, sym asks ∙ e)) is
 
-  module _ (r : NextHop) (found : R ≡ Found r) (n : ℕ) (refuses : n ≡ alertRefusal alert) (a : Answer) where
-    pub transit-refused : (n ≡ 0 → ⊥) → a ≡ answerOf (A.dropped n) → Done (transitQuiet T f h alert) a out out
+  module _ (r : NextHop) (found : R ≡ Found r) (x : Refusal) (refuses : x ≡ alertRefusal alert) (a : Answer) where
+    pub transit-refused : (n : ℕ) → x ≡ Refused n → a ≡ answerOf (A.dropped n) → Done (transitQuiet T f h alert) a out out
     unfolding transitQuiet
-    transit-refused z is = done-dropped n (rw (transitQuiet, sym asks ∙ found, ← refuses, ne-eqb n 0 z)) is
+    transit-refused n e is = done-dropped n (rw (transitQuiet, sym asks ∙ found, ← refuses, e)) is
 
-    pub transit-sent : n ≡ 0 → (out1 : List ℕ) → Done (onward T r f h [] 0) a out out1 → Done (transitQuiet T f h alert) a out out1
+    pub transit-sent : x ≡ Passed → (out1 : List ℕ) → Done (onward T r f h [] 0) a out out1 → Done (transitQuiet T f h alert) a out out1
     unfolding transitQuiet
-    transit-sent z out1 d = rw (transitQuiet, sym asks ∙ found, ← refuses, z) d
+    transit-sent e out1 d = rw (transitQuiet, sym asks ∙ found, ← refuses, e) d
 
 pub ruleset transit-laws = (needs, transit-lost, transit-refused, transit-sent)
 

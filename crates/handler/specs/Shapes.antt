@@ -20,6 +20,8 @@ use Rattle.rules.specs.declared.Ruling.the-variants.{Found, Absent}
 use Rattle.rules.specs.declared.Header.{Header}
 use Rattle.rules.specs.declared.FrameRead.the-variants.{Trill}
 use Rattle.handler.specs.declared.answers.Answer.{Answer}
+use Rattle.handler.specs.declared.answers.Refusal.{Refusal}
+use Rattle.handler.specs.declared.answers.Refusal.the-variants.{Refused, Passed}
 use Rattle.handler.specs.declared.judged.Flags.{Flags}
 use Rattle.handler.specs.declared.way.Own.{Own}
 use Rattle.handler.specs.declared.way.Told.{Told}
@@ -54,6 +56,10 @@ wroteBy number written via =
 
 abbrev pub deliveredBy : ℕ → ℕ → ℕ → Answer
 deliveredBy number start size = answerOf (A.delivered number start size)
+
+-- a refusal by its number, which is 0 where there is none
+unfoldable pub refusalBy : ℕ → Refusal
+refusalBy n = if eqb n 0 then Passed else Refused n
 
 -- a reply of so many octets, or the number that is answered without one
 abbrev pub repliedBy : ℕ → ℕ → ℕ → ℕ → Answer

@@ -20,6 +20,8 @@ use Rattle.rules.specs.declared.Ruling.the-variants.{Found, Absent}
 use Rattle.rules.specs.declared.Alert.{Alert}
 use Rattle.rules.specs.declared.Alert.the-variants.{NoAlert, AlertFault, AlertErr, AlertRequest}
 use Rattle.handler.specs.declared.answers.Answer.{Answer}
+use Rattle.handler.specs.declared.answers.Refusal.{Refusal}
+use Rattle.handler.specs.declared.answers.Refusal.the-variants.{Refused, Passed}
 use Rattle.handler.specs.declared.way.Own.{Own}
 use Rattle.handler.specs.declared.options.AreaRead.{AreaRead}
 use Rattle.handler.specs.declared.handling.Task.{Task}
@@ -73,14 +75,18 @@ doneAt S clock f h (Error code) = faulted S f h code
 doneAt S clock f h Echo = echoed S clock f h
 
 -- transit without what is replied to an alert: a fault is dropped while no reply tells of it
-abbrev pub alertRefusal : Alert → ℕ
-alertRefusal NoAlert = 0
-alertRefusal (AlertFault code) = 25
-alertRefusal AlertErr = 26
-alertRefusal AlertRequest = 0
+abbrev pub alertRefusal : Alert → Refusal
+alertRefusal NoAlert = Passed
+alertRefusal (AlertFault code) = Refused 25
+alertRefusal AlertErr = Refused 26
+alertRefusal AlertRequest = Passed
+
+abbrev pub unlessRefused : Refusal → A.Handled → A.Handled
+unlessRefused (Refused n) done = A.dropped n
+unlessRefused Passed done = done
 
 abbrev pub alertQuiet : Ways → NextHop → List ℕ → Header → Alert → A.Handled
-alertQuiet T r f h alert = if eqb (alertRefusal alert) 0 then onward T r f h [] 0 else A.dropped (alertRefusal alert)
+alertQuiet T r f h alert = unlessRefused (alertRefusal alert) (onward T r f h [] 0)
 
 unfoldable pub transitQuiet : Ways → List ℕ → Header → Alert → A.Handled
 transitQuiet T f h alert = elim (T .hop (h .egress)) [ Absent ↦ A.dropped 21 | Found r ↦ alertQuiet T r f h alert ]

@@ -16,6 +16,12 @@ pub struct Answer {
     pub beside_neighbour: u16,
 }
 
+// The number that drops a frame, or none.
+pub enum Refusal {
+    Refused(u8),
+    Passed,
+}
+
 pub fn dropped(number: u8) -> Answer
     ensures { λ r. ⌜ r ≡ droppedBy number 0 ⌝ }
 {

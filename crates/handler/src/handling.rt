@@ -1,6 +1,7 @@
 // One handling, the answers in the order of document 01: first what a frame comes to before a next hop is asked for, then what is done with it.
 use crate::answers;
 use crate::answers::Answer;
+use crate::answers::Refusal;
 use crate::channel;
 use crate::extension;
 use crate::forward;
@@ -226,11 +227,10 @@ fn passed(own: Own, f: &[u8], h: Header) -> Received
     requires { ⌜ (readFrame (now f) ≡ Trill h) × (length (now f) ≤ 2048) ⌝ }
     ensures { λ r. ⌜ Receives own (now (f .entry)) r ⌝ }
 {
-    let refusal = header::header_refusal(own.mac, f, h);
-    if refusal != 0 {
-        return Received::Answered(answers::dropped(refusal));
-    }
-    Received::Trill(h)
+    let Refusal::Refused(n) = header::header_refusal(own.mac, f, h) else {
+        return Received::Trill(h);
+    };
+    Received::Answered(answers::dropped(n))
 }
 
 // 10 and 11, then the rest.
@@ -296,15 +296,15 @@ pub fn asks_back(alert: Alert) -> bool
     }
 }
 
-// 25 and 26, which an alert gives in place of 50 while no reply is made, else 0.
-fn alert_refusal(alert: Alert) -> u8
+// 25 and 26, which an alert gives in place of 50 while no reply is made.
+fn alert_refusal(alert: Alert) -> Refusal
     ensures { λ r. ⌜ r ≡ alertRefusal alert ⌝ }
 {
     match alert {
-        Alert::NoAlert => 0,
-        Alert::AlertFault { code: _ } => 25,
-        Alert::AlertErr => 26,
-        Alert::AlertRequest => 0,
+        Alert::NoAlert => Refusal::Passed,
+        Alert::AlertFault { code: _ } => Refusal::Refused(25),
+        Alert::AlertErr => Refusal::Refused(26),
+        Alert::AlertRequest => Refusal::Passed,
     }
 }
 
@@ -317,11 +317,10 @@ pub fn transit(t: Told, f: &[u8], h: Header, alert: Alert, out: &mut [u8]) -> An
     let Ruling::Found(r) = hop else {
         return answers::dropped(21);
     };
-    let refusal = alert_refusal(alert);
-    if refusal != 0 {
-        return answers::dropped(refusal);
+    match alert_refusal(alert) {
+        Refusal::Refused(n) => answers::dropped(n),
+        Refusal::Passed => send(t, r, f, h, out),
     }
-    send(t, r, f, h, out)
 }
 
 // 29 and 50.

@@ -1,10 +1,12 @@
 // The TRILL header (RFC 6325, 3), and the answers that it decides.
+use crate::answers::Refusal;
 use rules::Header;
 ghost use mathlib.Core.Path.{_≡_};
 ghost use Prim.Native.Nat.{_+_, _<_, _≤_};
 ghost use lib.Dec.{eqb};
 ghost use Rattle.rules.specs.Octets.{be48};
 ghost use Rattle.rules.specs.Header as Rules;
+ghost use Rattle.handler.specs.Shapes.{refusalBy};
 
 pub fn version(w: u16) -> u16
     ensures { λ r. ⌜ r ≡ Rules.version w ⌝ }
@@ -61,39 +63,39 @@ fn to_mac(mac: u64, f: &[u8]) -> bool
     octets::be32(f, 2) as u64 == mac & 0xFFFFFFFF
 }
 
-// 12 to 18, or 0 where none is given.
-pub fn header_refusal(mac: u64, f: &[u8], h: Header) -> u8
+// 12 to 18, if one of them is given.
+pub fn header_refusal(mac: u64, f: &[u8], h: Header) -> Refusal
     requires { ⌜ h .place ≤ 18 ⌝ }
-    ensures { λ r. ⌜ r ≡ Rules.headerRefusal mac (now (f .entry)) h ⌝ }
+    ensures { λ r. ⌜ r ≡ refusalBy (Rules.headerRefusal mac (now (f .entry)) h) ⌝ }
 {
     if !to_mac(mac, f) {
-        return 12;
+        return Refusal::Refused(12);
     }
     if version(h.word) != 0 {
-        return 13;
+        return Refusal::Refused(13);
     }
     if multi(h.word) == 1 {
-        return 14;
+        return Refusal::Refused(14);
     }
     if h.ingress == 0 {
-        return 15;
+        return Refusal::Refused(15);
     }
     if rules::ANY_RBRIDGE <= h.ingress {
-        return 15;
+        return Refusal::Refused(15);
     }
     if h.egress == 0 {
-        return 16;
+        return Refusal::Refused(16);
     }
     if rules::ANY_RBRIDGE < h.egress {
-        return 16;
+        return Refusal::Refused(16);
     }
     if hop_count(h.word) == 0 {
-        return 17;
+        return Refusal::Refused(17);
     }
     if f.len() < inner_start(h) {
-        return 18;
+        return Refusal::Refused(18);
     }
-    0
+    Refusal::Passed
 }
 
 pub fn we_are_egress(nickname: u16, h: Header) -> bool

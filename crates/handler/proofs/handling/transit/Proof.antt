@@ -1,4 +1,4 @@
--- `handling::transit` meets its contract, by the next hop and the alert.
+-- `handling::transit` meets its contract, by one law for each way out. Assumes nothing.
 use Rattle.handler.proofs.TaskLaws.{transit-laws as laws}
 use Rattle.handler.proofs.handling.transit as fn
 
@@ -6,5 +6,5 @@ pub transit-spec : {M : Type 1} → fn.Statement.statement M
 transit-spec =
     fn.Tie.close
     (fn.Tie.spec
-    (λ c. search laws) (λ c. search laws) (λ c κs. search laws) (λ c. search laws) (λ c κs. search laws) (λ c κs. search laws) (λ c. search laws)
-    (λ c κs. search laws) (λ c. search laws) (λ c. search laws))
+    (λ c. search laws) (λ c. search laws) (λ c κs. search laws) (λ c. search laws) (λ c κs. search laws) (λ c. search laws) (λ c κs. search laws)
+    (λ c. search laws) (λ c κs. search laws) (λ c. search laws) (λ c. search laws) (λ c. search laws))

@@ -1,5 +1,5 @@
 -- `header::header_refusal` meets its contract, by one law of `headerRefusal` for each way out.
-use Rattle.rules.proofs.HeaderLaws.{header-refusal-laws as laws}
+use Rattle.handler.proofs.Refusals.{refusal-laws as laws}
 use Rattle.handler.proofs.header.header_refusal as fn
 
 pub header-refusal-spec : {M : Type 1} → fn.Statement.statement M

@@ -1,0 +1,29 @@
+-- A refusal and its number. By whether it is 0. Assumes nothing.
+use Prim.Native.Nat.{ℕ}
+use mathlib.Core.Path.{_≡_}
+use mathlib.Core.Bool.{true, false}
+use borrow.Author.Tests.{eqb-true, eqb-false}
+use native.Mathlib.Omega.{arith}
+use lib.Dec.{eqb}
+use Rattle.rules.proofs.{TestLaws.by-test, HeaderLaws.header-refusal-laws}
+use Rattle.handler.specs.declared.answers.Refusal.the-variants.{Refused, Passed}
+use Rattle.handler.specs.Shapes.{refusalBy}
+
+module _ (m : ℕ) where
+  pub refused-so : (n : ℕ) → n ≡ m → eqb n 0 ≡ false → Refused n ≡ refusalBy m
+  unfolding refusalBy
+  refused-so n e z = rw (← e, z)
+
+  pub passed-so : 0 ≡ m → Passed ≡ refusalBy m
+  unfolding refusalBy
+  passed-so e = rw (← e)
+
+  pub refused-is : {n : ℕ} → refusalBy m ≡ Refused n → (m ≡ n) × (m ≡ 0 → ⊥)
+  unfolding refusalBy
+  refused-is e = by-test (eqb m 0) (λ t. let z : _≡_ {A = ℕ} 0 1 = cc (rw t at e) in absurd (omega (arith, z))) (λ t. (cc (rw t at e), eqb-false m 0 t))
+
+  pub passed-is : refusalBy m ≡ Passed → m ≡ 0
+  unfolding refusalBy
+  passed-is e = by-test (eqb m 0) (eqb-true m 0) (λ t. cc (rw t at e))
+
+pub ruleset refusal-laws = (header-refusal-laws, refused-so, passed-so)
