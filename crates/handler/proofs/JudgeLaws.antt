@@ -1,23 +1,161 @@
--- What the loop over the settings fields keeps, from the first field to the verdict: the records read so far and the keys met agree, and the
--- rest of the fields decides as the whole does. By one law of fields and of settings for each step. Assumes nothing.
-use Rattle.rules.proofs.FieldLaws.{IsField, field-read, fields-at-end, fields-at-cut, fields-at-on}
+-- The keys met, the filter in front of them, and what the loop over the settings fields keeps, from the first field to the verdict: the records
+-- read so far and the keys met agree, and the rest of the fields decides as the whole does. By induction on the keys, by cases on tests, and by one
+-- law of fields and of settings for each step. Assumes nothing.
+use Rattle.handler.proofs.Stages.{by-equal}
 use mathlib.Core.{Path._≡_, Path.refl, Path.sym, Path._∙_, List.List, List.[], List._∷_, List._++_, Option.Option}
-use mathlib.Core.Bool.{Bool, true, false, _&&_, _||_, or-assoc}
-use Prim.Native.Nat.{ℕ, _+_, _-_, _<_, _≤_}
-use native.Mathlib.Omega.{arith}
-use borrow.Author.Tests.{eqb-true, eqb-false, eq-eqb, ne-eqb, le-leb, lt-leb}
-use lib.{Dec.eqb, Seq.length-take-le}
-use lib.ListN.{length, take, replicate, length-replicate, length-append}
-use Rattle.rules.specs.{Octets.part, Campus.known}
-use Rattle.rules.specs.Fields.{field, cut, fieldAt, fieldsAt, lengthGood}
-use Rattle.rules.specs.Settings.{Settings, hopOf, serialMet, withField, opens, opened, continues, settingsFrom, settingsOf}
-use Rattle.rules.specs.declared.{NextHop.NextHop, FieldRead.FieldRead, FieldRead.the-variants.Taken, FieldRead.the-variants.Cut}
-use Rattle.rules.proofs.{TestLaws.by-test, TestLaws.or-no, SettingsLaws.from-on, SettingsLaws.from-bad, Taken.taken, FirstLaws.continues-cut}
-use Rattle.rules.proofs.{FirstLaws.first, FirstLaws.settings-open}
+use mathlib.Core.Bool.{Bool, true, false, not, _&&_, _||_, or-assoc, true≢false, false≢true}
+use Prim.Native.Nat.{ℕ, zero, suc, _+_, _*_, _%_, _<_, _≤_, _-_}
+use native.Mathlib.{Omega.arith, Numerals.add-one}
+use borrow.Author.Needs.{needs}
+use borrow.Author.Tests.{eq-eqb, ne-eqb, lt-ltb, le-leb, not-true, not-false, lt-leb}
+use lib.{Bits.bitOr, Dec.eqb}
+use lib.ListN.{length, getD, take, set, length-set, replicate, length-append}
+use lib.Seq.{slice, slice-cons, slice-empty, getD-set-same, getD-set-other, take-suc-set, length-take-le}
+use Rattle.rules.specs.{Octets.be16, Octets.be32, Octets.part, Campus.known}
+use Rattle.rules.specs.Fields.{hopSize, field, cut, fieldAt, fieldsAt, lengthGood}
+use Rattle.rules.specs.Settings.{hopGood, hopOf, Settings, serialMet, withField, opens, opened, continues, settingsFrom, settingsOf}
+use Rattle.rules.proofs.TestLaws.{and-no, or-no, or-yes, by-test}
 use Rattle.octets.specs.Flags.{flagBy}
-use Rattle.handler.specs.Keys.{keyOf, keyMet, Kept, hopTaken, fieldTaken, withKey, keysWith, Taking, Verdict}
-use Rattle.octets.proofs.FlagLaws.{flag-continues}
-use Rattle.handler.proofs.KeyLaws.{met-snoc, key-same, keys-hop, keys-other, refused, unchanged, taking-hop, field-flag}
+use Rattle.octets.proofs.{Bits.join48-or, FlagLaws.flag-continues}
+use Rattle.handler.specs.Keys.{keyOf, mixOf, slotBy, markBy, markedBy, coversBy, keyMet, Marked, Kept, hopTaken, fieldTaken, withKey, keysWith, Taking}
+use Rattle.handler.specs.Keys.{Verdict}
+use Rattle.rules.proofs.FieldLaws.{IsField, field-read, fields-at-end, fields-at-cut, fields-at-on}
+use Rattle.rules.specs.declared.{NextHop.NextHop, FieldRead.FieldRead, FieldRead.the-variants.Taken, FieldRead.the-variants.Cut}
+use Rattle.rules.proofs.{SettingsLaws.from-on, SettingsLaws.from-bad, Taken.taken, FirstLaws.continues-cut, FirstLaws.first, FirstLaws.settings-open}
+
+-- the scan: what it has found, or finds from place i on, is whether the key is met
+module _ (key : ℕ) (keys : List ℕ) (n i : ℕ) (found : Bool) (was : (found || keyMet key (slice i n keys)) ≡ keyMet key (take n keys)) where
+  pub met-on : (found′ : Bool) → i < n → n ≤ length keys → found′ ≡ (found || eqb (getD keys i 0) key)
+      → (found′ || keyMet key (slice (i + 1) n keys)) ≡ keyMet key (take n keys)
+  unfolding keyMet
+  met-on found′ h k e = rw (e, add-one, or-assoc) (rw (slice-cons i n keys 0 h k) at was)
+
+  pub met-done : i ≤ n → n ≤ i → found ≡ keyMet key (take n keys)
+  unfolding keyMet
+  met-done h k = let e : i ≡ n = omega arith in sym (or-no found) ∙ (rw (e, slice-empty) at was)
+
+pub ruleset met-laws = (needs, met-on, met-done)
+
+-- a key that is none of the first n
+unmet : (key : ℕ) (keys : List ℕ) (n : ℕ) → ((i : ℕ) → i < n → getD keys i 0 ≡ key → ⊥) → keyMet key (take n keys) ≡ false
+unfolding keyMet
+unmet key keys zero f = refl
+unmet key [] (suc n) f = refl
+unmet key (k ∷ keys) (suc n) f = rw (ne-eqb k key (f 0 (omega arith))) (unmet key keys n (λ i h. f (suc i) (omega arith)))
+
+pub uncovered : (old mark : ℕ) → (old ≡ mark → ⊥) → (old ≡ 255 → ⊥) → coversBy old mark ≡ false
+unfolding coversBy
+uncovered old mark h k = rw (ne-eqb old mark h, ne-eqb old 255 k)
+
+-- a record's key, as the code joins it
+pub key-made : (v : List ℕ) (a b : ℕ) → a ≡ be16 v 0 → b ≡ be32 v 10 → bitOr (a * 4294967296 % 18446744073709551616) b ≡ keyOf (hopOf v)
+key-made v a b ea eb = rw (← ea, ← eb) (join48-or a b (omega arith) (omega arith))
+
+pub ruleset key-of-laws = (needs, key-made)
+
+-- one more key
+pub met-snoc : (key k : ℕ) (keys : List ℕ) → keyMet key (keys ++ (k ∷ [])) ≡ (keyMet key keys || eqb k key)
+unfolding keyMet
+met-snoc key k [] = or-no (eqb k key)
+met-snoc key k (q ∷ keys) = rw (met-snoc key k keys, or-assoc)
+
+-- keys are equal exactly where destinations and serials are
+pub key-same : (a b c d : ℕ) → b < 4294967296 → d < 4294967296 → eqb (a * 4294967296 + b) (c * 4294967296 + d) ≡ (eqb a c && eqb b d)
+key-same a b c d hb hd =
+    let left = a * 4294967296 + b in
+    let right = c * 4294967296 + d in
+    by-equal a c
+    (λ x. by-equal b d
+    (λ y. rw (eq-eqb a c x, eq-eqb b d y) (eq-eqb left right (omega arith)))
+    (λ y. rw (ne-eqb b d y, and-no) (ne-eqb left right (λ h. y (omega arith)))))
+    (λ x. rw (ne-eqb a c x) (ne-eqb left right (λ h. x (omega arith))))
+
+-- once one more key is there, a place has that key and those it had
+cover-new : (old mark : ℕ) → coversBy (markedBy old mark) mark ≡ true
+unfolding coversBy markedBy
+cover-new old mark = by-equal old 0 (λ e. rw (e, eq-eqb mark mark refl)) (λ o. rw (ne-eqb old 0 o, or-yes))
+
+cover-kept : (old mark mixed : ℕ) → coversBy old (markBy mixed) ≡ true → coversBy (markedBy old mark) (markBy mixed) ≡ true
+unfolding coversBy markedBy markBy
+cover-kept old mark mixed c =
+    by-equal old 0 (λ e. absurd (false≢true (rw (e, ne-eqb 0 (markBy mixed) (omega arith)) at c))) (λ o. rw (ne-eqb old 0 o, or-yes))
+
+still-covered : (seen : List ℕ) (slot mark j mixed : ℕ) → slot < length seen → coversBy (getD seen j 0) (markBy mixed) ≡ true
+    → coversBy (getD (set seen slot (markedBy (getD seen slot 0) mark)) j 0) (markBy mixed) ≡ true
+still-covered seen slot mark j mixed h c =
+    let new = markedBy (getD seen slot 0) mark in
+    by-equal j slot
+    (λ same. rw (same, getD-set-same seen slot new 0 h) (cover-kept (getD seen slot 0) mark mixed (rw same at c)))
+    (λ other. rw (getD-set-other seen slot j new 0 other) c)
+
+module _ (keys seen : List ℕ) (n key slot mark : ℕ) (k : Kept keys seen n) (room : n < 64) (is : slot ≡ slotBy (mixOf key)) (h : slot < 256)
+    (made : mark ≡ markBy (mixOf key)) where
+  abbrev seen′ : List ℕ
+  seen′ = set seen slot (markedBy (getD seen slot 0) mark)
+
+  marks : Marked (set keys n key) seen′ (n + 1)
+  marks i below =
+      let in-seen : slot < length seen = omega arith in
+      let old = getD seen slot 0 in
+      let mixed = mixOf (getD keys i 0) in
+      by-equal i n
+      (λ e. rw (e, getD-set-same keys n key 0 (omega arith), ← is, getD-set-same seen slot (markedBy old mark) 0 in-seen, ← made) (cover-new old mark))
+      (λ other. rw (getD-set-other keys n i key 0 other) (still-covered seen slot mark (slotBy mixed) mixed in-seen (k .marked i (omega arith))))
+
+  admitted : {good : Bool} {met : List ℕ} → good ≡ true → met ≡ take n keys ++ (key ∷ []) → Taking good met (n + 1) (set keys n key) seen′
+  admitted e m =
+      record {
+        judged = e ∙ sym (le-leb (n + 1) 64 (omega arith));
+        now-met = λ _. rw (add-one, m) (take-suc-set keys n key (omega arith));
+        kept = λ _. record { keys-long = rw length-set (k .keys-long); seen-long = rw length-set (k .seen-long); few = omega arith; marked = marks };
+      }
+
+pub refused : {good : Bool} {met keys seen : List ℕ} → good ≡ false → Taking good met 65 keys seen
+refused e = record { judged = e; now-met = λ h. absurd (omega arith); kept = λ h. absurd (omega arith) }
+
+pub unchanged : {good : Bool} {met keys seen : List ℕ} {n : ℕ} → Kept keys seen n → good ≡ true → met ≡ take n keys → Taking good met n keys seen
+unchanged {n = n} k e same = record { judged = e ∙ sym (le-leb n 64 (k .few)); now-met = λ _. sym same; kept = λ _. k }
+
+-- the ways out of one more record, over what the code tests
+module _ (keys seen : List ℕ) (n : ℕ) (v : List ℕ) where
+  abbrev pub AdmitTo : ℕ → List ℕ → List ℕ → Type 0
+  AdmitTo = Taking (hopTaken (take n keys) n v) (withKey (take n keys) v)
+
+  pub admit-short : (sized : Bool) → sized ≡ hopSize (length v) → not sized ≡ true → AdmitTo 65 keys seen
+  unfolding hopTaken
+  admit-short sized is t = refused (rw (← is, not-true sized t))
+
+  pub admit-bad : (good : Bool) → good ≡ hopGood (hopOf v) → not good ≡ true → AdmitTo 65 keys seen
+  unfolding hopTaken
+  admit-bad good is t = refused (rw (← is, not-true good t, and-no))
+
+  pub admit-full : n ≡ 64 → AdmitTo 65 keys seen
+  unfolding hopTaken
+  admit-full e = refused (rw (e, and-no, and-no))
+
+  module _ (key mixed slot mark : ℕ) (its-key : key ≡ keyOf (hopOf v)) (its-mix : mixed ≡ mixOf key) (its-slot : slot ≡ slotBy mixed)
+      (its-mark : mark ≡ markBy mixed) where
+    module _ (new : Bool) (is : new ≡ not (keyMet key (take n keys))) where
+      pub admit-met : not new ≡ true → AdmitTo 65 keys seen
+      unfolding hopTaken
+      admit-met t = refused (rw (← its-key, ← is, not-true new t, and-no, and-no))
+
+      pub admit-new : not new ≡ false → slot < 256 → (sized : Bool) → sized ≡ hopSize (length v) → not sized ≡ false → (good : Bool)
+          → good ≡ hopGood (hopOf v) → not good ≡ false
+          → (n ≡ 64 → ⊥) → Kept keys seen n → (with : ℕ) → with ≡ markedBy (getD seen slot 0) mark → AdmitTo (n + 1) (set keys n key) (set seen slot with)
+      unfolding hopTaken
+      admit-new t h sized e-s s good e-g g room k with e-w =
+          let few : n < 64 = omega (arith, room) in
+          rw e-w
+          (admitted keys seen n key slot mark k few (rw its-mix at its-slot) h (rw its-mix at its-mark)
+          (rw (← its-key, ← is, ← e-s, ← e-g, not-false sized s, not-false good g, not-false new t, lt-ltb n 64 few)) (rw its-key))
+
+    -- a place that shows no such key
+    pub admit-shows : Kept keys seen n → coversBy (getD seen slot 0) mark ≡ false → keyMet key (take n keys) ≡ false
+    admit-shows k e =
+        unmet key keys n (λ i h same. true≢false (sym (rw same at (k .marked i h)) ∙ (rw (its-mark, its-slot, its-mix) at e)))
+
+pub ruleset admit-laws = (needs, admit-short, admit-bad, admit-full, admit-met, admit-new, admit-shows)
 
 serial-snoc : (r q : NextHop) (hops : List NextHop)
     → serialMet r (hops ++ (q ∷ [])) ≡ (serialMet r hops || (eqb (q .destination) (r .destination) && eqb (q .serial) (r .serial)))
@@ -29,10 +167,6 @@ serial-snoc r q (p ∷ hops) = rw (serial-snoc r q hops, or-assoc)
 pub record Agree (hops : List NextHop) (met : List ℕ) : Type 0 where
   pub count : length hops ≡ length met
   pub alike : (r : NextHop) → r .serial < 4294967296 → serialMet r hops ≡ keyMet (keyOf r) met
-
-agree-none : Agree [] []
-unfolding serialMet keyMet
-agree-none = record { count = refl; alike = λ r h. refl }
 
 agree-more : (hops : List NextHop) (met v : List ℕ) → Agree hops met → Agree (hops ++ (hopOf v ∷ [])) (withKey met v)
 agree-more hops met v a =
@@ -47,21 +181,12 @@ agree-more hops met v a =
           );
     }
 
-module _ (T : Settings) (tag : ℕ) (v : List ℕ) where
-  pub with-hop : tag ≡ 2 → withField T (field tag v) .hops ≡ T .hops ++ (hopOf v ∷ [])
-  unfolding withField
-  with-hop e = rw e
-
-  pub with-other : (tag ≡ 2 → ⊥) → withField T (field tag v) .hops ≡ T .hops
-  unfolding withField
-  with-other h =
-      by-test (eqb tag 3) (λ e. rw (ne-eqb tag 2 h, e)) (λ e. by-test (eqb tag 6) (λ g. rw (ne-eqb tag 2 h, e, g)) (λ g. rw (ne-eqb tag 2 h, e, g)))
-
-  agree-with : (met : List ℕ) → Agree (T .hops) met → Agree (withField T (field tag v) .hops) (keysWith met tag v)
-  agree-with met a =
-      by-test (eqb tag 2)
-      (λ e. let two = eqb-true tag 2 e in rw (with-hop two, keys-hop met tag v two) (agree-more (T .hops) met v a))
-      (λ e. let other = eqb-false tag 2 e in rw (with-other other, keys-other met tag v other) a)
+agree-with : (T : Settings) (tag : ℕ) (v met : List ℕ) → Agree (T .hops) met → Agree (withField T (field tag v) .hops) (keysWith met tag v)
+unfolding withField keysWith
+agree-with T tag v met a =
+    by-test (eqb tag 2)
+    (λ e. rw e (agree-more (T .hops) met v a))
+    (λ e. by-test (eqb tag 3) (λ f. rw (e, f) a) (λ f. by-test (eqb tag 6) (λ g. rw (e, f, g) a) (λ g. rw (e, f, g) a)))
 
 module _ (T : Settings) (v met : List ℕ) (n : ℕ) where
   continues-hop : length (T .hops) ≡ n → serialMet (hopOf v) (T .hops) ≡ keyMet (keyOf (hopOf v)) met → continues T (field 2 v) ≡ fieldTaken met n 2 v
@@ -69,10 +194,11 @@ module _ (T : Settings) (v met : List ℕ) (n : ℕ) where
   continues-hop c e = rw (c, e)
 
   continues-taken : (tag : ℕ) → length met ≡ n → Agree (T .hops) met → continues T (field tag v) ≡ fieldTaken met n tag v
+  unfolding fieldTaken
   continues-taken tag c a =
-      by-test (eqb tag 2)
-      (λ e. rw (eqb-true tag 2 e) (continues-hop (a .count ∙ c) (a .alike (hopOf v) (omega arith))))
-      (λ e. sym (field-flag met n tag v (eqb-false tag 2 e) ∙ flag-continues T tag v (eqb-false tag 2 e)))
+      by-equal tag 2
+      (λ two. rw two (continues-hop (a .count ∙ c) (a .alike (hopOf v) (omega arith))))
+      (λ other. rw (ne-eqb tag 2 other) (sym (flag-continues T tag v other)))
 
 -- some settings with these keys, from which the fields from `at` on decide as the whole does
 pub record Rest (s : List ℕ) (whole : Option Settings) (met : List ℕ) (at : ℕ) : Type 0 where
@@ -92,22 +218,17 @@ Step s at keys n tag next r keys′ seen′ =
     Taking (fieldTaken (take n keys) n tag (part s (at + 3) (next - (at + 3)))) (keysWith (take n keys) tag (part s (at + 3) (next - (at + 3)))) r keys′ seen′
 
 pub begins : (s : List ℕ) (from : ℕ) → from ≤ length s → Judging s from (replicate 64 0) (replicate 256 0) 0 from
+unfolding serialMet keyMet
 begins s from h =
     record {
-      kept =
-          record {
-            keys-long = length-replicate {A = ℕ} 64 0;
-            seen-long = length-replicate {A = ℕ} 256 0;
-            few = omega arith;
-            marked = λ i below. absurd (omega arith);
-          };
+      kept = record { keys-long = refl; seen-long = refl; few = omega arith; marked = λ i below. absurd (omega arith) };
       within = h;
-      rest = λ T e. record { read = T; decides = refl; agree = rw e agree-none };
+      rest = λ T e. record { read = T; decides = refl; agree = rw e (record { count = refl; alike = λ r h. refl }) };
     }
 
 module _ {s : List ℕ} {from : ℕ} {keys seen : List ℕ} {n at : ℕ} (j : Judging s from keys seen n at) where
   many : length (take n keys) ≡ n
-  many = length-take-le n keys (omega (arith, j .kept))
+  many = length-take-le n keys (omega arith)
 
   pub ends : length s ≤ at → Verdict s from true
   unfolding settingsFrom
@@ -132,12 +253,12 @@ module _ {s : List ℕ} {from : ℕ} {keys seen : List ℕ} {n at : ℕ} (j : Ju
       judged-so : (T : Settings) (e : T .hops ≡ []) {b : Bool} → fieldTaken (take n keys) n tag v ≡ b → continues (j .rest T e .read) (field tag v) ≡ b
       judged-so T e g = continues-taken (j .rest T e .read) v (take n keys) n tag many (j .rest T e .agree) ∙ g
 
-      stops : {r : ℕ} {keys′ seen′ : List ℕ} → Step s at keys n tag next r keys′ seen′ → 64 < r → Verdict s from false
+      pub stops : {r : ℕ} {keys′ seen′ : List ℕ} → Step s at keys n tag next r keys′ seen′ → 64 < r → Verdict s from false
       stops {r} t b T e =
           let w = j .rest T e in
           rw (← w .decides, on, from-bad (w .read) (field tag v) (fieldsAt s next) (judged-so T e (t .judged ∙ lt-leb r 64 b)))
 
-      goes-on : {r : ℕ} {keys′ seen′ : List ℕ} → Step s at keys n tag next r keys′ seen′ → r ≤ 64 → Judging s from keys′ seen′ r next
+      pub goes-on : {r : ℕ} {keys′ seen′ : List ℕ} → Step s at keys n tag next r keys′ seen′ → r ≤ 64 → Judging s from keys′ seen′ r next
       goes-on {r} t b =
           record {
             kept = t .kept b;
@@ -152,32 +273,15 @@ module _ {s : List ℕ} {from : ℕ} {keys seen : List ℕ} {n at : ℕ} (j : Ju
                 });
           }
 
-      -- a record
-      module _ (two : tag ≡ 2) {r : ℕ} {keys′ seen′ : List ℕ} (t : Taking (hopTaken (take n keys) n v) (withKey (take n keys) v) r keys′ seen′) where
-        pub hop-stops : 64 < r → Verdict s from false
-        hop-stops = stops (taking-hop (take n keys) n tag v two t)
-
-        pub hop-on : r ≤ 64 → Judging s from keys′ seen′ r next
-        hop-on = goes-on (taking-hop (take n keys) n tag v two t)
-
       -- a flag
-      module _ (other : tag ≡ 2 → ⊥) where
-        as-flag : {b : Bool} → eqb (flagBy tag v) 0 ≡ b → fieldTaken (take n keys) n tag v ≡ b
-        as-flag e = field-flag (take n keys) n tag v other ∙ e
+      module _ (other : tag ≡ 2 → ⊥) {code : ℕ} (is : code ≡ flagBy tag v) where
+        pub flag-stops : (code ≡ 0 → ⊥) → Verdict s from false
+        unfolding fieldTaken
+        flag-stops n = stops (refused {keys = keys} {seen = seen} (rw (ne-eqb tag 2 other, ← is) (ne-eqb code 0 n))) (omega arith)
 
-        module _ {code : ℕ} (is : code ≡ flagBy tag v) where
-          pub flag-stops : (code ≡ 0 → ⊥) → Verdict s from false
-          flag-stops n = stops (refused {keys = keys} {seen = seen} (as-flag (rw (← is) (ne-eqb code 0 n)))) (omega arith)
-
-          pub flag-on : code ≡ 0 → Judging s from keys seen n next
-          flag-on z = goes-on (unchanged (j .kept) (as-flag (rw (← is) (eq-eqb code 0 z))) (keys-other (take n keys) tag v other)) (j .kept .few)
-
--- what is lent of the keys is whole
-pub keys-count : {keys seen : List ℕ} {n : ℕ} → Kept keys seen n → 64 ≡ length keys
-keys-count k = sym (k .keys-long)
-
-pub seen-count : {keys seen : List ℕ} {n : ℕ} → Kept keys seen n → 256 ≡ length seen
-seen-count k = sym (k .seen-long)
+        pub flag-on : code ≡ 0 → Judging s from keys seen n next
+        unfolding fieldTaken keysWith
+        flag-on z = goes-on (unchanged (j .kept) (rw (ne-eqb tag 2 other, ← is) (eq-eqb code 0 z)) (rw (ne-eqb tag 2 other))) (j .kept .few)
 
 -- the first field
 module _ (s : List ℕ) {tag size next : ℕ} (e : fieldAt s 0 ≡ Taken tag size next) where

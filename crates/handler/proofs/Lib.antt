@@ -4,13 +4,7 @@ pub mod Walks
 pub mod Stages
 pub mod Refusals
 pub mod Strips
-pub mod Ways
-pub mod Replies
-pub mod Rests
-pub mod Bodies
-pub mod KeyLaws
 pub mod JudgeLaws
-pub mod FieldWalks
 pub mod ChannelLaws
 pub mod StageLaws
 pub mod RouteLaws

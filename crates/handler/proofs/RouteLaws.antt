@@ -1,5 +1,6 @@
 -- What a frame comes to as the code finds it: received, its area read by the edition, its task, and the task carried out. One law for each need,
 -- over what the calls before it ensure, for `search` to cite. Assumes nothing.
+use Rattle.rules.specs.Handling.{transit, alerted, untagged, toAllEgressRBridges, channelMessage, alertTo, alertOf, channelled, decapsulated, handledWith}
 use mathlib.Core.Path.{_≡_, refl, sym, ap, _∙_}
 use mathlib.Core.List.{List}
 use mathlib.Core.Bool.{Bool, true, false, not, _&&_, _||_, cond}
@@ -13,8 +14,6 @@ use Rattle.rules.specs.{Octets.be16, Octets.be32, Settings.Ways, Options.WellFo
 use Rattle.rules.specs.Header.{innerStart, areaOf, innerOf, readFrame, headerRefusal, weAreEgress}
 use Rattle.rules.specs.Options as O
 use Rattle.rules.specs.Extension.{flagsWord, criticalAlert, nonCriticalAlert, flagUnsummarized, summaryBare, extensionRead, extensionStops, areaRead, areaStops}
-use Rattle.rules.specs.Handling as Rules
-use Rattle.rules.specs.Handling.{untagged, toAllEgressRBridges, channelMessage, alertTo, alertOf, channelled, decapsulated, handledWith}
 use Rattle.rules.specs.Answer as A
 use Rattle.rules.specs.declared.{NextHop.NextHop, Header.Header, FrameRead.FrameRead, FrameRead.the-variants.Trill, FrameRead.the-variants.Unreadable}
 use Rattle.rules.specs.declared.{Ruling.the-variants.Absent, ChannelRead.ChannelRead, Alert.Alert}
@@ -28,13 +27,12 @@ use Rattle.handler.specs.Shapes.{refusalBy}
 use Rattle.handler.proofs.Refusals.{refused-is, passed-is}
 use Rattle.handler.specs.declared.{answers.Answer.Answer, way.Own.Own, options.Cursor.Cursor, options.AreaRead.AreaRead}
 use Rattle.handler.specs.declared.{options.AreaRead.the-variants.Read, options.AreaRead.the-variants.Faulty, handling.Task.Task}
-use Rattle.handler.specs.declared.{handling.Received.Received}
+use Rattle.handler.specs.declared.handling.Received.{Received}
 use Rattle.handler.specs.declared.handling.Task.the-variants.{Answered, Forward, Error, Echo}
 use Rattle.handler.specs.declared.handling.Received.the-variants as R
-use Rattle.handler.specs.Tasks as Tasks
 use Rattle.handler.specs.Tasks.{areaReadBy, ReadBy, stopsBy, alertBy, alertedBy, transitBy, wantedBy, askedBy, Answerable, Left, Ends, Comes, Role}
 use Rattle.handler.specs.Tasks.{Routes, Receives, Lent, Receiving}
-use Rattle.handler.specs.Shapes.{answerOf, ownOf, judgedBy, Ready}
+use Rattle.handler.specs.Shapes.{answerOf, judgedBy, Ready}
 use Rattle.handler.proofs.StageLaws.{by-hop, ready, inner-held, area-held}
 
 -- the area by the edition
@@ -47,11 +45,11 @@ module _ (rfc7179 : Bool) (area : List ℕ) where
       (is : b ≡ (flagUnsummarized w || (eqb (length area) 4 && summaryBare w))) where
     pub read-refused : b ≡ true → ReadBy rfc7179 area (Faulty 38 0)
     unfolding extensionRead
-    read-refused t = rw (not-false rfc7179 two, ← word, ← is, t)
+    read-refused t = cc (not-false rfc7179 two)
 
     pub read-extension : b ≡ false → (c : Cursor) → ReadBy rfc7179 area (Read c)
     unfolding extensionRead
-    read-extension t c = rw (not-false rfc7179 two, ← word, ← is, t)
+    read-extension t c = cc (not-false rfc7179 two)
 
 pub ruleset read-area-laws = (needs, read-draft, read-refused, read-extension)
 
@@ -64,16 +62,16 @@ module _ (inner : List ℕ) where
   module _ (a : 18 ≤ length inner) (tag : Bool) (t : tag ≡ untagged inner) where
     pub message-untagged : tag ≡ true → false ≡ channelMessage inner
     unfolding channelMessage
-    message-untagged e = rw (le-leb 18 (length inner) a, ← t, e)
+    message-untagged e = cc (le-leb 18 (length inner) a)
 
     module _ (e : tag ≡ false) (all : Bool) (m : all ≡ toAllEgressRBridges inner) where
       pub message-other : not all ≡ true → false ≡ channelMessage inner
       unfolding channelMessage
-      message-other n = rw (le-leb 18 (length inner) a, ← t, e, ← m, not-true all n)
+      message-other n = cc (le-leb 18 (length inner) a, not-true all n)
 
       pub message-so : not all ≡ false → (w : ℕ) → w ≡ be16 inner 16 → eqb w 0x8946 ≡ channelMessage inner
       unfolding channelMessage
-      message-so n w x = rw (le-leb 18 (length inner) a, ← t, e, ← m, not-false all n, ← x)
+      message-so n w x = cc (le-leb 18 (length inner) a, not-false all n)
 
 pub ruleset channel-message-laws = (needs, message-short, message-untagged, message-other, message-so)
 
@@ -91,24 +89,24 @@ pub ruleset alert-to-laws = (needs, to-read, to-critical, to-answered)
 
 module _ (rfc7179 : Bool) (area inner : List ℕ) where
   pub alert-draft : not rfc7179 ≡ true → NoAlert ≡ alertBy rfc7179 area inner
-  unfolding Tasks.alertBy
+  unfolding alertBy
   alert-draft e = rw (not-true rfc7179 e)
 
   module _ (two : not rfc7179 ≡ false) (w : ℕ) (word : w ≡ be32 area 0) (some : Bool) (s : some ≡ (criticalAlert w || nonCriticalAlert w)) where
     pub alert-none : not some ≡ true → NoAlert ≡ alertBy rfc7179 area inner
-    unfolding Tasks.alertBy
-    alert-none e = rw (not-false rfc7179 two, ← word, ← s, not-true some e)
+    unfolding alertBy
+    alert-none e = cc (not-false rfc7179 two, not-true some e)
 
     module _ (e : not some ≡ false) (message : Bool) (m : message ≡ channelMessage inner) where
       pub alert-other : not message ≡ true → NoAlert ≡ alertBy rfc7179 area inner
-      unfolding Tasks.alertBy
-      alert-other n = rw (not-false rfc7179 two, ← word, ← s, not-false some e, ← m, not-true message n)
+      unfolding alertBy
+      alert-other n = cc (not-false rfc7179 two, not-false some e, not-true message n)
 
       pub alert-so : not message ≡ false → (read : ChannelRead) → read ≡ channelRead inner → (critical : Bool) → critical ≡ criticalAlert w → (stops : Bool)
           → stops ≡ extensionStops true w
           → (r : Alert) → r ≡ alertTo critical (not stops) read → r ≡ alertBy rfc7179 area inner
-      unfolding Tasks.alertBy
-      alert-so n read c critical k stops h r is = rw (not-false rfc7179 two, ← word, ← s, not-false some e, ← m, not-false message n, ← c, ← k, ← h) is
+      unfolding alertBy
+      alert-so n read c critical k stops h r is = cc (not-false rfc7179 two, not-false some e, not-false message n)
 
 pub ruleset alert-of-laws = (needs, alert-draft, alert-none, alert-other, alert-so)
 
@@ -120,25 +118,22 @@ module _ {f : List ℕ} {h : Header} {stage : Ways → List ℕ → A.Handled} {
 
 -- what a channel message comes to, by what it is found to be
 module _ (f : List ℕ) (h : Header) (inner : List ℕ) (held : inner ≡ innerOf f h) (read : ChannelRead) (is : read ≡ channelRead inner) where
-  found : {c : ChannelRead} → read ≡ c → channelRead (innerOf f h) ≡ c
-  found e = sym (rw held at is) ∙ e
-
   abbrev Channel : Task → Type 0
   Channel t = Comes f h (λ S clock. channelled S clock f h (channelRead (innerOf f h))) t
 
   pub found-fault : (code : ℕ) → read ≡ Fault code → Ready f h → Channel (Error code)
   unfolding channelled
-  found-fault code e ready = record { same = λ S clock. rw (found e); ends = ready }
+  found-fault code e ready = record { same = λ S clock. cc; ends = ready }
 
   pub found-request : read ≡ EchoRequest → Ready f h → Channel Echo
   unfolding channelled
   found-request e ready =
-      let ranged = echo-ranged (bodyOf (innerOf f h)) (channel-echo (innerOf f h) (found e)) in
-      record { same = λ S clock. rw (found e); ends = ((ranged .0, ranged .1), ready) }
+      let ranged = echo-ranged (bodyOf (innerOf f h)) (channel-echo (innerOf f h) (cc)) in
+      record { same = λ S clock. cc; ends = ((ranged .0, ranged .1), ready) }
 
   pub found-dropped : (n : ℕ) (r : Answer) → r ≡ answerOf (A.dropped n) → (c : ChannelRead) → read ≡ c
       → ((S : Ways) (clock : List ℕ) → channelled S clock f h c ≡ A.dropped n) → Channel (Answered r)
-  found-dropped n r is c e so = comes-so n 0 0 (λ S clock. rw (found e) (so S clock)) is
+  found-dropped n r its c e so = comes-so n 0 0 (λ S clock. cc (so S clock)) its
 
 pub ruleset channelled-laws = (needs, ready, inner-held, found-fault, found-request, found-dropped)
 
@@ -151,38 +146,31 @@ module _ (f : List ℕ) (h : Header) (inner : List ℕ) (held : inner ≡ innerO
   egress-short r is a = comes-so 22 0 0 (λ S clock. inner-short S clock f h (rw held at a)) is
 
   module _ (a : 18 ≤ length inner) (tag : Bool) (t : tag ≡ untagged inner) where
-    tagged : {b : Bool} → tag ≡ b → untagged (innerOf f h) ≡ b
-    tagged b = sym (rw held at t) ∙ b
-
     pub egress-untagged : (r : Answer) → r ≡ answerOf (A.dropped 23) → tag ≡ true → Egress (Answered r)
-    egress-untagged r is b = comes-so 23 0 0 (λ S clock. inner-untagged S clock f h (rw held at a) (tagged b)) is
+    egress-untagged r is b = comes-so 23 0 0 (λ S clock. inner-untagged S clock f h (rw held at a) (cc)) is
 
     module _ (b : tag ≡ false) (all : Bool) (m : all ≡ toAllEgressRBridges inner) where
-      to-all : {c : Bool} → all ≡ c → toAllEgressRBridges (innerOf f h) ≡ c
-      to-all c = sym (rw held at m) ∙ c
-
       pub egress-any : (r : Answer) → r ≡ answerOf (A.dropped 24) → not all ≡ true → h .egress ≡ 0xFFC0 → Egress (Answered r)
-      egress-any r is n e = comes-so 24 0 0 (λ S clock. inner-any S clock f h (rw held at a) (tagged b) e (to-all (not-true all n))) is
+      egress-any r is n e = comes-so 24 0 0 (λ S clock. inner-any S clock f h (rw held at a) (cc) e (cc (not-true all n))) is
 
       pub egress-delivered : (r : Answer) (start : ℕ) → start ≡ innerStart h → r ≡ answerOf (A.delivered 51 start (length inner)) → not all ≡ true
           → (h .egress ≡ 0xFFC0 → ⊥) → Egress (Answered r)
       egress-delivered r start i is n e =
           comes-so 51 (innerStart h) (length (innerOf f h))
-          (λ S clock. inner-delivered S clock f h (rw held at a) (tagged b) e (to-all (not-true all n))) (rw (held, i) at is)
+          (λ S clock. inner-delivered S clock f h (rw held at a) (cc) e (cc (not-true all n))) (rw (held, i) at is)
 
       module _ (n : not all ≡ false) (word : ℕ) (w : word ≡ be16 inner 16) where
         pub egress-up : (r : Answer) (start : ℕ) → start ≡ innerStart h → r ≡ answerOf (A.delivered 52 start (length inner)) → word ≡ 0x22F4
             → Egress (Answered r)
         egress-up r start i is e =
             comes-so 52 (innerStart h) (length (innerOf f h))
-            (λ S clock. inner-up S clock f h (rw held at a) (tagged b) (to-all (not-false all n)) (sym (rw held at w) ∙ e))
+            (λ S clock. inner-up S clock f h (rw held at a) (cc) (cc (not-false all n)) (cc))
             (rw (held, i) at is)
 
-        pub egress-channel : (t : Task) → (word ≡ 0x22F4 → ⊥) → Comes f h (λ S clock. channelled S clock f h (channelRead (innerOf f h))) t → Egress t
-        egress-channel t e d =
+        pub egress-channel : (task : Task) → (word ≡ 0x22F4 → ⊥) → Comes f h (λ S clock. channelled S clock f h (channelRead (innerOf f h))) task → Egress task
+        egress-channel task e d =
             record {
-              same =
-                  λ S clock. inner-channel S clock f h (rw held at a) (tagged b) (to-all (not-false all n)) (λ x. e (rw held at w ∙ x)) ∙ d .same S clock;
+              same = λ S clock. inner-channel S clock f h (rw held at a) (cc) (cc (not-false all n)) (λ x. e (cc)) ∙ d .same S clock;
               ends = d .ends;
             }
 
@@ -206,34 +194,21 @@ part-short f n k short = omega (arith, length-take n (drop k f), length-drop k f
 
 module _ (nickname : ℕ) (rfc7179 : Bool) (f : List ℕ) (h : Header) (area : List ℕ) (held : area ≡ areaOf f h) (read : AreaRead)
     (a : ReadBy rfc7179 area read) where
-  judged : {j : O.AreaRead} → judgedBy read ≡ j → (S : Ways) → rfc7179 ≡ S .rfc7179 → areaRead S (areaOf f h) ≡ j
-  unfolding areaRead
-  judged e S o = rw (← o, ← held) (sym a ∙ e)
-
   pub route-faulty : (r : Answer) (n p : ℕ) → read ≡ Faulty n p → r ≡ answerOf (A.droppedAt n p) → Routes nickname rfc7179 f h (Answered r)
-  route-faulty r n p e is =
-      record { same = λ S clock named two. routed-faulty S clock f h n p (judged (ap judgedBy e) S two) ∙ rw is; left = rw is (refl, refl); role = Prim.tt }
+  unfolding areaRead
+  route-faulty r n p e is = record { same = λ S clock named two. routed-faulty S clock f h n p (cc) ∙ rw is; left = rw is (refl, refl); role = Prim.tt }
 
   module _ (c : Cursor) (w : read ≡ Read c) (egress : Bool) (e : egress ≡ weAreEgress nickname h) (stops : Bool) (b : stops ≡ stopsBy rfc7179 egress area) where
-    well : (S : Ways) → rfc7179 ≡ S .rfc7179 → areaRead S (areaOf f h) ≡ WellFormed
-    well = judged (ap judgedBy w)
-
-    role : (S : Ways) → nickname ≡ S .nickname → egress ≡ weAreEgress (S .nickname) h
-    role S o = e ∙ (rw o)
-
-    halted : (S : Ways) → nickname ≡ S .nickname → rfc7179 ≡ S .rfc7179 → {x : Bool} → stops ≡ x → areaStops S (weAreEgress (S .nickname) h) (areaOf f h) ≡ x
-    unfolding areaStops
-    halted S o two x = rw (← role S o, ← held, ← two) (sym b ∙ x)
-
     pub route-stopped : (r : Answer) → r ≡ answerOf (A.dropped 20) → stops ≡ true → Routes nickname rfc7179 f h (Answered r)
-    route-stopped r is x =
-        record { same = λ S clock named two. routed-stopped S clock f h (well S two) (halted S named two x) ∙ rw is; left = rw is (refl, refl); role = Prim.tt }
+    unfolding areaRead areaStops
+    route-stopped r is x = record { same = λ S clock named two. routed-stopped S clock f h (cc) (cc) ∙ rw is; left = rw is (refl, refl); role = Prim.tt }
 
     module _ (x : stops ≡ false) where
       pub route-egress : (t : Task) → egress ≡ true → Comes f h (λ S clock. decapsulated S clock f h) t → Routes nickname rfc7179 f h t
+      unfolding areaRead areaStops
       route-egress t y d =
           record {
-            same = λ S clock named two. routed-egress S clock f h (well S two) (halted S named two x) (sym (role S named) ∙ y) ∙ d .same S clock;
+            same = λ S clock named two. routed-egress S clock f h (cc) (cc) (cc) ∙ d .same S clock;
             left = ended t (d .ends) .0;
             role = ended t (d .ends) .1;
           }
@@ -246,11 +221,11 @@ module _ (nickname : ℕ) (rfc7179 : Bool) (f : List ℕ) (h : Header) (area : L
 
       -- the alert as the rules find it
       alert-same : (S : Ways) → rfc7179 ≡ S .rfc7179 → (inner : List ℕ) → inner ≡ innerOf f h → alertOf S f h ≡ alertBy rfc7179 area inner
-      unfolding alertOf areaStops Tasks.alertBy
+      unfolding alertOf areaStops alertBy
       alert-same S two inner within = rw (held, within, two)
 
       answers-request : (inner : List ℕ) → inner ≡ innerOf f h → Answerable f h (alertBy rfc7179 area inner)
-      unfolding Tasks.alertBy alertTo
+      unfolding alertBy alertTo
       answers-request inner within =
           by-test (rfc7179 && (criticalAlert (flagsWord area) || nonCriticalAlert (flagsWord area)) && channelMessage inner)
           (λ t. rw t (to (criticalAlert (flagsWord area)) (not (stopsBy rfc7179 true area)) (channelRead inner) refl)) (λ t. rw t Prim.tt)
@@ -269,13 +244,13 @@ module _ (nickname : ℕ) (rfc7179 : Bool) (f : List ℕ) (h : Header) (area : L
 
       pub route-transit : Ready f h → egress ≡ false → (inner : List ℕ) → inner ≡ innerOf f h → (alert : Alert) → alert ≡ alertBy rfc7179 area inner
           → Routes nickname rfc7179 f h (Forward alert)
-      unfolding Tasks.transitBy Rules.transit Rules.alerted
+      unfolding areaRead areaStops transitBy transit alerted
       route-transit ready y inner within alert is =
           record {
             same = λ S clock named two.
-                routed-transit S clock f h (well S two) (halted S named two x) (sym (role S named) ∙ y)
-                ∙ by-hop (S .hop (h .egress)) (λ q. rw (Rules.transit, Tasks.transitBy, q))
-                (λ r q. rw (Rules.transit, Tasks.transitBy, q, alert-same S two inner within ∙ sym is) (alike S clock r alert));
+                routed-transit S clock f h (cc) (cc) (cc)
+                ∙ by-hop (S .hop (h .egress)) (λ q. rw (transit, transitBy, q))
+                (λ r q. rw (transit, transitBy, q, alert-same S two inner within ∙ sym is) (alike S clock r alert));
             left = record {
               well = λ old. rw (← held) (sym (rw old at a) ∙ ap judgedBy w);
               is-ready = ready;
@@ -284,7 +259,7 @@ module _ (nickname : ℕ) (rfc7179 : Bool) (f : List ℕ) (h : Header) (area : L
             role = sym e ∙ y;
           }
         where
-          alike : (S : Ways) (clock : List ℕ) (r : NextHop) (x : Alert) → Rules.alerted S r clock f h x ≡ alertedBy S S r clock f h x
+          alike : (S : Ways) (clock : List ℕ) (r : NextHop) (x : Alert) → alerted S r clock f h x ≡ alertedBy S S r clock f h x
           alike S clock r NoAlert = refl
           alike S clock r (AlertFault code) = refl
           alike S clock r AlertErr = refl
@@ -366,13 +341,9 @@ module _ (nickname : ℕ) (h : Header) (egress : Bool) (e : egress ≡ weAreEgre
   pub wanted-on : egress ≡ false → h .egress ≡ wantedBy nickname h
   wanted-on t = rw (← e, t)
 
-module _ (nickname : ℕ) (received : Received) where
-  pub asked-none : (a : Answer) → received ≡ R.Answered a → 0 ≡ askedBy nickname received
-  asked-none a e = rw e
-
-  pub asked-so : (h : Header) → received ≡ R.Trill h → (d : ℕ) → d ≡ wantedBy nickname h → d ≡ askedBy nickname received
-  asked-so h e d is = rw e is
+pub asked-so : (nickname : ℕ) (received : Received) (h : Header) → received ≡ R.Trill h → (d : ℕ) → d ≡ wantedBy nickname h → d ≡ askedBy nickname received
+asked-so nickname received h e d is = rw e is
 
 pub ruleset wanted-laws = (needs, wanted-back, wanted-on)
 
-pub ruleset asked-laws = (needs, asked-none, asked-so)
+pub ruleset asked-laws = (needs, asked-so)

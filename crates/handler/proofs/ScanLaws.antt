@@ -1,33 +1,170 @@
 -- One pass over settings octets that judges them and finds the record that rules for a destination: what the loop keeps is what judging keeps and what
--- the two folds keep. By the laws of each for each step. Assumes nothing.
-use Rattle.handler.proofs.{Stages.if-laws, JudgeLaws.Judging, JudgeLaws.keys-count, JudgeLaws.seen-count, RouteLaws.received-lent}
-use Rattle.handler.proofs.{StageLaws.done-dropped}
-use Prim.Native.Nat.{ℕ, _+_, _-_, _≤_, _<_}
-use mathlib.Core.Path.{_≡_, refl, sym, ap, _∙_}
-use mathlib.Core.{List.List, Option.Option, Option.none, Option.some}
-use mathlib.Core.Bool.{Bool, true, false, not, true≢false, false≢true}
-use borrow.Author.{Needs.needs, Tests.not-true, Tests.not-false}
-use lib.ListN.{length, take, replicate}
-use Rattle.rules.specs.{Octets.be16, Octets.part, Fields.field, Fields.fieldAt, Campus.known, Handling.routed, Handling.handled, Handling.faulted, Handling.echoed}
-use Rattle.rules.specs.Settings.{Settings, Ways, newer, hopOf, opens, settingsOf, settingsRead, waysOf}
-use Rattle.rules.specs.Answer as A
-use Rattle.rules.specs.declared.{Ruling.Ruling, Ruling.the-variants.Absent, FieldRead.FieldRead, FieldRead.the-variants.Taken}
-use Rattle.rules.specs.declared.{FieldRead.the-variants.Cut, Header.Header, Alert.Alert}
-use Rattle.rules.proofs.{SettingsLaws.settings-read, HandlingLaws.settings-bad, HandlingLaws.settings-good, Taken.taken, Taken.taken-first}
-use Rattle.rules.proofs.{FirstLaws.settings-cut, FirstLaws.settings-bad as not-opened}
+-- two folds over the fields keep, and what the folds say of the settings read. Then the whole call on settings octets. By one law of fields for each
+-- step, and by induction on the fields. Assumes nothing.
+use Rattle.rules.specs.{Handling.faulted, Handling.echoed, Settings.Ways, declared.Alert.Alert}
 use Rattle.handler.specs.declared.handling.{Task.Task, Task.the-variants.Forward, Task.the-variants.Error, Task.the-variants.Echo}
-use Rattle.handler.specs.declared.{answers.Answer.Answer, way.Own.Own, way.Told.Told, handling.Received.Received, handling.Received.the-variants.Answered}
-use Rattle.handler.specs.declared.{handling.Received.the-variants.Trill, judged.Flags.Flags, judged.Scan.Scan, judged.Judged.Judged}
-use Rattle.handler.specs.{Keys.hopTaken, Keys.withKey, Keys.Taking, Keys.Kept, Keys.Verdict, Keys.Scanned, Keys.JudgedBy, Tasks.askedBy}
-use Rattle.handler.specs.{Tasks.receivedBy, Tasks.Receiving, Tasks.Both, Tasks.wantedBy, Tasks.Routes, Tasks.Forwardable, Calls.ToldOf}
-use Rattle.handler.specs.Shapes.{droppedBy, ownOf, onlyFor, waysBy, ruledBy, noFlags, flaggedBy, Done}
+use Rattle.handler.specs.{declared.way.Told.Told, Tasks.wantedBy, Tasks.Routes, Tasks.Forwardable, Shapes.Done}
+use Rattle.handler.specs.Keys.{fieldTaken, keysWith, hopTaken, withKey, Taking, Verdict, Scanned, JudgedBy}
+use mathlib.Core.Path.{_≡_, refl, sym, ap, _∙_}
+use mathlib.Core.List.{List, [], _∷_, foldl, foldl-append}
+use mathlib.Core.Bool.{true, not, Bool, false, true≢false, false≢true}
+use Prim.Native.Nat.{ℕ, _+_, _-_, _≤_, _<_}
+use native.Mathlib.Omega.{arith}
+use borrow.Author.Needs.{needs}
+use borrow.Author.Tests.{lt-ltb, le-ltb, ltb-true, ltb-false, eq-eqb, ne-eqb, eqb-true, not-true, not-false}
+use lib.Dec.{ltb, eqb}
+use lib.ListN.{length, take, replicate}
+use Rattle.rules.specs.{Octets.octet, Octets.be16, Octets.be48, Octets.part, Campus.known, Handling.routed, Handling.handled}
+use Rattle.rules.specs.Fields.{Field, field, cut, fieldAt, fieldsAt, fields}
+use Rattle.rules.specs.Settings.{Settings, newer, ruling, switchOf, hopOf, withField, opened, settingsRead, waysOf, opens, settingsOf}
+use Rattle.rules.specs.declared.{NextHop.NextHop, Ruling.Ruling, Ruling.the-variants.Found, Ruling.the-variants.Absent, FieldRead.FieldRead}
+use Rattle.rules.specs.declared.{FieldRead.the-variants.Taken, FieldRead.the-variants.Cut, Header.Header}
+use Rattle.rules.proofs.{TestLaws.by-test, FieldLaws.fields-at-end, FieldLaws.fields-at-cut, FieldLaws.fields-at-on, Taken.its, Taken.taken-first}
+use Rattle.rules.proofs.{Taken.taken-to, Taken.taken, SettingsLaws.settings-read, HandlingLaws.settings-bad, HandlingLaws.settings-good}
+use Rattle.rules.proofs.FirstLaws.{opened-field, first, switch-fold, settings-cut, settings-bad as not-opened}
+use Rattle.handler.specs.Shapes.{ownOf, ruledBy, noFlags, flaggedBy, FoldedFrom, droppedBy, onlyFor, waysBy}
 use Rattle.octets.specs.Flags.{flagTag, flagBy}
+use Rattle.handler.specs.declared.{judged.Flags.Flags, way.Own.Own, answers.Answer.Answer, handling.Received.Received}
+use Rattle.handler.specs.declared.{handling.Received.the-variants.Answered, handling.Received.the-variants.Trill, judged.Scan.Scan}
+use Rattle.handler.specs.declared.judged.Judged.{Judged}
+use Rattle.handler.proofs.{Stages.if-laws, JudgeLaws.Judging, RouteLaws.received-lent, StageLaws.done-dropped}
+use mathlib.Core.Option.{Option, none, some}
+use Rattle.rules.specs.Answer as A
+use Rattle.handler.specs.{Tasks.askedBy, Tasks.receivedBy, Tasks.Receiving, Tasks.Both, Calls.ToldOf}
 use Rattle.octets.proofs.FlagLaws.{flag-is}
 use Rattle.stores.specs.Store.{unlessWithdrawn}
 use Rattle.handler.proofs.JudgeLaws as J
-use Rattle.handler.proofs.FieldWalks.{Folding, fold-begin, fold-end, fold-on, newer-other, ruled-hop, ruled-other, flagged-hop, rules, flags-read}
 use Rattle.stores.proofs.LookupLaws.{next-hop}
 use Rattle.handler.proofs.TaskLaws.{both-of, kept, tells, task-laws, back-error, back-echo, replies-none, replies-so, replied, said-forwardable}
+
+-- the record that rules once one more is seen, as the code finds it: `w` is the destination of the record in `v`
+module _ (d : ℕ) (best : Ruling) (v : List ℕ) (w : ℕ) (is : w ≡ be16 v 0) where
+  pub newer-past : (w ≡ d → ⊥) → best ≡ newer d best (hopOf v)
+  unfolding newer
+  newer-past n = cc (ne-eqb w d n)
+
+  module _ (e : w ≡ d) (r : NextHop) (read : r ≡ hopOf v) where
+    pub newer-first : best ≡ Absent → Found r ≡ newer d best (hopOf v)
+    unfolding newer
+    newer-first b = cc (eq-eqb w d e)
+
+    module _ (q : NextHop) (b : best ≡ Found q) where
+      pub newer-later : q .serial < r .serial → Found r ≡ newer d best (hopOf v)
+      unfolding newer
+      newer-later h = cc (eq-eqb w d e, lt-ltb (q .serial) (r .serial) h)
+
+      pub newer-stays : r .serial ≤ q .serial → Found q ≡ newer d best (hopOf v)
+      unfolding newer
+      newer-stays h = cc (eq-eqb w d e, le-ltb (q .serial) (r .serial) h)
+
+pub ruleset newer-laws = (needs, newer-past, newer-first, newer-later, newer-stays)
+
+-- the flags once one more field is read
+module _ (flags : Flags) (tag : ℕ) (v : List ℕ) where
+  pub flagged-strip : (o : ℕ) → o ≡ octet v 0 → tag ≡ 3
+      → _≡_ {A = Flags} (record { strip = not (eqb o 0); rfc7179 = flags .rfc7179 }) (flaggedBy flags (field tag v))
+  unfolding flaggedBy
+  flagged-strip o is e = rw (e, is)
+
+  pub flagged-edition : flagTag tag ≡ true → (o : ℕ) → o ≡ octet v 0 → (tag ≡ 3 → ⊥)
+      → _≡_ {A = Flags} (record { strip = flags .strip; rfc7179 = eqb o 2 }) (flaggedBy flags (field tag v))
+  unfolding flaggedBy flagTag
+  flagged-edition t o is n = rw (eqb-true tag 6 (rw (ne-eqb tag 3 n) at t), is)
+
+pub ruleset flagged-laws = (needs, flagged-strip, flagged-edition)
+
+-- what the loop keeps
+pub record Folding {A : Type 0} (step : A → Field → A) (start : A) (s : List ℕ) (from at : ℕ) (acc : A) : Type 0 where
+  pub within : at ≤ length s
+  pub gives : foldl step acc (fieldsAt s at) ≡ foldl step start (fieldsAt s from)
+
+module _ {A : Type 0} {step : A → Field → A} {start : A} {s : List ℕ} {from : ℕ} where
+  pub fold-begin : from ≤ length s → Folding step start s from from start
+  fold-begin h = record { within = h; gives = refl }
+
+  module _ {at : ℕ} {acc : A} (w : Folding step start s from at acc) where
+    pub fold-end : length s ≤ at → FoldedFrom step start s from acc
+    fold-end h = ap (foldl step acc) (sym (fields-at-end s at h)) ∙ w .gives
+
+    pub fold-on : at < length s → {read : FieldRead} → read ≡ fieldAt s at → {tag size next : ℕ} → read ≡ Taken tag size next → {acc′ : A}
+        → acc′ ≡ step acc (field tag (part s (at + 3) (next - (at + 3)))) → Folding step start s from next acc′
+    fold-on h {read} f {tag} {size} {next} t a =
+        let i = its s at tag size next read t f in
+        let the-size : next - (at + 3) ≡ size = omega (arith, i) in
+        record {
+          within = i .within;
+          gives = rw (a, the-size) (ap (foldl step acc) (sym (fields-at-on s at tag size next h (sym f ∙ t))) ∙ w .gives);
+        }
+
+-- the settings read, by the first field
+module _ (s : List ℕ) where
+  read-cut : fieldAt s 0 ≡ Cut → settingsRead s ≡ switchOf []
+  unfolding settingsRead fields opened
+  read-cut e =
+      by-test (ltb 0 (length s))
+      (λ t. rw (settingsRead, fields-at-cut s 0 (ltb-true 0 (length s) t) e))
+      (λ t. rw (settingsRead, fields-at-end s 0 (ltb-false 0 (length s) t)))
+
+  module _ {tag size next : ℕ} (e : fieldAt s 0 ≡ Taken tag size next) where
+    read-on : settingsRead s ≡ foldl withField (switchOf (part s 3 (next - 3))) (fieldsAt s next)
+    unfolding settingsRead
+    read-on = rw (settingsRead, first s e, opened-field tag (part s 3 (next - 3)))
+
+-- what one more field does to the nickname and MAC, the flags and the record that rules
+abbrev pub flagsOf : Settings → Flags
+flagsOf S = record { strip = S .strip; rfc7179 = S .rfc7179 }
+
+module _ (S : Settings) where
+  flags-with : (f : Field) → flagsOf (withField S f) ≡ flaggedBy (flagsOf S) f
+  unfolding withField flaggedBy
+  flags-with cut = refl
+  flags-with (field tag v) =
+      by-test (eqb tag 2)
+      (λ e. rw (eqb-true tag 2 e))
+      (λ e. by-test (eqb tag 3) (λ f. rw (e, f)) (λ f. by-test (eqb tag 6) (λ g. rw (e, f, g)) (λ g. rw (e, f, g))))
+
+ruling-none : (d : ℕ) → ruling [] d ≡ Absent
+unfolding ruling
+ruling-none d = refl
+
+ruling-with : (d : ℕ) (S : Settings) (f : Field) → ruling (withField S f .hops) d ≡ ruledBy d (ruling (S .hops) d) f
+unfolding withField ruledBy ruling
+ruling-with d S cut = refl
+ruling-with d S (field tag v) =
+    by-test (eqb tag 2)
+    (λ e. rw e (foldl-append (newer d) Absent (S .hops) (hopOf v ∷ [])))
+    (λ e. by-test (eqb tag 3) (λ f. rw (e, f)) (λ f. by-test (eqb tag 6) (λ g. rw (e, f, g)) (λ g. rw (e, f, g))))
+
+-- and what all do
+fold-along : {A : Type 0} (said : Settings → A) (step : A → Field → A) → ((S : Settings) (f : Field) → said (withField S f) ≡ step (said S) f)
+    → (S : Settings) (fs : List Field) → said (foldl withField S fs) ≡ foldl step (said S) fs
+fold-along said step with S [] = refl
+fold-along said step with S (f ∷ fs) = fold-along said step with (withField S f) fs ∙ ap (λ (a : _). foldl step a fs) (with S f)
+
+-- of settings whose first field is taken
+module _ (s : List ℕ) {tag size next : ℕ} (e : fieldAt s 0 ≡ Taken tag size next) where
+  pub flags-read : (r : Flags) → FoldedFrom flaggedBy noFlags s next r → r ≡ flagsOf (settingsRead s)
+  flags-read r f = cc (read-on s e, fold-along flagsOf flaggedBy flags-with (switchOf (part s 3 (next - 3))) (fieldsAt s next))
+
+  pub rules : (d : ℕ) (b : Ruling) → FoldedFrom (ruledBy d) Absent s next b → ruling (settingsRead s .hops) d ≡ b
+  rules d b f =
+      cc (
+        read-on s e,
+        fold-along (λ S. ruling (S .hops) d) (ruledBy d) (ruling-with d) (switchOf (part s 3 (next - 3))) (fieldsAt s next),
+        ruling-none d,
+      )
+
+-- our nickname and MAC, as the code reads the first field
+module _ (s : List ℕ) (read : FieldRead) (is : read ≡ fieldAt s 0) where
+  pub own-cut : read ≡ Cut → _≡_ {A = Own} (record { nickname = 0; mac = 0 }) (ownOf (waysOf (settingsRead s)))
+  own-cut e = ap (λ (S : Settings). ownOf (waysOf S)) (sym (read-cut s (sym is ∙ e)))
+
+  pub own-read : (tag size next : ℕ) → read ≡ Taken tag size next → (n m : ℕ) → n ≡ be16 (part s 3 (next - 3)) 0 → m ≡ be48 (part s 3 (next - 3)) 2
+      → _≡_ {A = Own} (record { nickname = n; mac = m }) (ownOf (waysOf (settingsRead s)))
+  own-read tag size next e n m en em =
+      rw (en, em, read-on s (sym is ∙ e)) (sym (switch-fold (λ n m. record { nickname = n; mac = m }) (switchOf (part s 3 (next - 3))) (fieldsAt s next)))
+
+pub ruleset own-of-laws = (needs, taken-first, taken-to, own-cut, own-read)
 
 -- what the loop keeps
 pub record Scanning (s : List ℕ) (from d : ℕ) (keys seen : List ℕ) (n : ℕ) (best : Ruling) (flags : Flags) (at : ℕ) : Type 0 where
@@ -55,29 +192,28 @@ module _ (s : List ℕ) (from d : ℕ) (keys seen : List ℕ) (n : ℕ) (best : 
 
       module _ (two : tag ≡ 2) (m : ℕ) (keys′ seen′ : List ℕ) (k : Taking (hopTaken (take n keys) n v) (withKey (take n keys) v) m keys′ seen′) where
         pub scan-hop-bad : (r : Scan) → r .good ≡ false → 64 < m → Scanned s from d r
-        scan-hop-bad r b x = bad-scanned b (J.hop-stops (l .judging) h q t two k x)
+        unfolding fieldTaken keysWith
+        scan-hop-bad r b x = bad-scanned b (J.stops (l .judging) h q t {r = m} {keys′ = keys′} {seen′ = seen′} (rw two k) x)
 
-        -- with the record, and past one of another destination
         pub scan-hop : (best′ : Ruling) → best′ ≡ newer d best (hopOf v) → m ≤ 64 → Scanning s from d keys′ seen′ m best′ flags next
+        unfolding fieldTaken keysWith ruledBy flaggedBy
         scan-hop best′ e x =
             record {
-              judging = J.hop-on (l .judging) h q t two k x;
-              ruled = fold-on (l .ruled) h q t (e ∙ ruled-hop d best tag v two);
-              flagged = fold-on (l .flagged) h q t (flagged-hop flags tag v two);
+              judging = J.goes-on (l .judging) h q t (rw two k) x;
+              ruled = fold-on (l .ruled) h q t (cc);
+              flagged = fold-on (l .flagged) h q t (rw two);
             }
-
-        pub scan-past : (word : ℕ) → word ≡ be16 v 0 → (word ≡ d → ⊥) → m ≤ 64 → Scanning s from d keys′ seen′ m best flags next
-        scan-past word w e = scan-hop best (newer-other d (hopOf v) best (λ x. e (w ∙ x)))
 
       module _ (other : tag ≡ 2 → ⊥) (code : ℕ) (is : code ≡ flagBy tag v) where
         pub scan-flag-bad : (r : Scan) → r .good ≡ false → (code ≡ 0 → ⊥) → Scanned s from d r
         scan-flag-bad r b x = bad-scanned b (J.flag-stops (l .judging) h q t other is x)
 
         pub scan-flag : (flags′ : Flags) → flags′ ≡ flaggedBy flags (field tag v) → code ≡ 0 → Scanning s from d keys seen n best flags′ next
+        unfolding ruledBy
         scan-flag flags′ e x =
             record {
               judging = J.flag-on (l .judging) h q t other is x;
-              ruled = fold-on (l .ruled) h q t (ruled-other d best tag v other);
+              ruled = fold-on (l .ruled) h q t (rw (ne-eqb tag 2 other));
               flagged = fold-on (l .flagged) h q t e;
             }
 
@@ -85,7 +221,7 @@ module _ (s : List ℕ) (from d : ℕ) (keys seen : List ℕ) (n : ℕ) (best : 
         scan-tag x = flag-is tag v (sym is ∙ x)
 
 pub ruleset scan-laws =
-    (needs, taken, scan-begin, keys-count, seen-count, scan-end, scan-cut, scan-hop-bad, scan-hop, scan-past, scan-flag-bad, scan-flag, scan-tag)
+    (needs, taken, scan-begin, scan-end, scan-cut, scan-hop-bad, scan-hop, newer-past, scan-flag-bad, scan-flag, scan-tag)
 
 -- the record unless it is withdrawn
 pub withdrawn-by : (r best c : Ruling) → best ≡ c → r ≡ unlessWithdrawn c → r ≡ unlessWithdrawn best
@@ -94,16 +230,16 @@ withdrawn-by r best c e is = rw e is
 pub ruleset unless-withdrawn-laws = (if-laws, withdrawn-by)
 
 -- the whole
-bad-judged : (s : List ℕ) (d : ℕ) (r : Judged) → r .good ≡ false → false ≡ known (settingsOf s) → JudgedBy s d r
-bad-judged s d r b k = record { judged = b ∙ k; tells = λ t. absurd (false≢true (sym b ∙ t)) }
+bad-judged : {s : List ℕ} {d : ℕ} {r : Judged} → r .good ≡ false → false ≡ known (settingsOf s) → JudgedBy s d r
+bad-judged b k = record { judged = b ∙ k; tells = λ t. absurd (false≢true (sym b ∙ t)) }
 
 module _ (s : List ℕ) (d : ℕ) (read : FieldRead) (q : read ≡ fieldAt s 0) where
   pub judged-cut : (r : Judged) → r .good ≡ false → read ≡ Cut → JudgedBy s d r
-  judged-cut r b c = bad-judged s d r b (settings-cut s (sym q ∙ c))
+  judged-cut r b c = bad-judged b (settings-cut s (sym q ∙ c))
 
   module _ (tag size next : ℕ) (t : read ≡ Taken tag size next) (v : List ℕ) (held : v ≡ part s 3 (next - 3)) (o : Bool) (is : o ≡ opens (field tag v)) where
     pub judged-shut : (r : Judged) → r .good ≡ false → not o ≡ true → JudgedBy s d r
-    judged-shut r b x = bad-judged s d r b (not-opened s (sym q ∙ t) (sym (rw held at is) ∙ not-true o x))
+    judged-shut r b x = bad-judged b (not-opened s (sym q ∙ t) (sym (rw held at is) ∙ not-true o x))
 
     pub judged-scan : (own : Own) (scan : Scan) (hop : Ruling) → not o ≡ false → Scanned s next d scan → hop ≡ unlessWithdrawn (scan .best)
         → own ≡ ownOf (waysOf (settingsRead s))
@@ -113,9 +249,8 @@ module _ (s : List ℕ) (d : ℕ) (read : FieldRead) (q : read ≡ fieldAt s 0) 
           judged = J.settings-so s (sym q ∙ t) (scan .good) (sym (rw held at is) ∙ not-false o x) (y .verdict);
           tells = λ g.
               let said = flags-read s (sym q ∙ t) (scan .flags) (y .flagged g) in
-              tells (waysOf (settingsRead s)) d own (scan .flags .strip) (scan .flags .rfc7179) hop w (ap (λ (x : Flags). x .strip) said)
-              (ap (λ (x : Flags). x .rfc7179) said)
-              (z ∙ ap unlessWithdrawn (sym (rules s (sym q ∙ t) d (scan .best) (y .ruled g))) ∙ sym (next-hop (settingsRead s) d));
+              tells (waysOf (settingsRead s)) d own (scan .flags .strip) (scan .flags .rfc7179) hop w (cc) (cc)
+              (cc (rules s (sym q ∙ t) d (scan .best) (y .ruled g), next-hop (settingsRead s) d));
         }
 
 pub ruleset judge-laws = (needs, taken, taken-first, judged-cut, judged-shut, judged-scan)

@@ -1,27 +1,28 @@
 -- What is forwarded and what is replied as the code writes it: what is ready gives what each call asks, and each way out is the answer and the
 -- buffer that the rules define. One law for each need, over what the calls before it ensure, for `search` to cite. Assumes nothing.
-use mathlib.Core.Path.{_≡_, refl, sym, ap, _∙_}
-use mathlib.Core.List.{List, [], _++_}
-use mathlib.Core.Bool.{Bool, true, false, not, _&&_}
-use Prim.Native.Nat.{ℕ, _+_, _-_, _*_, _≤_, _<_}
+use Rattle.handler.proofs.Stages.{parts, after, lent-rest, link-sized, rest-long}
+use mathlib.Core.Path.{_≡_, _∙_, refl, sym}
+use mathlib.Core.List.{List, _++_, []}
+use Prim.Native.Nat.{ℕ, _+_, _≤_, _-_, _*_, _<_}
 use native.Mathlib.Omega.{arith}
 use borrow.Author.Needs.{needs}
-use borrow.Author.Tests.{lt-leb, le-leb, leb-true, leb-false, not-true}
-use lib.{Dec.leb, Seq.drop-drop, Seq.length-take-le}
-use lib.ListN.{length, take, drop, length-append, length-drop}
+use lib.ListN.{length, length-append, length-take, take, drop, length-drop}
 use Rattle.rules.specs.{Octets.put, Octets.octet, Settings.Ways, Link.link, Header.opLength, Header.innerStart, Header.areaOf, Header.innerOf}
 use Rattle.rules.specs.{Options.WellFormed, Options.draftRead, Options.stripped, Extension.areaSent}
-use Rattle.rules.specs.Channel.{bodyOf, returnPath, silenced, errorReply, echoReply}
+use Rattle.rules.specs.Channel.{errorBody, echoBody, errorReply, echoReply, replyRest, replyInner, bodyOf, returnPath, silenced}
+use Rattle.rules.specs.declared.{NextHop.NextHop, Header.Header, Ruling.Ruling, Ruling.the-variants.Found, Ruling.the-variants.Absent}
+use Rattle.rules.proofs.FrameLaws.{link-most, frame-read, link-length, length-link}
+use Rattle.rules.proofs.{ReplyLaws.echo-body-length, OctetLaws.put-none, OctetLaws.take-put, OctetLaws.length-part, OptionLaws.stripped-word}
+use Rattle.rules.proofs.OptionLaws.{stripped-shorter}
+use Rattle.handler.specs.declared.{way.Own.Own, answers.Answer.Answer}
+use Rattle.handler.specs.Shapes.{ownOf, replyOctets, Replied, answerOf, wroteBy, linkSize, restWith, Fits, Ready, Done}
+use mathlib.Core.Bool.{Bool, true, false, not, _&&_}
+use borrow.Author.Tests.{lt-leb, le-leb, leb-true, leb-false, not-true}
+use lib.{Dec.leb, Seq.drop-drop, Seq.length-take-le}
 use Rattle.rules.specs.Handling.{forwarded, forwardedRest, onward, faulted, echoed}
 use Rattle.rules.specs.Answer as A
-use Rattle.rules.specs.declared.{NextHop.NextHop, Header.Header, Ruling.Ruling, Ruling.the-variants.Found, Ruling.the-variants.Absent}
 use Rattle.rules.proofs.TestLaws.{by-test, and-no, and-yes, and-true}
-use Rattle.rules.proofs.{OctetLaws.put-none, OctetLaws.take-put, OctetLaws.length-part, OptionLaws.stripped-word, OptionLaws.stripped-shorter}
-use Rattle.rules.proofs.{FrameLaws.frame-read, FrameLaws.link-length, FrameLaws.length-link}
 use Rattle.rules.proofs.HandlingLaws.{onward-long, onward-sent, faulted-silent, faulted-none, faulted-over, echoed-mode, echoed-none, echoed-over}
-use Rattle.handler.specs.declared.answers.Answer.{Answer}
-use Rattle.handler.specs.Shapes.{answerOf, wroteBy, linkSize, restWith, Fits, Ready, Replied, Done}
-use Rattle.handler.proofs.{Stages.after, Stages.lent-rest, Stages.link-sized, Rests.rest-long}
 
 -- a frame that is ready
 module _ {f : List ℕ} {h : Header} (ready : Ready f h) where
@@ -33,9 +34,6 @@ module _ {f : List ℕ} {h : Header} (ready : Ready f h) where
 
   pub ready-place : h .place ≤ length f
   ready-place = omega (arith, frame-read f h (ready .read) .whole)
-
-  pub inner-within : {start : ℕ} → start ≡ innerStart h → start ≤ length f
-  inner-within i = omega (arith, ready .area-whole)
 
 pub ruleset ready = (ready-near, ready-from, ready-place)
 
@@ -52,6 +50,13 @@ module _ (f : List ℕ) (h : Header) (start : ℕ) (i : start ≡ innerStart h) 
 
   pub area-held : take (start - (h .place + 6)) (drop (h .place + 6) f) ≡ areaOf f h
   area-held = let n : start - (h .place + 6) ≡ 4 * opLength (h .word) = omega arith in rw n
+
+-- and how long they are
+pub held-least : (k : ℕ) (lent whole : List ℕ) → k ≤ length whole → lent ≡ whole → k ≤ length lent
+held-least k lent whole h held = rw held h
+
+pub held-most : (k : ℕ) (lent whole : List ℕ) → length whole ≤ k → lent ≡ whole → length lent ≤ k
+held-most k lent whole h held = rw held h
 
 -- the answers with nothing written
 module _ {a : A.Handled} {r : Answer} {out : List ℕ} where
@@ -80,7 +85,7 @@ module _ (S : Ways) (r : NextHop) (f : List ℕ) (h : Header) (out area : List �
   forwards = rw goes
 
   forwards-long : length (forwarded S r f h) ≡ linkSize (r .vlan) + length (restWith area f h)
-  forwards-long = sym (ap length forwards) ∙ length-append (link S r) (restWith area f h) ∙ rw (length-link S r)
+  forwards-long = cc (forwards, length-append (link S r) (restWith area f h), length-link S r)
 
   pub onward-over : (a : Answer) (k size : ℕ) → a ≡ answerOf (A.dropped 29) → 2048 < k + size → k ≡ linkSize (r .vlan) → size ≡ length (restWith area f h)
       → Done (onward S r f h [] 0) a out out
@@ -122,10 +127,10 @@ module _ {f : List ℕ} {h : Header} (ready : Ready f h) where
   area-few = omega (arith, area-words)
 
   pub whole-long : length f - h .place ≡ length (restWith (areaOf f h) f h)
-  whole-long = omega (arith, rest-long f h (areaOf f h), area-words, ready .area-whole)
+  whole-long = omega (arith, rest-long f h (areaOf f h), area-words)
 
   pub whole-add : (r : NextHop) (k : ℕ) → k ≡ linkSize (r .vlan) → k + (length f - h .place) < 18446744073709551616
-  whole-add r k e = omega (arith, link-sized (r .vlan), ready .short)
+  whole-add r k e = omega (arith, link-sized (r .vlan))
 
 pub ruleset send-whole-laws = (onward-laws, area-few, whole-long, whole-add)
 
@@ -136,10 +141,10 @@ with-long f h area inner start = omega (arith, rest-long f h area)
 
 module _ {f : List ℕ} {h : Header} (is : Ready f h) (area : List ℕ) (few : length area ≤ 124) (inner : ℕ) where
   pub with-size : 6 + length area + (length f - inner) < 18446744073709551616
-  with-size = omega (arith, is .short)
+  with-size = omega arith
 
   pub with-sum : (r : NextHop) (k : ℕ) → k ≡ linkSize (r .vlan) → k + (6 + length area + (length f - inner)) < 18446744073709551616
-  with-sum r k e = omega (arith, link-sized (r .vlan), is .short)
+  with-sum r k e = omega (arith, link-sized (r .vlan))
 
 pub ruleset send-with-laws = (onward-laws, with-long, with-size, with-sum)
 
@@ -165,27 +170,23 @@ module _ {f : List ℕ} {h : Header} (is : Ready f h) (n : ℕ) (lent : List ℕ
 pub kept-sent : (S : Ways) (f : List ℕ) (h : Header) (n : ℕ) (aside1 aside lent : List ℕ) → aside1 ≡ put aside 0 (stripped lent) → n ≡ length (stripped lent)
     → lent ≡ areaOf f h
     → areaSent S (areaOf f h) ≡ stripped (areaOf f h) → areaSent S (areaOf f h) ≡ take n aside1
-kept-sent S f h n aside1 aside lent wrote left held goes =
-    let is : stripped lent ≡ stripped (areaOf f h) = rw held in
-    let many : n ≡ length (stripped (areaOf f h)) = rw held at left in
-    goes ∙ sym (rw (wrote, is, many) (take-put aside (stripped (areaOf f h))))
+kept-sent S f h n aside1 aside lent wrote left held goes = cc (take-put aside (stripped lent))
 
 pub lent-well : (f : List ℕ) (h : Header) (lent : List ℕ) → lent ≡ areaOf f h → draftRead (areaOf f h) ≡ WellFormed → draftRead lent ≡ WellFormed
 lent-well f h lent held well = rw held well
 
-pub lent-some : (f : List ℕ) (h : Header) (lent : List ℕ) → lent ≡ areaOf f h → 4 ≤ length (areaOf f h) → 4 ≤ length lent
-lent-some f h lent held enough = rw held enough
-
-pub ruleset send-stripped-laws = (needs, ready, area-held, aside-room, kept-there, kept-count, kept-few, kept-sent, lent-well, lent-some)
+pub ruleset send-stripped-laws = (needs, ready, area-held, aside-room, kept-there, kept-count, kept-few, kept-sent, lent-well, held-least)
 
 -- which area is sent
+abbrev pub stripsBy : Header → Bool → Bool → Bool
+stripsBy h strip rfc7179 = leb 2 (opLength (h .word)) && (strip && not rfc7179)
+
 pub strips-some : (f : List ℕ) (h : Header) → Ready f h → (strip flag : Bool) → strip ≡ (leb 2 (opLength (h .word)) && flag) → strip ≡ true
     → 4 ≤ length (areaOf f h)
-strips-some f h is strip flag so t =
-    omega (arith, area-words is, leb-true 2 (opLength (h .word)) (and-true (leb 2 (opLength (h .word))) flag (sym so ∙ t) .0))
+strips-some f h is strip flag so t = let e = sym so ∙ t in omega (arith, area-words is, leb-true 2 (opLength (h .word)) (search parts))
 
 module _ (S : Ways) (f : List ℕ) (h : Header) (ready : Ready f h) (strip : Bool)
-    (flag : strip ≡ (leb 2 (opLength (h .word)) && (S .strip && not (S .rfc7179)))) where
+    (flag : strip ≡ stripsBy h (S .strip) (S .rfc7179)) where
   pub sends-stripped : strip ≡ true → areaSent S (areaOf f h) ≡ stripped (areaOf f h)
   unfolding areaSent
   sends-stripped t = rw (and-true (leb 2 (opLength (h .word))) (S .strip && not (S .rfc7179)) (sym flag ∙ t) .1)
@@ -200,20 +201,18 @@ module _ (S : Ways) (f : List ℕ) (h : Header) (ready : Ready f h) (strip : Boo
       by-test (S .strip && not (S .rfc7179)) (λ u. rw (u, stripped-word (areaOf f h) word)) (λ u. rw u))
 
 -- it is stripped in edition 1 alone
-pub strips-well : (f : List ℕ) (h : Header) (strip flag rfc7179 : Bool) → strip ≡ (leb 2 (opLength (h .word)) && (flag && not rfc7179)) → strip ≡ true
+pub strips-well : (f : List ℕ) (h : Header) (strip flag rfc7179 : Bool) → strip ≡ stripsBy h flag rfc7179 → strip ≡ true
     → (rfc7179 ≡ false → draftRead (areaOf f h) ≡ WellFormed) → draftRead (areaOf f h) ≡ WellFormed
-strips-well f h strip flag rfc7179 so t well =
-    let both = and-true (leb 2 (opLength (h .word))) (flag && not rfc7179) (sym so ∙ t) in
-    well (not-true rfc7179 (and-true flag (not rfc7179) (both .1) .1))
+strips-well f h strip flag rfc7179 so t well = let e = sym so ∙ t in well (not-true rfc7179 (search parts))
 
 module _ (h : Header) (strip rfc7179 : Bool) (n : ℕ) (words : n ≡ opLength (h .word)) where
-  pub strips-none : n < 2 → false ≡ (leb 2 (opLength (h .word)) && (strip && not rfc7179))
+  pub strips-none : n < 2 → false ≡ stripsBy h strip rfc7179
   strips-none few = rw (lt-leb 2 (opLength (h .word)) (omega arith))
 
-  pub strips-not : rfc7179 ≡ true → false ≡ (leb 2 (opLength (h .word)) && (strip && not rfc7179))
+  pub strips-not : rfc7179 ≡ true → false ≡ stripsBy h strip rfc7179
   strips-not e = rw (e, and-no, and-no)
 
-  pub strips-so : 2 ≤ n → rfc7179 ≡ false → strip ≡ (leb 2 (opLength (h .word)) && (strip && not rfc7179))
+  pub strips-so : 2 ≤ n → rfc7179 ≡ false → strip ≡ stripsBy h strip rfc7179
   strips-so more e = rw (le-leb 2 (opLength (h .word)) (omega arith), e, and-yes)
 
 pub ruleset strips-laws = (needs, strips-none, strips-not, strips-so)
@@ -221,38 +220,26 @@ pub ruleset strips-laws = (needs, strips-none, strips-not, strips-so)
 pub ruleset send-laws = (needs, ready, strips-some, strips-well, sends-stripped, sends-whole)
 
 -- a reply, or none
-pub reply-few : {octets : List ℕ} {n : ℕ} {out out1 : List ℕ} → Replied octets n out out1 → n ≤ 2048
-reply-few p = omega (arith, p .few)
-
 unreplied : {a : A.Handled} (n : ℕ) (out : List ℕ) → a ≡ A.dropped n → Replied (a .octets) 0 out out
 unreplied n out e = rw e (record { long = refl; few = omega arith; after = sym (put-none out 0) })
 
 -- 25 and 53
 module _ (S : Ways) (f : List ℕ) (h : Header) (code : ℕ) (inner : List ℕ) (held : inner ≡ innerOf f h) (quiet : Bool) (q : quiet ≡ silenced code inner)
     (out : List ℕ) where
-  said : {b : Bool} → quiet ≡ b → silenced code (innerOf f h) ≡ b
-  said t = sym (rw held at q) ∙ t
-
   pub fault-quiet : quiet ≡ true → Replied (faulted S f h code .octets) 0 out out
-  fault-quiet t = unreplied 25 out (faulted-silent S f h code (said t))
+  fault-quiet t = unreplied 25 out (faulted-silent S f h code (cc))
 
   module _ (t : quiet ≡ false) (R : Ruling) (asks : R ≡ back S h) where
     pub fault-lost : R ≡ Absent → Replied (faulted S f h code .octets) 0 out out
-    fault-lost e = unreplied 25 out (faulted-none S f h code (said t) (sym asks ∙ e))
+    fault-lost e = unreplied 25 out (faulted-none S f h code (cc) (cc))
 
     pub fault-sent : (hop : NextHop) → R ≡ Found hop → (n : ℕ) (out1 : List ℕ) → Replied (errorReply S hop f h code) n out out1
         → Replied (faulted S f h code .octets) n out out1
-    fault-sent hop e n out1 p = rw (faulted-over S f h code (said t) hop (sym asks ∙ e)) p
+    fault-sent hop e n out1 p = rw (faulted-over S f h code (cc) hop (cc)) p
 
 pub ruleset faulted-laws = (needs, ready, inner-held, fault-quiet, fault-lost, fault-sent)
 
 -- 28 and 54
-pub echo-enough : (f : List ℕ) (h : Header) (body : List ℕ) → body ≡ bodyOf (innerOf f h) → 18 ≤ length (bodyOf (innerOf f h)) → 18 ≤ length body
-echo-enough f h body held b = rw held b
-
-pub echo-most : (f : List ℕ) (h : Header) (body : List ℕ) → body ≡ bodyOf (innerOf f h) → length (bodyOf (innerOf f h)) ≤ 530 → length body ≤ 530
-echo-most f h body held b = rw held b
-
 module _ (S : Ways) (f : List ℕ) (h : Header) (clock body : List ℕ) (held : body ≡ bodyOf (innerOf f h)) (mode : ℕ) (m : mode ≡ octet body 4)
     (out : List ℕ) where
   pub echo-other : (mode ≡ 2 → ⊥) → Replied (echoed S clock f h .octets) 0 out out
@@ -260,10 +247,51 @@ module _ (S : Ways) (f : List ℕ) (h : Header) (clock body : List ℕ) (held : 
 
   module _ (o : mode ≡ 2) (R : Ruling) (asks : R ≡ back S h) where
     pub echo-lost : R ≡ Absent → Replied (echoed S clock f h .octets) 0 out out
-    echo-lost e = unreplied 28 out (echoed-none S f h clock (sym (rw held at m) ∙ o) (sym asks ∙ e))
+    echo-lost e = unreplied 28 out (echoed-none S f h clock (cc) (cc))
 
     pub echo-sent : (hop : NextHop) → R ≡ Found hop → (n : ℕ) (out1 : List ℕ) → Replied (echoReply S hop h clock body) n out out1
         → Replied (echoed S clock f h .octets) n out out1
-    echo-sent hop e n out1 p = rw (echoed-over S f h clock (sym (rw held at m) ∙ o) hop (sym asks ∙ e)) (rw held at p)
+    echo-sent hop e n out1 p = rw (echoed-over S f h clock (cc) hop (cc)) (rw held at p)
 
-pub ruleset echoed-laws = (needs, ready, body-held, body-within, echo-enough, echo-most, echo-other, echo-lost, echo-sent)
+pub ruleset echoed-laws = (needs, ready, body-held, body-within, held-least, held-most, echo-other, echo-lost, echo-sent)
+
+-- the two replies towards a next hop: what is written behind the link header makes one write
+module _ (S : Ways) (r : NextHop) (out : List ℕ) (roomy : 576 ≤ length out) where
+  module _ (out1 : List ℕ) (k : ℕ) (long : k ≡ length (link S r)) (linked : out1 ≡ put out 0 (link S r)) where
+    module _ (own : Own) (owned : own ≡ ownOf S) (h : Header) (end : ℕ) (out2 : List ℕ) where
+      reply-made : (number code : ℕ) (body octets : List ℕ) → link S r ++ (replyOctets own (h .ingress) number code ++ body) ≡ octets → length body ≤ 530
+          → end ≡ k + (28 + length body) → out2 ≡ put out1 k (replyOctets own (h .ingress) number code ++ body) → Replied octets end out out2
+      reply-made number code body octets is few ended p =
+          let rest = replyOctets own (h .ingress) number code ++ body in
+          let size : length rest ≡ 28 + length body = length-append (replyOctets own (h .ingress) number code) body in
+          rw (← is)
+          (record {
+            long = rw (ended, long, length-append (link S r) rest, size);
+            few = omega (arith, link-most S r);
+            after = after out out1 out2 0 k (link S r) rest linked p (omega arith) (omega (arith, link-most S r));
+          })
+
+      pub error-made : (f : List ℕ) (code : ℕ) → end ≡ k + (28 + length (errorBody f h))
+          → out2 ≡ put out1 k (replyOctets own (h .ingress) 0x001 code ++ errorBody f h) → Replied (errorReply S r f h code) end out out2
+      unfolding errorReply replyRest replyInner
+      error-made f code = reply-made 0x001 code (errorBody f h) (errorReply S r f h code) (rw owned) (rw length-take (omega arith))
+
+      pub echo-made : (clock body : List ℕ) → length clock ≡ 6 → 18 ≤ length body → length body ≤ 530 → end ≡ k + (28 + length body)
+          → out2 ≡ put out1 k (replyOctets own (h .ingress) 0xFF8 0 ++ echoBody body clock) → Replied (echoReply S r h clock body) end out out2
+      unfolding echoReply replyRest replyInner
+      echo-made clock body six enough few ended =
+          let same = echo-body-length body clock enough six in
+          reply-made 0xFF8 0 (echoBody body clock) (echoReply S r h clock body) (rw owned) (rw same few) (rw same ended)
+
+module _ (S : Ways) (r : NextHop) (out : List ℕ) (roomy : 576 ≤ length out) (k : ℕ) (long : k ≡ length (link S r)) (out1 : List ℕ)
+    (same : length out1 ≡ length out) where
+  pub error-room : k + 156 ≤ length out1
+  error-room = omega (arith, long, link-most S r)
+
+  pub echo-room : (body : List ℕ) → length body ≤ 530 → k + 28 + length body ≤ length out1
+  echo-room body few = omega (arith, long, link-most S r)
+
+pub reply-18 : (out : List ℕ) → 576 ≤ length out → 18 ≤ length out
+reply-18 out h = omega arith
+
+pub ruleset reply-laws = (needs, ready, link-room, reply-18, error-made, echo-made, error-room, echo-room)

@@ -1,24 +1,24 @@
 -- A store as the code reads it: one law for each way out, over what the tests and calls before it say. By computation. Assumes nothing.
+use Rattle.handler.proofs.{Stages.parts, RouteLaws.received-lent, StageLaws.done-dropped}
 use Prim.Native.Nat.{ℕ, _+_, _*_, _/_, _%_, _^_, _≤_, _<_}
 use mathlib.Core.Path.{_≡_, refl, sym, ap, _∙_}
-use mathlib.Core.List.{List}
-use mathlib.Core.Bool.{Bool, true, false, not, _&&_}
+use mathlib.Core.{List.List, Bool.Bool, Bool.true, Bool.false, Bool.not}
 use native.Mathlib.Omega.{arith}
 use borrow.Author.Needs.{needs}
 use borrow.Author.Tests.{lt-ltb, le-ltb, le-leb, lt-leb, eq-eqb, ne-eqb, leb-true, not-true, not-false}
-use lib.Dec.{ltb, leb, eqb}
+use lib.Dec.{leb, eqb}
 use lib.ListN.{length, getD}
-use Rattle.rules.specs.{Settings.nicknameValid, Handling.routed}
+use Rattle.rules.specs.{Settings.Ways, Settings.nicknameValid, Handling.routed}
 use Rattle.rules.specs.declared.{Header.Header, NextHop.NextHop, Ruling.Ruling, Ruling.the-variants.Found, Ruling.the-variants.Absent}
-use Rattle.rules.proofs.TestLaws.{and-true, and-no}
+use Rattle.rules.proofs.TestLaws.{and-no}
 use Rattle.rules.specs.Answer as A
 use Rattle.handler.specs.declared.{answers.Answer.Answer, way.Own.Own, handling.Received.Received}
 use Rattle.handler.specs.declared.{handling.Received.the-variants.Answered, handling.Received.the-variants.Trill}
-use Rattle.handler.specs.{Shapes.droppedBy, Shapes.ownOf, Shapes.onlyFor, Shapes.waysBy, Tasks.receivedBy, Tasks.Receiving, Tasks.Both}
-use Rattle.handler.proofs.{RouteLaws.received-lent, StageLaws.done-dropped}
+use Rattle.handler.specs.{Shapes.droppedBy, Shapes.ownOf, Shapes.onlyFor, Shapes.waysBy}
+use Rattle.handler.specs.{Tasks.receivedBy, Tasks.Receiving, Tasks.Both}
 use Rattle.handler.proofs.TaskLaws.{both-of, kept, tells, replies-none, replies-so, replied, said-forwardable}
 use Rattle.stores.proofs.PlaceLaws.{step-past, step-up, step-stay, place-hinted, place-searched, for-past, for-other}
-use Rattle.stores.specs.Store.{nicknameIn, countIn, valueAt, destAt, hopOf, hopAt, lastAt, hintAt, placeIn, hopFor, waysIn, storeGood, handledIn, Whole}
+use Rattle.stores.specs.Store.{nicknameIn, countIn, destAt, hopOf, hopAt, lastAt, hintAt, placeIn, hopFor, waysIn, storeGood, handledIn, Whole}
 
 -- which words are good
 module _ (w : List ℕ) where
@@ -50,14 +50,10 @@ module _ (w : List ℕ) where
 pub good-whole : (w : List ℕ) → storeGood w ≡ true → Whole w
 unfolding storeGood
 good-whole w e =
-    let a = and-true (leb 4 (length w)) (nicknameValid (nicknameIn w) && (leb (countIn w) 64 && leb (4 + 2 * countIn w) (length w))) e in
-    let b = and-true (nicknameValid (nicknameIn w)) (leb (countIn w) 64 && leb (4 + 2 * countIn w) (length w)) (a .1) in
-    let c = and-true (leb (countIn w) 64) (leb (4 + 2 * countIn w) (length w)) (b .1) in
-    let n = and-true (leb 1 (nicknameIn w)) (leb (nicknameIn w) 0xFFBF) (b .0) in
     record {
-      named = omega (arith, leb-true (nicknameIn w) 0xFFBF (n .1));
-      few = leb-true (countIn w) 64 (c .0);
-      long = leb-true (4 + 2 * countIn w) (length w) (c .1);
+      named = omega (arith, leb-true (nicknameIn w) 0xFFBF (search parts));
+      few = leb-true (countIn w) 64 (search parts);
+      long = leb-true (4 + 2 * countIn w) (length w) (search parts);
     }
 
 pub ruleset store-good-laws = (needs, good-short, good-nobody, good-above, good-many, good-so)
@@ -74,16 +70,16 @@ module _ (w : List ℕ) (n d i : ℕ) where
   module _ (a : i < n) (key : ℕ) (is : key ≡ destAt w i) where
     pub last-other : (key ≡ d → ⊥) → false ≡ lastAt w n d i
     unfolding lastAt
-    last-other h = rw (lt-ltb i n a, ← is, ne-eqb key d h)
+    last-other h = cc (lt-ltb i n a, ne-eqb key d h)
 
     module _ (b : key ≡ d) where
       pub last-end : n ≤ i + 1 → true ≡ lastAt w n d i
       unfolding lastAt
-      last-end h = rw (lt-ltb i n a, ← is, eq-eqb key d b, le-ltb (i + 1) n h)
+      last-end h = cc (lt-ltb i n a, eq-eqb key d b, le-ltb (i + 1) n h)
 
       pub last-next : i + 1 < n → (next : ℕ) → next ≡ destAt w (i + 1) → not (eqb next d) ≡ lastAt w n d i
       unfolding lastAt
-      last-next h next e = rw (lt-ltb i n a, ← is, eq-eqb key d b, lt-ltb (i + 1) n h, e)
+      last-next h next e = cc (lt-ltb i n a, eq-eqb key d b, lt-ltb (i + 1) n h)
 
 pub ruleset last-at-laws = (needs, last-past, last-other, last-end, last-next)
 
@@ -95,44 +91,31 @@ module _ (w : List ℕ) (d : ℕ) where
 
   pub hint-so : 164 ≤ length w → (r word shift : ℕ) → r ≡ word / 2 ^ shift % 64 → word ≡ getD w (132 + d % 256 / 8) 0 → shift ≡ d % 8 * 8 → r ≡ hintAt w d
   unfolding hintAt
-  hint-so h r word shift e a b = rw (le-leb 164 (length w) h, ← a, ← b) e
+  hint-so h r word shift e a b = cc (le-leb 164 (length w) h)
 
 pub ruleset hint-at-laws = (needs, hint-none, hint-so)
 
 -- the record there
 module _ (w : List ℕ) (n d i : ℕ) (a : i < n) (key : ℕ) (is : key ≡ destAt w i) (b : key ≡ d)
     (r : NextHop) (e : r ≡ hopOf (getD w (4 + 2 * i) 0) (getD w (5 + 2 * i) 0)) where
-  gone : r .neighbour ≡ valueAt w i % 65536
-  gone = ap (λ (x : NextHop). x .neighbour) e
-
   pub for-withdrawn : r .neighbour ≡ 0 → Absent ≡ hopFor w n d i
   unfolding hopFor
-  for-withdrawn h = rw (lt-ltb i n a, ← is, eq-eqb key d b, ← gone, h)
+  for-withdrawn h = cc (lt-ltb i n a, eq-eqb key d b)
 
   pub for-found : (r .neighbour ≡ 0 → ⊥) → Found r ≡ hopFor w n d i
   unfolding hopFor hopAt
-  for-found h =
-      let there : (ltb i n && (eqb (destAt w i) d && not (eqb (valueAt w i % 65536) 0))) ≡ true =
-      rw (lt-ltb i n a, ← is, eq-eqb key d b, ne-eqb (valueAt w i % 65536) 0 (λ z. h (gone ∙ z))) in
-      rw there (ap Found e)
+  for-found h = cc (lt-ltb i n a, eq-eqb key d b, ne-eqb (r .neighbour) 0 h)
 
 pub ruleset hop-for-laws = (needs, for-past, for-other, for-withdrawn, for-found)
 
-module _ {w : List ℕ} (whole : Whole w) where
-  pub whole-four : 4 ≤ length w
-  whole-four = omega (arith, whole .long)
-
-  pub whole-long : (n : ℕ) → n ≡ countIn w → 4 + 2 * n ≤ length w
-  whole-long n e = omega (arith, whole .long)
-
-pub ruleset place-in-laws = (needs, place-hinted, place-searched, whole-four, whole-long)
+pub ruleset place-in-laws = (needs, place-hinted, place-searched)
 
 pub told-at : (w : List ℕ) (d i n : ℕ) (own : Own) (strip rfc7179 : Bool) (hop : Ruling) → hop ≡ hopFor w n d i → n ≡ countIn w → i ≡ placeIn w (countIn w) d
     → own ≡ ownOf (waysIn w) → strip ≡ waysIn w .strip → rfc7179 ≡ waysIn w .rfc7179
     → waysBy (record { own = own; strip = strip; rfc7179 = rfc7179; hop = hop }) ≡ onlyFor d (waysIn w)
 told-at w d i n own strip rfc7179 hop e c p o s t = tells (waysIn w) d own strip rfc7179 hop o s t (e ∙ rw (c, p))
 
-pub ruleset store-told-laws = (needs, told-at, whole-four, whole-long)
+pub ruleset store-told-laws = (needs, told-at)
 
 -- the call: a bad store, and a good one
 module _ (w clock f out beside : List ℕ) (ok : Bool) (is : ok ≡ storeGood w) where

@@ -79,10 +79,10 @@ record Next (area : List ℕ) (at fuel : ℕ) (left : List TlvOption) : Type 0 w
 next-of : {fuel : ℕ} {area : List ℕ} {floor at : ℕ} {left : List TlvOption} → Walked fuel area floor at left → at < length area → Next area at fuel left
 next-of (ended le is) h = absurd (omega arith)
 next-of {at = at} (took key size next os lt r is f) h =
-    let n : next - at ≡ optionSize size = omega (arith, r .ends) in
+    let n : next - at ≡ optionSize size = omega arith in
     record {
       after = os;
-      fits = rw (r .its-size) (omega (arith, r .ends, r .within));
+      fits = rw (r .its-size) (omega arith);
       others = rw (r .its-key, r .its-size, ← r .ends) f;
       first = rw (r .its-key, r .its-size, ← n) is;
     }
@@ -118,81 +118,65 @@ module _ (area out₀ : List ℕ) (from : ℕ) where
     pub strip-wrote : length area ≤ at → out ≡ put out₀ from (keptFrom (optionsOf area))
     strip-wrote h = rw (← all-written h) (s .is)
 
-    pub strip-same : length out ≡ length out₀
-    strip-same = s .same
-
     module _ (h : at < length area) where
       next-option : Next area at (s .fuel) (s .left)
       next-option = next-of (walked (s .fuel) area (s .floor) at (s .left) (s .next-ones)) h
 
       -- what the code reads there
-      module _ (w : ℕ) (word : w ≡ be16 area at) where
-        pub strip-key : (key : ℕ) → key ≡ keyOf w → key < 512
-        strip-key key k = omega (arith, k)
+      module _ (w : ℕ) (word : w ≡ be16 area at) (size : ℕ) (n : size ≡ lengthOf w) (step : ℕ) (long : step ≡ optionSize size) where
+        its-step : step ≡ sizeIn area at
+        its-step = long ∙ rw (n, word)
 
-        pub strip-length : (size : ℕ) → size ≡ lengthOf w → size < 128
-        strip-length size n = omega (arith, n)
+        pub strip-next : at + step ≤ length area
+        strip-next = omega (arith, its-step, next-option .fits)
 
-        module _ (size : ℕ) (n : size ≡ lengthOf w) (step : ℕ) (long : step ≡ optionSize size) where
-          its-step : step ≡ sizeIn area at
-          its-step = long ∙ rw (n, word)
+        abbrev lent : List ℕ
+        lent = part area at (at + step - at)
 
-          pub strip-next : at + step ≤ length area
-          strip-next = omega (arith, its-step, next-option .fits)
+        its-part : length lent ≡ step
+        its-part = length-part area at (at + step - at) (omega (arith, strip-next)) ∙ omega arith
 
-          pub strip-from : at ≤ at + step
-          strip-from = omega arith
+        pub strip-fits : to + length lent ≤ length out
+        strip-fits = omega (arith, its-part, strip-next)
 
-          pub strip-less : length area - (at + step) < length area - at
-          strip-less = omega (arith, its-step)
-
-          abbrev lent : List ℕ
-          lent = part area at (at + step - at)
-
-          its-part : length lent ≡ step
-          its-part = length-part area at (at + step - at) (omega (arith, strip-next)) ∙ omega arith
-
-          pub strip-fits : to + length lent ≤ length out
-          strip-fits = omega (arith, its-part, strip-next, s .place, s .fewer, s .same)
-
-          pub strip-on : (table : List ℕ) → Treats table → (key : ℕ) → key ≡ keyOf w → (gone : Bool) → gone ≡ strippedBy (getD table key 0) key size
-              → (out′ : List ℕ) (to′ : ℕ)
-              → to′ ≡ to + length (keptIf gone lent) → out′ ≡ put out to (keptIf gone lent) → Stripping area out₀ from out′ (at + step) to′
-          strip-on table treats key ik gone ig out′ to′ et eo =
-              let a = next-option in
-              let k : List ℕ = keptIf gone lent in
-              let kl = kept-short gone lent in
-              let wl = length-append (s .written) k in
-              let f : suc (s .fuel - 1) ≡ s .fuel = omega (arith, s .enough, its-step, a .fits) in
-              let as-long : at + step - at ≡ sizeIn area at = omega (arith, its-step) in
-              let gone-is : gone ≡ strippable (keyOf (be16 area at)) (lengthOf (be16 area at)) =
-              ig ∙ treats .strip key size (omega (arith, ik)) ∙ rw (ik, n, word) in
-              let here : octetsOf (keptOptions (s .left)) ≡ k ++ octetsOf (keptOptions (a .after)) =
-              cc (a .first, gone-is, as-long, kept-first (optionIn area at) (a .after)) in
-              record {
-                start = omega (arith, s .start);
-                within = strip-next;
-                floor = keyOf (be16 area at) + 1;
-                fuel = s .fuel - 1;
-                enough = omega (arith, s .enough, its-step);
-                left = a .after;
-                next-ones = rw (f, its-step) (a .others);
-                written = s .written ++ k;
-                fewer = omega (arith, wl, kl, its-part, s .fewer);
-                place = omega (arith, wl, et, s .place);
-                is =
-                    eo
-                    ∙ rw (s .is)
-                    (put-put out₀ from (s .written) (omega (arith, s .fewer, s .within)) to k (s .place)
-                    (omega (arith, s .place, s .fewer, kl, its-part, strip-next)));
-                rest = cc (append-assoc (s .written) k (octetsOf (keptOptions (a .after))), here, s .rest);
-                same = ap length eo ∙ length-put out to k (omega (arith, s .same, s .place, s .fewer, kl, its-part, strip-next)) ∙ s .same;
-              }
+        pub strip-on : (table : List ℕ) → Treats table → (key : ℕ) → key ≡ keyOf w → (gone : Bool) → gone ≡ strippedBy (getD table key 0) key size
+            → (out′ : List ℕ) (to′ : ℕ)
+            → to′ ≡ to + length (keptIf gone lent) → out′ ≡ put out to (keptIf gone lent) → Stripping area out₀ from out′ (at + step) to′
+        strip-on table treats key ik gone ig out′ to′ et eo =
+            let a = next-option in
+            let k : List ℕ = keptIf gone lent in
+            let kl = kept-short gone lent in
+            let wl = length-append (s .written) k in
+            let f : suc (s .fuel - 1) ≡ s .fuel = omega (arith, its-step) in
+            let as-long : at + step - at ≡ sizeIn area at = omega (arith, its-step) in
+            let gone-is : gone ≡ strippable (keyOf (be16 area at)) (lengthOf (be16 area at)) =
+            ig ∙ treats .strip key size (omega (arith, ik)) ∙ rw (ik, n, word) in
+            let here : octetsOf (keptOptions (s .left)) ≡ k ++ octetsOf (keptOptions (a .after)) =
+            cc (a .first, gone-is, as-long, kept-first (optionIn area at) (a .after)) in
+            record {
+              start = omega arith;
+              within = strip-next;
+              floor = keyOf (be16 area at) + 1;
+              fuel = s .fuel - 1;
+              enough = omega (arith, its-step);
+              left = a .after;
+              next-ones = rw (f, its-step) (a .others);
+              written = s .written ++ k;
+              fewer = omega (arith, wl, kl, its-part);
+              place = omega (arith, wl, et);
+              is =
+                  eo
+                  ∙ rw (s .is)
+                  (put-put out₀ from (s .written) (omega arith) to k (s .place)
+                  (omega (arith, kl, its-part, strip-next)));
+              rest = cc (append-assoc (s .written) k (octetsOf (keptOptions (a .after))), here, s .rest);
+              same = ap length eo ∙ length-put out to k (omega (arith, kl, its-part, strip-next)) ∙ s .same;
+            }
 
 pub ruleset keep-laws = (needs, gone-end, gone-put, keep-end, keep-put)
 
 pub ruleset strip-options-laws =
-    (needs, strip-begin, strip-ends, strip-wrote, strip-key, strip-length, strip-next, strip-less, strip-fits, strip-on)
+    (needs, strip-begin, strip-ends, strip-wrote, strip-next, strip-fits, strip-on)
 
 -- a whole area: its first word, then what is kept
 pub strip-whole : (area : List ℕ) → draftRead area ≡ WellFormed → stripped area ≡ take 4 area ++ keptFrom (optionsOf area)

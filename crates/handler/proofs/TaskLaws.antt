@@ -1,19 +1,17 @@
 -- A task carried out: the answer without what is replied to an alert, the reply to one, and both together as the rules have them. One law for
 -- each need, over what the calls before it ensure, for `search` to cite. Assumes nothing.
+use Rattle.rules.specs.Handling.{forwardedRest, forwarded, onward, faulted, echoed, routed}
+use Rattle.rules.specs.{Extension.areaSent, Octets.if_then_else_, Settings.Ways, Header.innerOf, Link.link}
+use Rattle.rules.specs.Channel.{replyInner, bodyOf, replyMode, silenced, returnPath, errorReply, echoReply, replyRest, errorBody, echoBody}
+use Rattle.handler.proofs.{Stages.by-equal, StageLaws.by-hop, StageLaws.back, StageLaws.done-dropped}
 use mathlib.Core.Path.{_≡_, refl, sym, ap, _∙_}
 use mathlib.Core.List.{List, [], _++_}
 use mathlib.Core.Bool.{Bool, true, false, not, true≢false}
 use Prim.Native.Nat.{ℕ, _+_, _≤_}
 use native.Mathlib.Omega.{arith}
-use borrow.Author.{Needs.needs, Tests.ne-eqb, Tests.eqb-true, Tests.eqb-false, Tests.not-true}
+use borrow.Author.{Needs.needs, Tests.ne-eqb, Tests.not-true}
 use lib.Dec.{ltb, eqb}
 use lib.ListN.{length, length-append}
-use Rattle.rules.specs.{Octets.if_then_else_, Settings.Ways, Header.innerOf, Link.link}
-use Rattle.rules.specs.Extension as E
-use Rattle.rules.specs.Channel as Ch
-use Rattle.rules.specs.Channel.{bodyOf, replyMode, silenced, returnPath, errorReply, echoReply, replyRest, errorBody, echoBody}
-use Rattle.rules.specs.Handling as Rules
-use Rattle.rules.specs.Handling.{forwarded, onward, faulted, echoed, routed}
 use Rattle.rules.specs.Answer as A
 use Rattle.rules.specs.declared.{NextHop.NextHop, Header.Header, Ruling.Ruling, Ruling.the-variants.Found, Ruling.the-variants.Absent, Alert.Alert}
 use Rattle.rules.specs.declared.Alert.the-variants.{NoAlert, AlertFault, AlertErr, AlertRequest}
@@ -22,12 +20,10 @@ use Rattle.rules.proofs.HandlingLaws.{faulted-silent, faulted-none, faulted-ove
 use Rattle.handler.specs.declared.answers.{Refusal.Refusal, Refusal.the-variants.Refused, Refusal.the-variants.Passed}
 use Rattle.handler.specs.declared.{answers.Answer.Answer, way.Own.Own, way.Told.Told, handling.Task.Task}
 use Rattle.handler.specs.declared.handling.Task.the-variants.{Answered, Forward, Error, Echo}
-use Rattle.handler.specs.Tasks as Tasks
 use Rattle.handler.specs.Tasks.{answerBy, alertRefusal, alertQuiet, transitQuiet, alertedBy, transitBy, transitAt, doneAt, asksBack, Forwardable}
 use Rattle.handler.specs.Tasks.{Routes, FaultTold, EchoAnswered, AlertAnswered, Both}
 use Rattle.handler.specs.Calls.{Replies}
 use Rattle.handler.specs.Shapes.{answerOf, repliedBy, besideBy, viaOf, neighbourOf, ownOf, onlyFor, waysBy, Ready, Replied, Done}
-use Rattle.handler.proofs.StageLaws.{by-hop, back, done-dropped, reply-few}
 
 -- an answer that writes nothing, from its numbers
 pub kept : (a : Answer) (out : List ℕ) → (a .written ≡ 0) × (a .beside ≡ 0) → Done (answerBy a) a out out
@@ -46,25 +42,6 @@ kept a out z =
           «beside_neighbour» = a .«beside_neighbour»;
         }
 
--- what a reply comes to: no reply, or one to the next hop back
-module _ (S : Ways) (f : List ℕ) (h : Header) (P : A.Handled → Type 0) where
-  by-fault : (code : ℕ) → P (A.dropped 25)
-      → ((hop : NextHop) → back S h ≡ Found hop → P (A.wrote 53 (errorReply S hop f h code) (hop .neighbour))) → P (faulted S f h code)
-  by-fault code none some =
-      by-test (silenced code (innerOf f h))
-      (λ t. rw (faulted-silent S f h code t) none)
-      (λ t. by-hop (back S h) (λ q. rw (faulted-none S f h code t q) none) (λ hop q. rw (faulted-over S f h code t hop q) (some hop q)))
-
-  by-echo : (clock : List ℕ) → P (A.dropped 28)
-      → ((hop : NextHop) → back S h ≡ Found hop → P (A.wrote 54 (echoReply S hop h clock (bodyOf (innerOf f h))) (hop .neighbour)))
-      → P (echoed S clock f h)
-  by-echo clock none some =
-      let mode = replyMode (bodyOf (innerOf f h)) in
-      by-test (eqb mode 2)
-      (λ t. let asked = eqb-true mode 2 t in
-      by-hop (back S h) (λ q. rw (echoed-none S f h clock asked q) none) (λ hop q. rw (echoed-over S f h clock asked hop q) (some hop q)))
-      (λ t. rw (echoed-mode S f h clock (eqb-false mode 2 t)) none)
-
 -- a reply has octets, and goes to the next hop that is told
 some-octets : (S : Ways) (r : NextHop) (rest : List ℕ) → eqb (length (link S r ++ rest)) 0 ≡ false
 some-octets S r rest =
@@ -78,34 +55,48 @@ told-back t h hop = go (eqb (h .ingress) (t .own .nickname)) (t .hop)
     go true R e = cc e
     go false R e = rw e
 
-module _ (refusal number via : ℕ) {n : ℕ} {out out1 : List ℕ} where
-  unsent : Replied [] n out out1 → Done (A.dropped refusal) (repliedBy refusal number n via) out out1
-  unsent p = record { answer = rw (p .long); after = p .after; alone = refl }
+-- what a reply comes to: none, or one to the next hop back
+data Reply (refusal number : ℕ) (S : Ways) (via : ℕ) : A.Handled → Type 0 where
+  unsent : Reply refusal number S via (A.dropped refusal)
+  sent : (hop : NextHop) (rest : List ℕ) → via ≡ hop .neighbour → Reply refusal number S via (A.wrote number (link S hop ++ rest) (hop .neighbour))
 
-  sent : (S : Ways) (r : NextHop) (rest : List ℕ) → via ≡ r .neighbour → Replied (link S r ++ rest) n out out1
-      → Done (A.wrote number (link S r ++ rest) (r .neighbour)) (repliedBy refusal number n via) out out1
-  sent S r rest v p = record { answer = rw (p .long, some-octets S r rest, v); after = p .after; alone = refl }
+module _ (t : Told) (f : List ℕ) (h : Header) where
+  abbrev S : Ways
+  S = waysBy t
 
-module _ (t : Told) (f : List ℕ) (h : Header) {n : ℕ} {out out1 : List ℕ} where
-  fault-done : (code : ℕ) → Replied (faulted (waysBy t) f h code .octets) n out out1
-      → Done (faulted (waysBy t) f h code) (repliedBy 25 53 n (neighbourOf t)) out out1
+  fault-reply : (code : ℕ) → Reply 25 53 S (neighbourOf t) (faulted S f h code)
   unfolding errorReply
-  fault-done code =
-      by-fault (waysBy t) f h (λ a. Replied (a .octets) n out out1 → Done a (repliedBy 25 53 n (neighbourOf t)) out out1) code (unsent 25 53 (neighbourOf t))
-      (λ hop q. sent 25 53 (neighbourOf t) (waysBy t) hop (replyRest (waysBy t) (h .ingress) 0x001 code (errorBody f h)) (told-back t h hop q))
+  fault-reply code =
+      by-test (silenced code (innerOf f h)) (λ s. rw (faulted-silent S f h code s) unsent)
+      (λ s. by-hop (back S h) (λ q. rw (faulted-none S f h code s q) unsent)
+      (λ hop q. rw (faulted-over S f h code s hop q) (sent hop (replyRest S (h .ingress) 0x001 code (errorBody f h)) (told-back t h hop q))))
 
-  echo-done : (clock : List ℕ) → Replied (echoed (waysBy t) clock f h .octets) n out out1
-      → Done (echoed (waysBy t) clock f h) (repliedBy 28 54 n (neighbourOf t)) out out1
+  echo-reply : (clock : List ℕ) → Reply 28 54 S (neighbourOf t) (echoed S clock f h)
   unfolding echoReply
-  echo-done clock =
-      by-echo (waysBy t) f h (λ a. Replied (a .octets) n out out1 → Done a (repliedBy 28 54 n (neighbourOf t)) out out1) clock (unsent 28 54 (neighbourOf t))
-      (λ hop q. sent 28 54 (neighbourOf t) (waysBy t) hop (replyRest (waysBy t) (h .ingress) 0xFF8 0 (echoBody (bodyOf (innerOf f h)) clock)) (told-back t h hop q))
+  echo-reply clock =
+      by-equal (replyMode (bodyOf (innerOf f h))) 2
+      (λ two. by-hop (back S h) (λ q. rw (echoed-none S f h clock two q) unsent)
+      (λ hop q. rw (echoed-over S f h clock two hop q)
+      (sent hop (replyRest S (h .ingress) 0xFF8 0 (echoBody (bodyOf (innerOf f h)) clock)) (told-back t h hop q))))
+      (λ other. rw (echoed-mode S f h clock other) unsent)
+
+-- written, it is the answer, or goes beside one
+module _ {refusal number : ℕ} {S : Ways} {via n : ℕ} where
+  reply-done : {a : A.Handled} {out out1 : List ℕ} → Reply refusal number S via a → Replied (a .octets) n out out1
+      → Done a (repliedBy refusal number n via) out out1
+  reply-done unsent p = record { answer = rw (p .long); after = p .after; alone = refl }
+  reply-done (sent hop rest v) p = record { answer = rw (p .long, some-octets S hop rest, v); after = p .after; alone = refl }
+
+  reply-beside : (octets : List ℕ) {to : ℕ} {a : Answer} {y : A.Handled} → Reply refusal number S via y → n ≡ length (y .octets)
+      → a ≡ answerOf (A.wrote 50 octets to) → besideBy a n via ≡ answerOf (A.wroteBoth 50 octets to (y .octets) (y .via))
+  reply-beside octets unsent long made = rw (long, made)
+  reply-beside octets (sent hop rest v) long made = rw (long, some-octets S hop rest, made, v)
 
 -- 21, the alert's 25 and 26, and 50
 module _ (T : Ways) (f : List ℕ) (h : Header) (alert : Alert) (out : List ℕ) (R : Ruling) (asks : R ≡ T .hop (h .egress)) where
   pub transit-lost : (a : Answer) → a ≡ answerOf (A.dropped 21) → R ≡ Absent → Done (transitQuiet T f h alert) a out out
   unfolding transitQuiet
-  transit-lost a is e = done-dropped 21 (rw (transitQuiet, sym asks ∙ e)) is
+  transit-lost a is e = done-dropped 21 (cc) is
 
   module _ (r : NextHop) (found : R ≡ Found r) (x : Refusal) (refuses : x ≡ alertRefusal alert) (a : Answer) where
     pub transit-refused : (n : ℕ) → x ≡ Refused n → a ≡ answerOf (A.dropped n) → Done (transitQuiet T f h alert) a out out
@@ -122,13 +113,13 @@ pub ruleset transit-laws = (needs, transit-lost, transit-refused, transit-sent)
 module _ (t : Told) (f : List ℕ) (h : Header) (n via : ℕ) (v : via ≡ neighbourOf t) (r : Answer) (out out1 : List ℕ) where
   pub error-answered : (code : ℕ) → Replied (faulted (waysBy t) f h code .octets) n out out1 → r ≡ repliedBy 25 53 n via
       → Done (faulted (waysBy t) f h code) r out out1
-  error-answered code p is = rw (is, v) (fault-done t f h code p)
+  error-answered code p is = rw (is, v) (reply-done (fault-reply t f h code) p)
 
   pub echo-answered : (clock : List ℕ) → Replied (echoed (waysBy t) clock f h .octets) n out out1 → r ≡ repliedBy 28 54 n via
       → Done (echoed (waysBy t) clock f h) r out out1
-  echo-answered clock p is = rw (is, v) (echo-done t f h clock p)
+  echo-answered clock p is = rw (is, v) (reply-done (echo-reply t f h clock) p)
 
-pub ruleset reply-answer-laws = (needs, error-answered, echo-answered, reply-few)
+pub ruleset reply-answer-laws = (needs, error-answered, echo-answered)
 
 -- what is left to do
 module _ {nickname : ℕ} {rfc7179 : Bool} {f : List ℕ} {h : Header} {task : Task} (x : Routes nickname rfc7179 f h task) where
@@ -141,9 +132,6 @@ module _ {nickname : ℕ} {rfc7179 : Bool} {f : List ℕ} {h : Header} {task : T
   pub left-530 : task ≡ Echo → length (bodyOf (innerOf f h)) ≤ 530
   left-530 e = rw e at (x .left) .0 .1
 
-pub reply-room : (out : List ℕ) → 2048 ≤ length out → 576 ≤ length out
-reply-room out h = omega arith
-
 -- with nothing beside it
 pub both-of : {a : A.Handled} {r : Answer} {out out1 : List ℕ} (beside : List ℕ) → Done a r out out1 → Both a r out out1 beside beside
 both-of beside d = record { answer = d .answer; after = d .after; after-beside = rw (d .alone) (sym (put-none beside 0)) }
@@ -155,18 +143,18 @@ numbered d = ap (λ (x : Answer). x .number) (d .answer)
 module _ (T B : Ways) (clock f : List ℕ) (h : Header) (P : A.Handled → A.Handled → Type 0) where
   by-transit : (alert : Alert) → P (A.dropped 21) (A.dropped 21)
       → ((r : NextHop) → P (alertQuiet T r f h alert) (alertedBy T B r clock f h alert)) → P (transitQuiet T f h alert) (transitBy T B clock f h alert)
-  unfolding transitQuiet Tasks.transitBy
+  unfolding transitQuiet transitBy
   by-transit alert lost found =
-      by-hop (T .hop (h .egress)) (λ q. rw (transitQuiet, Tasks.transitBy, q) lost) (λ r q. rw (transitQuiet, Tasks.transitBy, q) (found r))
+      by-hop (T .hop (h .egress)) (λ q. rw (transitQuiet, transitBy, q) lost) (λ r q. rw (transitQuiet, transitBy, q) (found r))
 
   by-request : ((n : ℕ) → (n ≡ 50 → ⊥) → P (A.dropped n) (A.dropped n))
       → ((r : NextHop) → P (A.wrote 50 (forwarded T r f h) (r .neighbour))
       (A.wroteBoth 50 (forwarded T r f h) (r .neighbour) (echoed B clock f h .octets) (echoed B clock f h .via)))
       → P (transitQuiet T f h AlertRequest) (transitBy T B clock f h AlertRequest)
   unfolding onward
-  by-request lost sent =
+  by-request lost goes =
       by-transit AlertRequest (lost 21 (omega arith))
-      (λ r. by-test (ltb 2048 (length (forwarded T r f h))) (λ l. rw l (lost 29 (omega arith))) (λ l. rw l (sent r)))
+      (λ r. by-test (ltb 2048 (length (forwarded T r f h))) (λ l. rw l (lost 29 (omega arith))) (λ l. rw l (goes r)))
 
 -- 53 or 25 in place of 50
 module _ (b : Told) (f : List ℕ) (h : Header) (code : ℕ) (a : Answer) (out : List ℕ) where
@@ -187,7 +175,7 @@ module _ (b : Told) (f : List ℕ) (h : Header) (code : ℕ) (a : Answer) (out :
             (λ d. absurd (z (numbered d))) (λ hop d. rw (d .after ∙ put-none before 0) at p);
       }
 
-pub ruleset tell-fault-laws = (needs, tell-21, tell-so, error-answered, reply-few)
+pub ruleset tell-fault-laws = (needs, tell-21, tell-so, error-answered)
 
 -- an echo reply beside 50
 module _ (b : Told) (clock f : List ℕ) (h : Header) (a : Answer) (beside : List ℕ) where
@@ -201,24 +189,20 @@ module _ (b : Told) (clock f : List ℕ) (h : Header) (a : Answer) (beside : Lis
 
   pub echo-so : a .number ≡ 50 → (n via : ℕ) (beside1 : List ℕ) → Replied (echoed (waysBy b) clock f h .octets) n beside beside1 → via ≡ neighbourOf b
       → (r : Answer) → r ≡ besideBy a n via → EchoAnswered (waysBy b) clock f h a r beside beside1
-  unfolding echoReply
   echo-so e n via beside1 p v r is =
       record {
         over = λ T before out.
             by-request T (waysBy b) clock f h (λ quiet over. Done quiet a before out → Both over r before out beside beside1)
             (λ n other d. absurd (other (sym (numbered d) ∙ e)))
-            (λ hop d. record { answer = with-reply (forwarded T hop f h) (hop .neighbour) (d .answer); after = d .after; after-beside = p .after });
+            (λ hop d.
+            record {
+              answer = is ∙ rw v (reply-beside (forwarded T hop f h) (echo-reply b f h clock) (p .long) (d .answer));
+              after = d .after;
+              after-beside = p .after;
+            });
       }
-    where
-      with-reply : (octets : List ℕ) (to : ℕ) → a ≡ answerOf (A.wrote 50 octets to)
-          → r ≡ answerOf (A.wroteBoth 50 octets to (echoed (waysBy b) clock f h .octets) (echoed (waysBy b) clock f h .via))
-      with-reply octets to made =
-          by-echo (waysBy b) f h (λ y. n ≡ length (y .octets) → r ≡ answerOf (A.wroteBoth 50 octets to (y .octets) (y .via))) clock
-          (λ long. is ∙ rw long made)
-          (λ hop q long. is ∙ rw (long, some-octets (waysBy b) hop, made, v, told-back b h hop q))
-          (p .long)
 
-pub ruleset answer-echo-laws = (needs, echo-not, echo-so, reply-few)
+pub ruleset answer-echo-laws = (needs, echo-not, echo-so)
 
 -- an alert that asks for no reply, and one that does
 module _ (T B : Ways) (clock f : List ℕ) (h : Header) where
@@ -250,7 +234,7 @@ module _ {rfc7179 : Bool} {f : List ℕ} {h : Header} {alert : Alert} (x : Forwa
   pub alert-530 : length (bodyOf (innerOf f h)) ≤ 530
   alert-530 = rw e at (x .answerable) .1
 
-pub ruleset answer-alert-laws = (needs, alert-quiet, alert-fault, alert-request, alert-18, alert-530, reply-room)
+pub ruleset answer-alert-laws = (needs, alert-quiet, alert-fault, alert-request, alert-18, alert-530)
 
 pub tells : (S : Ways) (d : ℕ) (own : Own) (strip rfc7179 : Bool) (hop : Ruling) → own ≡ ownOf S → strip ≡ S .strip → rfc7179 ≡ S .rfc7179 → hop ≡ S .hop d
     → waysBy (record { own = own; strip = strip; rfc7179 = rfc7179; hop = hop }) ≡ onlyFor d S
@@ -260,7 +244,7 @@ tells S d own strip rfc7179 hop o s t p = rw (o, s, t, p)
 module _ (S : Ways) (clock f : List ℕ) (h : Header) where
   asks-two : (alert : Alert) (B : Ways) → (asksBack alert ≡ true → B ≡ onlyFor (h .ingress) S)
       → transitAt S clock f h alert ≡ transitBy (onlyFor (h .egress) S) B clock f h alert
-  unfolding Tasks.transitBy onward faulted echoed returnPath forwarded Rules.forwardedRest E.areaSent link errorReply echoReply replyRest Ch.replyInner
+  unfolding transitBy onward faulted echoed returnPath forwarded forwardedRest areaSent link errorReply echoReply replyRest replyInner
   asks-two NoAlert B back = refl
   asks-two (AlertFault code) B back = rw (back refl)
   asks-two AlertErr B back = refl
@@ -288,14 +272,14 @@ module _ (S : Ways) (clock f : List ℕ) (h : Header) where
 -- a reply asks for the ingress alone
 module _ (S : Ways) (f : List ℕ) (h : Header) (t : Told) (said : waysBy t ≡ onlyFor (h .ingress) S) (r : Answer) (out out1 : List ℕ) where
   same-error : (code : ℕ) → faulted S f h code ≡ faulted (waysBy t) f h code
-  unfolding faulted returnPath errorReply replyRest Ch.replyInner link
+  unfolding faulted returnPath errorReply replyRest replyInner link
   same-error code = sym (ap (λ (y : Ways). faulted y f h code) said)
 
   pub back-error : (code : ℕ) → Done (faulted (waysBy t) f h code) r out out1 → Done (faulted S f h code) r out out1
   back-error code d = rw (same-error code) d
 
   same-echo : (clock : List ℕ) → echoed S clock f h ≡ echoed (waysBy t) clock f h
-  unfolding echoed returnPath echoReply replyRest Ch.replyInner link
+  unfolding echoed returnPath echoReply replyRest replyInner link
   same-echo clock = sym (ap (λ (y : Ways). echoed y clock f h) said)
 
   pub back-echo : (clock : List ℕ) → Done (echoed (waysBy t) clock f h) r out out1 → Done (echoed S clock f h) r out out1
@@ -328,4 +312,4 @@ module _ (S : Ways) (clock f : List ℕ) (h : Header) (own : Own) (o : own ≡ o
     pub task-echo : task ≡ Echo → Done (echoed S clock f h) r out out1 → Both (routed S clock f h) r out out1 beside beside
     task-echo e d = rw (comes, e) (both-of beside d)
 
-pub ruleset task-laws = (needs, task-answered, task-forward, task-error, task-echo, left-onward, left-18, left-530, reply-room)
+pub ruleset task-laws = (needs, task-answered, task-forward, task-error, task-echo, left-onward, left-18, left-530)

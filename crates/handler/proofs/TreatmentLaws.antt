@@ -1,11 +1,12 @@
 -- The table of option treatments agrees with the flag definitions: one test computed over all 512 keys, and from it each entry. Assumes nothing.
+use Rattle.handler.proofs.Stages.{parts, by-equal}
 use mathlib.Core.{Path._≡_, Path.refl, Path.sym, Path._∙_, List.List}
 use mathlib.Core.Bool.{Bool, true, false, not, _&&_, _||_, false≢true}
 use Prim.Native.Nat.{ℕ}
-use borrow.Author.{Needs.needs, Tests.eqb-true, Tests.eqb-false, Tests.eq-eqb, Tests.ne-eqb}
+use borrow.Author.{Needs.needs, Tests.eq-eqb, Tests.ne-eqb}
 use lib.{ListN.getD, Dec.eqb}
 use Rattle.rules.specs.Options.{hopByHopCritical, ingressToEgressCritical, implemented, strippable}
-use Rattle.rules.proofs.TestLaws.{by-test, and-true, and-no, and-yes, everyBelow, each-below}
+use Rattle.rules.proofs.TestLaws.{and-no, and-yes, everyBelow, each-below}
 use Rattle.handler.specs.Treatment.{Treats, transitDiscards, egressDiscards, stripApplies, isFlowId, strippedBy}
 
 abbrev pub same : Bool → Bool → Bool
@@ -31,22 +32,16 @@ unfolding strippable implemented
 strippable-other key size h = rw (ne-eqb size 2 h)
 
 -- from the test to each entry
-and-left : (a b : Bool) → (a && b) ≡ true → a ≡ true
-and-left a b e = and-true a b e .0
-
-and-right : (a b : Bool) → (a && b) ≡ true → b ≡ true
-and-right a b e = and-true a b e .1
-
 pub table-treats : (table : List ℕ) → everyBelow 512 (agrees table) ≡ true → Treats table
 table-treats table all =
     record {
-      transit = λ key h. let e = each-below 512 (agrees table) all key h in is-same _ _ (search (and-left, and-right));
-      egress = λ key h. let e = each-below 512 (agrees table) all key h in is-same _ _ (search (and-left, and-right));
+      transit = λ key h. let e = each-below 512 (agrees table) all key h in is-same _ _ (search parts);
+      egress = λ key h. let e = each-below 512 (agrees table) all key h in is-same _ _ (search parts);
       strip = λ key size h.
           let e = each-below 512 (agrees table) all key h in
-          by-test (eqb size 2)
-          (λ two. rw (eqb-true size 2 two, and-yes) (is-same _ _ (search (and-left, and-right))))
-          (λ other. rw (other, and-no, strippable-other key size (eqb-false size 2 other)) (is-same _ _ (search (and-left, and-right))));
+          by-equal size 2
+          (λ two. rw (two, and-yes) (is-same _ _ (search parts)))
+          (λ other. rw (ne-eqb size 2 other, and-no, strippable-other key size other) (is-same _ _ (search parts)));
     }
 
 -- the tests beside the table

@@ -1,20 +1,21 @@
 -- The options of an area as the code reads them: one option by its ways out, the walk (what is found from a place on, with what was met
 -- before, is what is found in all), and the whole area by its summary tests. Assumes nothing.
+use Rattle.handler.proofs.Stages.{parts}
 use mathlib.Core.Path.{_≡_, refl, sym, ap, _∙_}
 use mathlib.Core.List.{List, []}
 use mathlib.Core.Bool.{Bool, true, false, not, _&&_, _||_}
 use Prim.Native.Nat.{ℕ, suc, _+_, _-_, _≤_, _<_}
 use native.Mathlib.Omega.{arith}
 use borrow.Author.{Needs.needs, Tests.eqb-true, Tests.ne-eqb}
-use lib.{Dec.eqb, ListN.length, ListN.getD}
+use lib.ListN.{length, getD}
 use Rattle.rules.specs.Octets.{if_then_else_, be16, part}
 use Rattle.rules.specs.Options as O
 use Rattle.rules.specs.Options.{Taken, Fault, TlvOption, Options, options, fault, keyOf, lengthOf, optionSize, optionFirst, optionAt, optionsFrom, optionsOf}
-use Rattle.rules.specs.Options.{some-key, ie, nc, hopByHopCritical, ingressToEgressCritical, chbh, cite, summarized, draftRead, draftStops}
-use Rattle.rules.proofs.TestLaws.{and-true, and-no, and-yes, or-no, or-assoc}
+use Rattle.rules.specs.Options.{some-key, ie, hopByHopCritical, ingressToEgressCritical, chbh, cite, summarized, draftRead, draftStops}
+use Rattle.rules.proofs.TestLaws.{and-no, and-yes, or-no, or-assoc}
 use Rattle.rules.proofs.OptionLaws.{option-reserved, option-past, option-below, option-equal, option-taken, option-read, options-end, options-fault, options-on}
 use Rattle.handler.specs.declared.{options.Cursor.Cursor, options.AreaRead.AreaRead, options.AreaRead.the-variants.Read}
-use Rattle.handler.specs.declared.{options.AreaRead.the-variants.Faulty}
+use Rattle.handler.specs.declared.options.AreaRead.the-variants.{Faulty}
 use Rattle.handler.specs.Shapes.{readBy, ended, foundBy, walkOf, judgedBy}
 use Rattle.handler.specs.Treatment.{Treats, transitDiscards, egressDiscards}
 
@@ -31,7 +32,7 @@ egress-alone false e x = and-yes e
 egress-alone true e x = sym (x refl)
 
 critical-kinds : (key : ℕ) → hopByHopCritical key ≡ true → ingressToEgressCritical key ≡ false
-critical-kinds key e = let i = eqb-true (ie key) 0 (and-true (eqb (ie key) 0) (eqb (nc key) 0) e .0) in rw (ne-eqb (ie key) 1 (omega (arith, i)))
+critical-kinds key e = let i = eqb-true (ie key) 0 (search parts) in rw (ne-eqb (ie key) 1 (omega arith))
 
 -- one option, by its ways out
 module _ (area : List ℕ) (c : Cursor) (w : ℕ) (word : w ≡ be16 area (c .at)) (n : ℕ) (its-length : n ≡ lengthOf w) where
@@ -87,7 +88,7 @@ module _ (area : List ℕ) (c : Cursor) (w : ℕ) (word : w ≡ be16 area (c .at
 
 pub ruleset egress-met-laws = (needs, egress-not, egress-now)
 
-pub ruleset option-at-laws = (needs, at-reserved, at-past, key-small, at-below, at-equal, at-read)
+pub ruleset option-at-laws = (needs, at-reserved, at-past, at-below, at-equal, at-read)
 
 -- a place in an area, with fuel enough for what is left
 pub record Walking (area : List ℕ) (c : Cursor) : Type 0 where
@@ -143,14 +144,14 @@ module _ (area : List ℕ) (c : Cursor) (w : Walking area c) where
           (λ m q f. let z : _≡_ {A = ℕ} 0 1 = cc in absurd (omega arith))
           (λ key size next f.
           let its = option-read area (c .floor) (c .at) key size next f in
-          let fuel : suc (w .fuel - 1) ≡ w .fuel = omega (arith, w .enough, its .ends) in
+          let fuel : suc (w .fuel - 1) ≡ w .fuel = omega arith in
           let o : TlvOption = record { key = key; size = size; octets = part area (c .at) (next - c .at) } in
           rw (← read-same (ap (readBy c) (sym f) ∙ sym r ∙ e)) (
-            omega (arith, its .ends, its .within),
+            omega arith,
             record {
-              from = omega (arith, w .from, its .ends);
+              from = omega arith;
               fuel = w .fuel - 1;
-              enough = omega (arith, w .enough, its .ends);
+              enough = omega arith;
               rest =
                   cc (
                     fuel,
@@ -186,18 +187,15 @@ module _ (area : List ℕ) (read : AreaRead) (is : foundBy read ≡ walkOf false
     area-ended = by-options (optionsOf area) (λ m q f. cc) (λ os f. cc)
 
     module _ {summary lacks : Bool} (s : summary ≡ chbh area) (m : lacks ≡ (c .hop && not summary)) where
-      lacking : {b : Bool} → lacks ≡ b → (c .hop && not (chbh area)) ≡ b
-      lacking t = sym (rw s at m) ∙ t
-
       pub area-hop : lacks ≡ true → O.Faulty 34 0 ≡ draftRead area
-      area-hop t = sym (area-ended ∙ rw (lacking t))
+      area-hop t = cc area-ended
 
       module _ (t : lacks ≡ false) {summary2 lacks2 : Bool} (s2 : summary2 ≡ cite area) (m2 : lacks2 ≡ (c .egress && not summary2)) where
         pub area-egress : lacks2 ≡ true → O.Faulty 35 0 ≡ draftRead area
-        area-egress t2 = sym (area-ended ∙ rw (lacking t, sym (rw s2 at m2) ∙ t2))
+        area-egress t2 = cc area-ended
 
         pub area-whole : lacks2 ≡ false → O.WellFormed ≡ draftRead area
-        area-whole t2 = sym (area-ended ∙ rw (lacking t, sym (rw s2 at m2) ∙ t2))
+        area-whole t2 = cc area-ended
 
 pub ruleset summarized-laws = (needs, area-faulty, area-hop, area-egress, area-whole)
 
@@ -207,15 +205,15 @@ pub ruleset read-area-laws = (needs, area-short)
 module _ (egress : Bool) (area : List ℕ) (b : Bool) (is : b ≡ chbh area) where
   pub stops-hop : b ≡ true → true ≡ draftStops egress area
   unfolding draftStops
-  stops-hop t = rw (← is, t)
+  stops-hop t = cc
 
   module _ (f : b ≡ false) where
     pub stops-egress : egress ≡ true → (c : Bool) → c ≡ cite area → c ≡ draftStops egress area
     unfolding draftStops
-    stops-egress t c its = rw (← is, f, t, ← its, and-yes c)
+    stops-egress t c its = cc (and-yes c)
 
     pub stops-none : egress ≡ false → false ≡ draftStops egress area
     unfolding draftStops
-    stops-none t = rw (← is, f, t, and-no (cite area))
+    stops-none t = cc (and-no (cite area))
 
 pub ruleset area-stops-laws = (needs, stops-hop, stops-egress, stops-none)

@@ -11,7 +11,6 @@ use Rattle.rules.specs.declared.{NextHop.NextHop, Ruling.the-variants.Found, Ru
 use Rattle.rules.proofs.{OctetLaws.put-none, FrameLaws.length-link, FrameLaws.link-most}
 use Rattle.handler.specs.declared.{judged.Judged.Judged, way.Told.Told, way.WayOut.WayOut}
 use Rattle.handler.specs.{Shapes.linkSize, Shapes.waysBy, Shapes.onlyFor, Shapes.WayDone, Keys.JudgedBy}
-use Rattle.stores.specs.Store as St
 use Rattle.stores.specs.Store.{storeGood, waysIn, wayOutIn, Whole}
 use Rattle.handler.proofs.{StoreLaws.good-whole, ScanLaws.settings-none, ScanLaws.settings-some}
 
@@ -21,24 +20,21 @@ module _ (t : Told) (out : List ℕ) where
   asked = wayOutBy (waysBy t) 0 (length out)
 
   pub out-none : (r : WayOut) → r ≡ record { number = 21; length = 0 } → t .hop ≡ Absent → WayDone asked r out out
-  unfolding W.wayOutBy
-  out-none r is e = rw (W.wayOutBy, e) (record { answer = is; after = sym (put-none out 0) })
+  unfolding wayOutBy
+  out-none r is e = rw (wayOutBy, e) (record { answer = is; after = sym (put-none out 0) })
 
   module _ (q : NextHop) (e : t .hop ≡ Found q) (n : ℕ) (size : n ≡ linkSize (q .vlan)) where
     long : length (link (waysBy t) q) ≡ n
     long = length-link (waysBy t) q ∙ sym size
 
     pub out-short : (r : WayOut) → r ≡ record { number = 2; length = 0 } → length out < n → WayDone asked r out out
-    unfolding W.wayOutBy
-    out-short r is h = rw (W.wayOutBy, e, long, lt-ltb (length out) n h) (record { answer = is; after = sym (put-none out 0) })
-
-    pub out-room : n ≤ length out → linkSize (q .vlan) ≤ length out
-    out-room h = omega arith
+    unfolding wayOutBy
+    out-short r is h = rw (wayOutBy, e, long, lt-ltb (length out) n h) (record { answer = is; after = sym (put-none out 0) })
 
     pub out-written : n ≤ length out → (k : ℕ) (out1 : List ℕ) → k ≡ length (link (waysBy t) q) → out1 ≡ put out 0 (link (waysBy t) q)
         → WayDone asked (record { number = 0; length = k }) out out1
-    unfolding W.wayOutBy
-    out-written h k out1 its p = rw (W.wayOutBy, e, its, long, le-ltb (length out) n h) (record { answer = rw long; after = p })
+    unfolding wayOutBy
+    out-written h k out1 its p = rw (wayOutBy, e, its, long, le-ltb (length out) n h) (record { answer = rw long; after = p })
 
 pub out-fits : (S : Ways) (q : NextHop) (k : ℕ) → k ≡ length (link S q) → k < 4294967296
 out-fits S q k long = omega (arith, long, link-most S q)
@@ -47,7 +43,7 @@ pub ruleset way-out-laws = (needs, out-none, out-short, out-written, out-fits)
 
 -- and by settings octets or a store, of which it is told
 one-asked : (S : Ways) (d room : ℕ) → wayOutBy (onlyFor d S) 0 room ≡ wayOutBy S d room
-unfolding W.wayOutBy link
+unfolding wayOutBy link
 one-asked S d room = refl
 
 module _ (t : Told) (d : ℕ) (S : Ways) (said : waysBy t ≡ onlyFor d S) (out : List ℕ) (r : WayOut) (out′ : List ℕ) where
@@ -56,14 +52,14 @@ module _ (t : Told) (d : ℕ) (S : Ways) (said : waysBy t ≡ onlyFor d S) (out 
 
 module _ (settings : List ℕ) (d : ℕ) (out : List ℕ) (j : Judged) (is : JudgedBy settings d j) (r : WayOut) where
   pub settings-no-way : not (j .good) ≡ true → r ≡ record { number = 1; length = 0 } → WayDone (wayOut settings d (length out)) r out out
-  unfolding W.wayOut
-  settings-no-way n e = rw (W.wayOut, settings-none settings d j is n) (record { answer = e; after = sym (put-none out 0) })
+  unfolding wayOut
+  settings-no-way n e = rw (wayOut, settings-none settings d j is n) (record { answer = e; after = sym (put-none out 0) })
 
   pub settings-way : not (j .good) ≡ false → (out′ : List ℕ) → WayDone (wayOutBy (waysBy (j .told)) 0 (length out)) r out out′
       → WayDone (wayOut settings d (length out)) r out out′
-  unfolding W.wayOut
+  unfolding wayOut
   settings-way n out′ w =
-      rw (W.wayOut, settings-some settings d j is n)
+      rw (wayOut, settings-some settings d j is n)
       (told-way (j .told) d (waysOf (settingsRead settings)) (is .tells (not-false (j .good) n)) out r out′ w)
 
 pub store-whole : (store : List ℕ) {ok : Bool} → ok ≡ storeGood store → not ok ≡ false → Whole store
@@ -71,12 +67,12 @@ store-whole store {ok} is n = good-whole store (sym is ∙ not-false ok n)
 
 module _ (store : List ℕ) (d : ℕ) (out : List ℕ) {ok : Bool} (is : ok ≡ storeGood store) (r : WayOut) where
   pub store-no-way : not ok ≡ true → r ≡ record { number = 1; length = 0 } → WayDone (wayOutIn store d (length out)) r out out
-  unfolding St.wayOutIn
+  unfolding wayOutIn
   store-no-way n e = rw (← is, not-true ok n) (record { answer = e; after = sym (put-none out 0) })
 
   pub store-way : not ok ≡ false → (t : Told) (out′ : List ℕ) → WayDone (wayOutBy (waysBy t) 0 (length out)) r out out′
       → waysBy t ≡ onlyFor d (waysIn store) → WayDone (wayOutIn store d (length out)) r out out′
-  unfolding St.wayOutIn
+  unfolding wayOutIn
   store-way n t out′ w said = rw (← is, not-false ok n) (told-way t d (waysIn store) said out r out′ w)
 
 pub ruleset trill-way-out-laws = (needs, settings-no-way, settings-way)

@@ -1,6 +1,7 @@
 -- `extension::cr_rsv` meets its contract: a mask is a remainder.
-use Rattle.handler.proofs.ExtensionLaws.{bit-laws as laws}
+use Prim.Native.Nat.{_/_, _^_}
+use lib.Bits.{and-mask}
 use Rattle.handler.proofs.extension.cr_rsv as fn
 
 pub cr-rsv-spec : {M : Type 1} → fn.Statement.statement M
-cr-rsv-spec = fn.Tie.close (fn.Tie.spec (λ c. search laws))
+cr-rsv-spec = fn.Tie.close (fn.Tie.spec (λ c. rw (and-mask (c .args .w / 2 ^ 29) 1)))

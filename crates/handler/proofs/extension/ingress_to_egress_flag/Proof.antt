@@ -1,6 +1,7 @@
 -- `extension::ingress_to_egress_flag` meets its contract: a mask is a remainder.
-use Rattle.handler.proofs.ExtensionLaws.{bit-laws as laws}
+use Prim.Native.Nat.{_/_, _^_}
+use lib.Bits.{and-mask}
 use Rattle.handler.proofs.extension.ingress_to_egress_flag as fn
 
 pub ingress-to-egress-flag-spec : {M : Type 1} → fn.Statement.statement M
-ingress-to-egress-flag-spec = fn.Tie.close (fn.Tie.spec (λ c. search laws))
+ingress-to-egress-flag-spec = fn.Tie.close (fn.Tie.spec (λ c. rw (and-mask (c .args .w / 2 ^ 5) 6)))

@@ -1,6 +1,7 @@
 -- `extension::reserved_flag` meets its contract: a mask is a remainder.
-use Rattle.handler.proofs.ExtensionLaws.{bit-laws as laws}
+use Prim.Native.Nat.{_/_, _^_}
+use lib.Bits.{and-mask}
 use Rattle.handler.proofs.extension.reserved_flag as fn
 
 pub reserved-flag-spec : {M : Type 1} → fn.Statement.statement M
-reserved-flag-spec = fn.Tie.close (fn.Tie.spec (λ c. search laws))
+reserved-flag-spec = fn.Tie.close (fn.Tie.spec (λ c. rw (and-mask (c .args .w / 2 ^ 15) 3)))

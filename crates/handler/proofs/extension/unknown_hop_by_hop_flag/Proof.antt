@@ -1,6 +1,7 @@
 -- `extension::unknown_hop_by_hop_flag` meets its contract: a mask is a remainder.
-use Rattle.handler.proofs.ExtensionLaws.{bit-laws as laws}
+use Prim.Native.Nat.{_/_, _^_}
+use lib.Bits.{and-mask}
 use Rattle.handler.proofs.extension.unknown_hop_by_hop_flag as fn
 
 pub unknown-hop-by-hop-flag-spec : {M : Type 1} → fn.Statement.statement M
-unknown-hop-by-hop-flag-spec = fn.Tie.close (fn.Tie.spec (λ c. search laws))
+unknown-hop-by-hop-flag-spec = fn.Tie.close (fn.Tie.spec (λ c. rw (and-mask (c .args .w / 2 ^ 25) 4)))

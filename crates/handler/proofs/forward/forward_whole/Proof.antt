@@ -1,5 +1,5 @@
 -- `forward::forward_whole` meets its contract: the header, and the rest in one copy.
-use Rattle.handler.proofs.Rests.{forward-laws as laws}
+use Rattle.handler.proofs.Stages.{forward-laws as laws}
 use Rattle.handler.proofs.forward.forward_whole as fn
 
 pub forward-whole-spec : {M : Type 1} → fn.Statement.statement M

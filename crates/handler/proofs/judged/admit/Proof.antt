@@ -1,5 +1,5 @@
 -- `judged::admit` meets its contract, by one law of `hopTaken` for each way out.
-use Rattle.handler.proofs.KeyLaws.{admit-laws as laws}
+use Rattle.handler.proofs.JudgeLaws.{admit-laws as laws}
 use Rattle.handler.proofs.judged.admit as fn
 
 pub admit-spec : {M : Type 1} → fn.Statement.statement M

@@ -1,5 +1,5 @@
 -- `judged::flagged` meets its contract, by the tag.
-use Rattle.handler.proofs.FieldWalks.{flagged-laws as laws}
+use Rattle.handler.proofs.ScanLaws.{flagged-laws as laws}
 use Rattle.handler.proofs.judged.flagged as fn
 
 pub flagged-spec : {M : Type 1} → fn.Statement.statement M

@@ -1,11 +1,9 @@
 -- `judged::met` meets its contract. The invariant: what was found, or is found from place i on, is whether the key is met.
-use mathlib.Core.Path.{_≡_}
-use mathlib.Core.Bool.{_||_}
+use mathlib.Core.{Path._≡_, Bool._||_}
 use Prim.Native.Nat.{_-_, _≤_}
-use lib.ListN.{take}
-use lib.Seq.{slice}
+use lib.{ListN.take, Seq.slice}
 use Rattle.handler.specs.Keys.{keyMet}
-use Rattle.handler.proofs.KeyLaws.{met-laws as laws}
+use Rattle.handler.proofs.JudgeLaws.{met-laws as laws}
 use Rattle.handler.proofs.judged.met as fn
 
 abbrev Inv-loop : fn.Tie.InvT-loop

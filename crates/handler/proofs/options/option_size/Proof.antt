@@ -1,10 +1,8 @@
 -- `handler::options::option_size` meets its contract: the mask and the definition agree at each of the 128 Lengths, by one computed test.
 use mathlib.Core.Path.{_≡_, refl}
 use Prim.Native.Nat.{ℕ, _+_, _<_}
-use borrow.Author.Needs.{needs}
-use borrow.Author.Tests.{eqb-true}
-use lib.Bits.{bitAnd}
-use lib.Dec.{eqb}
+use borrow.Author.{Needs.needs, Tests.eqb-true}
+use lib.{Bits.bitAnd, Dec.eqb}
 use Rattle.rules.specs.Options.{optionSize}
 use Rattle.rules.proofs.TestLaws.{each-below}
 use Rattle.handler.proofs.options.option_size as fn

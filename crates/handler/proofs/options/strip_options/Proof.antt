@@ -1,8 +1,7 @@
 -- `handler::options::strip_options` meets its contract. The invariant: what was written, and what is kept of the options from here on, is what is kept in all.
 use Prim.Native.Nat.{_-_}
 use lib.ListN.{length}
-use Rattle.handler.proofs.Strips.{Stripping}
-use Rattle.handler.proofs.Strips.{strip-options-laws as laws}
+use Rattle.handler.proofs.Strips.{Stripping, strip-options-laws as laws}
 use Rattle.handler.proofs.options.strip_options as fn
 
 abbrev Inv-loop : fn.Tie.InvT-loop

@@ -1,8 +1,7 @@
 -- `handler::options::walk_area` meets its contract. The invariant: what the walk finds from here on, with what was met so far, is what it finds in all.
 use Prim.Native.Nat.{_-_}
 use lib.ListN.{length}
-use Rattle.handler.proofs.Walks.{Walking}
-use Rattle.handler.proofs.Walks.{walk-area-laws as laws}
+use Rattle.handler.proofs.Walks.{Walking, walk-area-laws as laws}
 use Rattle.handler.proofs.options.walk_area as fn
 
 abbrev Inv-loop : fn.Tie.InvT-loop

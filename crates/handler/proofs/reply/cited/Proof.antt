@@ -1,5 +1,5 @@
 -- `handler::reply::cited` meets its contract, by one law for each way out.
-use Rattle.handler.proofs.Bodies.{cited-laws as laws}
+use Rattle.handler.proofs.Stages.{cited-laws as laws}
 use Rattle.handler.proofs.reply.cited as fn
 
 pub cited-spec : {M : Type 1} → fn.Statement.statement M

@@ -1,5 +1,5 @@
 -- `reply::error_reply` meets its contract: what is written behind the link header makes one write.
-use Rattle.handler.proofs.Replies.{reply-laws as laws}
+use Rattle.handler.proofs.StageLaws.{reply-laws as laws}
 use Rattle.handler.proofs.reply.error_reply as fn
 
 pub error-reply-spec : {M : Type 1} → fn.Statement.statement M

@@ -1,5 +1,5 @@
 -- `handler::reply::reply_octets` meets its contract: each octet by what `six`, `high` and `low` ensure.
-use Rattle.handler.proofs.Bodies.{reply-octets-laws as laws}
+use Rattle.handler.proofs.Stages.{reply-octets-laws as laws}
 use Rattle.handler.proofs.reply.reply_octets as fn
 
 pub reply-octets-spec : {M : Type 1} → fn.Statement.statement M

@@ -1,5 +1,5 @@
 -- `handler::reply::write_echo` meets its contract: head and body are one write, by the law of the echo.
-use Rattle.handler.proofs.Bodies.{write-echo-laws as laws}
+use Rattle.handler.proofs.Stages.{write-echo-laws as laws}
 use Rattle.handler.proofs.reply.write_echo as fn
 
 pub write-echo-spec : {M : Type 1} → fn.Statement.statement M

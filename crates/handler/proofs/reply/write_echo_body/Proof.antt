@@ -1,5 +1,5 @@
 -- `handler::reply::write_echo_body` meets its contract: the first octet and the rest are one write.
-use Rattle.handler.proofs.Bodies.{write-echo-body-laws as laws}
+use Rattle.handler.proofs.Stages.{write-echo-body-laws as laws}
 use Rattle.handler.proofs.reply.write_echo_body as fn
 
 pub write-echo-body-spec : {M : Type 1} → fn.Statement.statement M

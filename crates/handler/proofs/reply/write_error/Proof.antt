@@ -1,5 +1,5 @@
 -- `handler::reply::write_error` meets its contract: the two copies are one write, by the law of the error.
-use Rattle.handler.proofs.Bodies.{write-error-laws as laws}
+use Rattle.handler.proofs.Stages.{write-error-laws as laws}
 use Rattle.handler.proofs.reply.write_error as fn
 
 pub write-error-spec : {M : Type 1} → fn.Statement.statement M

@@ -1,5 +1,5 @@
 -- `handler::reply::write_received` meets its contract: the two copies are one write, by the law of what is received.
-use Rattle.handler.proofs.Bodies.{write-received-laws as laws}
+use Rattle.handler.proofs.Stages.{write-received-laws as laws}
 use Rattle.handler.proofs.reply.write_received as fn
 
 pub write-received-spec : {M : Type 1} → fn.Statement.statement M

@@ -1,5 +1,5 @@
 -- `handler::reply::write_times` meets its contract: the two writes are one, by the law of times.
-use Rattle.handler.proofs.Bodies.{write-times-laws as laws}
+use Rattle.handler.proofs.Stages.{write-times-laws as laws}
 use Rattle.handler.proofs.reply.write_times as fn
 
 pub write-times-spec : {M : Type 1} → fn.Statement.statement M

@@ -1,5 +1,5 @@
 -- `settings::own_of` meets its contract: the fields behind the first keep nickname and MAC.
-use Rattle.handler.proofs.FieldWalks.{own-of-laws as laws}
+use Rattle.handler.proofs.ScanLaws.{own-of-laws as laws}
 use Rattle.handler.proofs.settings.own_of as fn
 
 pub own-of-spec : {M : Type 1} → fn.Statement.statement M

@@ -1,5 +1,5 @@
 -- `way::write_link` meets its contract, by the VLAN: what follows the MACs is written where they end.
-use Rattle.handler.proofs.Ways.{write-link-laws as laws}
+use Rattle.handler.proofs.Stages.{write-link-laws as laws}
 use Rattle.handler.proofs.way.write_link as fn
 
 pub write-link-spec : {M : Type 1} → fn.Statement.statement M

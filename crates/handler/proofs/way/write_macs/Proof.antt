@@ -1,5 +1,5 @@
 -- `way::write_macs` meets its contract, two writes side by side being one.
-use Rattle.handler.proofs.Ways.{write-macs-laws as laws}
+use Rattle.handler.proofs.Stages.{write-macs-laws as laws}
 use Rattle.handler.proofs.way.write_macs as fn
 
 pub write-macs-spec : {M : Type 1} → fn.Statement.statement M
