@@ -102,47 +102,47 @@ module _ (keys seen : List ℕ) (n key slot mark : ℕ) (k : Kept keys seen n) (
       (λ e. rw (e, getD-set-same keys n key 0 (omega arith), ← is, getD-set-same seen slot (markedBy old mark) 0 in-seen, ← made) (cover-new old mark))
       (λ other. rw (getD-set-other keys n i key 0 other) (still-covered seen slot mark (slotBy mixed) mixed in-seen (k .marked i (omega arith))))
 
-  admitted : {good : Bool} {met : List ℕ} → good ≡ true → met ≡ take n keys ++ (key ∷ []) → Taking good met (n + 1) (set keys n key) seen′
+  admitted : {good : Bool} {met : List ℕ} → good ≡ true → met ≡ take n keys ++ (key ∷ []) → Taking good met true (n + 1) (set keys n key) seen′
   admitted e m =
       record {
-        judged = e ∙ sym (le-leb (n + 1) 64 (omega arith));
+        judged = e;
         now-met = λ _. rw (add-one, m) (take-suc-set keys n key (omega arith));
         kept = λ _. record { keys-long = rw length-set (k .keys-long); seen-long = rw length-set (k .seen-long); few = omega arith; marked = marks };
       }
 
-pub refused : {good : Bool} {met keys seen : List ℕ} → good ≡ false → Taking good met 65 keys seen
-refused e = record { judged = e; now-met = λ h. absurd (omega arith); kept = λ h. absurd (omega arith) }
+pub refused : {good : Bool} {met keys seen : List ℕ} {r : ℕ} → good ≡ false → Taking good met false r keys seen
+refused e = record { judged = e; now-met = λ h. absurd (true≢false (sym h)); kept = λ h. absurd (true≢false (sym h)) }
 
-pub unchanged : {good : Bool} {met keys seen : List ℕ} {n : ℕ} → Kept keys seen n → good ≡ true → met ≡ take n keys → Taking good met n keys seen
-unchanged {n = n} k e same = record { judged = e ∙ sym (le-leb n 64 (k .few)); now-met = λ _. sym same; kept = λ _. k }
+pub unchanged : {good : Bool} {met keys seen : List ℕ} {n : ℕ} → Kept keys seen n → good ≡ true → met ≡ take n keys → Taking good met true n keys seen
+unchanged k e same = record { judged = e; now-met = λ _. sym same; kept = λ _. k }
 
 -- the ways out of one more record, over what the code tests
 module _ (keys seen : List ℕ) (n : ℕ) (v : List ℕ) where
-  abbrev pub AdmitTo : ℕ → List ℕ → List ℕ → Type 0
-  AdmitTo = Taking (hopTaken (take n keys) n v) (withKey (take n keys) v)
+  abbrev pub AdmitTo : Bool → List ℕ → List ℕ → Type 0
+  AdmitTo taken = Taking (hopTaken (take n keys) n v) (withKey (take n keys) v) taken (n + 1)
 
-  pub admit-short : (sized : Bool) → sized ≡ hopSize (length v) → not sized ≡ true → AdmitTo 65 keys seen
+  pub admit-short : (sized : Bool) → sized ≡ hopSize (length v) → not sized ≡ true → AdmitTo false keys seen
   unfolding hopTaken
   admit-short sized is t = refused (rw (← is, not-true sized t))
 
-  pub admit-bad : (good : Bool) → good ≡ hopGood (hopOf v) → not good ≡ true → AdmitTo 65 keys seen
+  pub admit-bad : (good : Bool) → good ≡ hopGood (hopOf v) → not good ≡ true → AdmitTo false keys seen
   unfolding hopTaken
   admit-bad good is t = refused (rw (← is, not-true good t, and-no))
 
-  pub admit-full : n ≡ 64 → AdmitTo 65 keys seen
+  pub admit-full : n ≡ 64 → AdmitTo false keys seen
   unfolding hopTaken
   admit-full e = refused (rw (e, and-no, and-no))
 
   module _ (key mixed slot mark : ℕ) (its-key : key ≡ keyOf (hopOf v)) (its-mix : mixed ≡ mixOf key) (its-slot : slot ≡ slotBy mixed)
       (its-mark : mark ≡ markBy mixed) where
     module _ (new : Bool) (is : new ≡ not (keyMet key (take n keys))) where
-      pub admit-met : not new ≡ true → AdmitTo 65 keys seen
+      pub admit-met : not new ≡ true → AdmitTo false keys seen
       unfolding hopTaken
       admit-met t = refused (rw (← its-key, ← is, not-true new t, and-no, and-no))
 
       pub admit-new : not new ≡ false → slot < 256 → (sized : Bool) → sized ≡ hopSize (length v) → not sized ≡ false → (good : Bool)
           → good ≡ hopGood (hopOf v) → not good ≡ false
-          → (n ≡ 64 → ⊥) → Kept keys seen n → (with : ℕ) → with ≡ markedBy (getD seen slot 0) mark → AdmitTo (n + 1) (set keys n key) (set seen slot with)
+          → (n ≡ 64 → ⊥) → Kept keys seen n → (with : ℕ) → with ≡ markedBy (getD seen slot 0) mark → AdmitTo true (set keys n key) (set seen slot with)
       unfolding hopTaken
       admit-new t h sized e-s s good e-g g room k with e-w =
           let few : n < 64 = omega (arith, room) in
@@ -213,9 +213,9 @@ pub record Judging (s : List ℕ) (from : ℕ) (keys seen : List ℕ) (n at : �
   pub rest : (T : Settings) → T .hops ≡ [] → Rest s (settingsFrom T (fieldsAt s from)) (take n keys) at
 
 -- what the field at a place does to the first n keys
-abbrev pub Step : List ℕ → ℕ → List ℕ → ℕ → ℕ → ℕ → ℕ → List ℕ → List ℕ → Type 0
-Step s at keys n tag next r keys′ seen′ =
-    Taking (fieldTaken (take n keys) n tag (part s (at + 3) (next - (at + 3)))) (keysWith (take n keys) tag (part s (at + 3) (next - (at + 3)))) r keys′ seen′
+abbrev pub Step : List ℕ → ℕ → List ℕ → ℕ → ℕ → ℕ → Bool → ℕ → List ℕ → List ℕ → Type 0
+Step s at keys n tag next taken r keys′ seen′ =
+    Taking (fieldTaken (take n keys) n tag (part s (at + 3) (next - (at + 3)))) (keysWith (take n keys) tag (part s (at + 3) (next - (at + 3)))) taken r keys′ seen′
 
 pub begins : (s : List ℕ) (from : ℕ) → from ≤ length s → Judging s from (replicate 64 0) (replicate 256 0) 0 from
 unfolding serialMet keyMet
@@ -253,22 +253,22 @@ module _ {s : List ℕ} {from : ℕ} {keys seen : List ℕ} {n at : ℕ} (j : Ju
       judged-so : (T : Settings) (e : T .hops ≡ []) {b : Bool} → fieldTaken (take n keys) n tag v ≡ b → continues (j .rest T e .read) (field tag v) ≡ b
       judged-so T e g = continues-taken (j .rest T e .read) v (take n keys) n tag many (j .rest T e .agree) ∙ g
 
-      pub stops : {r : ℕ} {keys′ seen′ : List ℕ} → Step s at keys n tag next r keys′ seen′ → 64 < r → Verdict s from false
-      stops {r} t b T e =
+      pub stops : {r : ℕ} {keys′ seen′ : List ℕ} → Step s at keys n tag next false r keys′ seen′ → Verdict s from false
+      stops t T e =
           let w = j .rest T e in
-          rw (← w .decides, on, from-bad (w .read) (field tag v) (fieldsAt s next) (judged-so T e (t .judged ∙ lt-leb r 64 b)))
+          rw (← w .decides, on, from-bad (w .read) (field tag v) (fieldsAt s next) (judged-so T e (t .judged)))
 
-      pub goes-on : {r : ℕ} {keys′ seen′ : List ℕ} → Step s at keys n tag next r keys′ seen′ → r ≤ 64 → Judging s from keys′ seen′ r next
-      goes-on {r} t b =
+      pub goes-on : {r : ℕ} {keys′ seen′ : List ℕ} → Step s at keys n tag next true r keys′ seen′ → Judging s from keys′ seen′ r next
+      goes-on t =
           record {
-            kept = t .kept b;
+            kept = t .kept refl;
             within = its .within;
             rest = λ T e.
                 let w = j .rest T e in
-                rw (t .now-met b)
+                rw (t .now-met refl)
                 (record {
                   read = withField (w .read) (field tag v);
-                  decides = rw (← from-on (w .read) (field tag v) (fieldsAt s next) (judged-so T e (t .judged ∙ le-leb r 64 b)), ← on) (w .decides);
+                  decides = rw (← from-on (w .read) (field tag v) (fieldsAt s next) (judged-so T e (t .judged)), ← on) (w .decides);
                   agree = agree-with (w .read) tag v (take n keys) (w .agree);
                 });
           }
@@ -277,11 +277,11 @@ module _ {s : List ℕ} {from : ℕ} {keys seen : List ℕ} {n at : ℕ} (j : Ju
       module _ (other : tag ≡ 2 → ⊥) {code : ℕ} (is : code ≡ flagBy tag v) where
         pub flag-stops : (code ≡ 0 → ⊥) → Verdict s from false
         unfolding fieldTaken
-        flag-stops n = stops (refused {keys = keys} {seen = seen} (rw (ne-eqb tag 2 other, ← is) (ne-eqb code 0 n))) (omega arith)
+        flag-stops z = stops (refused {keys = keys} {seen = seen} {r = n} (rw (ne-eqb tag 2 other, ← is) (ne-eqb code 0 z)))
 
         pub flag-on : code ≡ 0 → Judging s from keys seen n next
         unfolding fieldTaken keysWith
-        flag-on z = goes-on (unchanged (j .kept) (rw (ne-eqb tag 2 other, ← is) (eq-eqb code 0 z)) (rw (ne-eqb tag 2 other))) (j .kept .few)
+        flag-on z = goes-on (unchanged (j .kept) (rw (ne-eqb tag 2 other, ← is) (eq-eqb code 0 z)) (rw (ne-eqb tag 2 other)))
 
 -- the first field
 module _ (s : List ℕ) {tag size next : ℕ} (e : fieldAt s 0 ≡ Taken tag size next) where

@@ -190,19 +190,20 @@ module _ (s : List ℕ) (from d : ℕ) (keys seen : List ℕ) (n : ℕ) (best : 
       abbrev v : List ℕ
       v = part s (at + 3) (next - (at + 3))
 
-      module _ (two : tag ≡ 2) (m : ℕ) (keys′ seen′ : List ℕ) (k : Taking (hopTaken (take n keys) n v) (withKey (take n keys) v) m keys′ seen′) where
-        pub scan-hop-bad : (r : Scan) → r .good ≡ false → 64 < m → Scanned s from d r
+      module _ (two : tag ≡ 2) (taken : Bool) (keys′ seen′ : List ℕ) (k : Taking (hopTaken (take n keys) n v) (withKey (take n keys) v) taken (n + 1) keys′ seen′) where
+        pub scan-hop-bad : (r : Scan) → r .good ≡ false → not taken ≡ true → Scanned s from d r
         unfolding fieldTaken keysWith
-        scan-hop-bad r b x = bad-scanned b (J.stops (l .judging) h q t {r = m} {keys′ = keys′} {seen′ = seen′} (rw two k) x)
+        scan-hop-bad r b x = bad-scanned b (J.stops (l .judging) h q t {r = n + 1} {keys′ = keys′} {seen′ = seen′} (rw two (rw (not-true taken x) at k)))
 
-        pub scan-hop : (best′ : Ruling) → best′ ≡ newer d best (hopOf v) → m ≤ 64 → Scanning s from d keys′ seen′ m best′ flags next
+        pub scan-hop : (best′ : Ruling) → best′ ≡ newer d best (hopOf v) → not taken ≡ false → (m : ℕ) → m ≡ n + 1 → Scanning s from d keys′ seen′ m best′ flags next
         unfolding fieldTaken keysWith ruledBy flaggedBy
-        scan-hop best′ e x =
-            record {
-              judging = J.goes-on (l .judging) h q t (rw two k) x;
+        scan-hop best′ e x m is =
+            rw is
+            (record {
+              judging = J.goes-on (l .judging) h q t (rw two (rw (not-false taken x) at k));
               ruled = fold-on (l .ruled) h q t (cc);
               flagged = fold-on (l .flagged) h q t (rw two);
-            }
+            })
 
       module _ (other : tag ≡ 2 → ⊥) (code : ℕ) (is : code ≡ flagBy tag v) where
         pub scan-flag-bad : (r : Scan) → r .good ≡ false → (code ≡ 0 → ⊥) → Scanned s from d r
@@ -221,7 +222,7 @@ module _ (s : List ℕ) (from d : ℕ) (keys seen : List ℕ) (n : ℕ) (best : 
         scan-tag x = flag-is tag v (sym is ∙ x)
 
 pub ruleset scan-laws =
-    (needs, taken, scan-begin, scan-end, scan-cut, scan-hop-bad, scan-hop, newer-past, scan-flag-bad, scan-flag, scan-tag)
+    (needs, taken, scan-begin, scan-end, scan-cut, scan-hop-bad, scan-hop, scan-flag-bad, scan-flag, scan-tag)
 
 -- the record unless it is withdrawn
 pub withdrawn-by : (r best c : Ruling) → best ≡ c → r ≡ unlessWithdrawn c → r ≡ unlessWithdrawn best

@@ -65,11 +65,11 @@ withKey keys v = keys ++ (keyOf (hopOf v) ∷ [])
 unfoldable pub keysWith : List ℕ → ℕ → List ℕ → List ℕ
 keysWith keys tag v = if eqb tag 2 then withKey keys v else keys
 
--- what becomes of the keys: the first r are `met` where the record or field is good; r is above 64 where it is not
-pub record Taking (good : Bool) (met : List ℕ) (r : ℕ) (keys seen : List ℕ) : Type 0 where
-  pub judged : good ≡ leb r 64
-  pub now-met : r ≤ 64 → take r keys ≡ met
-  pub kept : r ≤ 64 → Kept keys seen r
+-- whether a record or field is taken; then the first r keys are `met`
+pub record Taking (good : Bool) (met : List ℕ) (taken : Bool) (r : ℕ) (keys seen : List ℕ) : Type 0 where
+  pub judged : good ≡ taken
+  pub now-met : taken ≡ true → take r keys ≡ met
+  pub kept : taken ≡ true → Kept keys seen r
 
 -- r: whether the fields from a place on go with settings that have no records yet
 abbrev pub Verdict : List ℕ → ℕ → Bool → Type 0

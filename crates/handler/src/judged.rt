@@ -6,7 +6,7 @@ use rules::FieldRead;
 use rules::Ruling;
 ghost use mathlib.Core.Path.{_≡_};
 ghost use mathlib.Core.Bool.{true, false, _||_, not};
-ghost use Prim.Native.Nat.{_<_, _≤_};
+ghost use Prim.Native.Nat.{_+_, _<_, _≤_};
 ghost use lib.ListN.{length, take};
 ghost use Rattle.rules.specs.Fields.{field};
 ghost use Rattle.rules.specs.Settings as S;
@@ -84,19 +84,19 @@ fn fresh(keys: &[u64], n: usize, key: u64, old: u8, mark: u8) -> bool
     !met(keys, n, key)
 }
 
-// The number of records with the one in `v`, or 65 where it is refused.
-fn admit(keys: &mut [u64], seen: &mut [u8], n: usize, v: &[u8]) -> usize
+// Whether the record in `v` goes with the n before it; then its key is kept.
+fn admit(keys: &mut [u64], seen: &mut [u8], n: usize, v: &[u8]) -> bool
     requires { ⌜ Kept (now keys) (now seen) n ⌝ }
-    ensures { λ r. ⌜ Taking (hopTaken (take n (now (keys .entry))) n (now (v .entry))) (withKey (take n (now (keys .entry))) (now (v .entry))) r (now (keys .exit)) (now (seen .exit)) ⌝ }
+    ensures { λ r. ⌜ Taking (hopTaken (take n (now (keys .entry))) n (now (v .entry))) (withKey (take n (now (keys .entry))) (now (v .entry))) r (n + 1) (now (keys .exit)) (now (seen .exit)) ⌝ }
 {
     if !octets::hop_size(v.len()) {
-        return 65;
+        return false;
     }
     if !octets::hop_good(v) {
-        return 65;
+        return false;
     }
     if n == 64 {
-        return 65;
+        return false;
     }
     let key = key_of(v);
     let mixed = mix(key);
@@ -104,11 +104,11 @@ fn admit(keys: &mut [u64], seen: &mut [u8], n: usize, v: &[u8]) -> usize
     let mark = mark_of(mixed);
     let old = seen[slot];
     if !fresh(keys, n, key, old, mark) {
-        return 65;
+        return false;
     }
     keys[n] = key;
     seen[slot] = marked(old, mark);
-    n + 1
+    true
 }
 
 // What the flags among the fields say.
@@ -167,16 +167,12 @@ fn scan_from(s: &[u8], from: usize, d: u16) -> Scan
         };
         let v = &s[at + 3..next];
         if tag == 2 {
-            n = admit(&mut keys, &mut seen, n, v);
-            if 64 < n {
+            if !admit(&mut keys, &mut seen, n, v) {
                 return bad_scan();
             }
-            if octets::be16(v, 0) != d {
-                at = next;
-            } else {
-                best = settings::newer(d, best, v);
-                at = next;
-            }
+            n += 1;
+            best = settings::newer(d, best, v);
+            at = next;
         } else {
             if octets::flag_code(tag, v) != 0 {
                 return bad_scan();

@@ -1,4 +1,4 @@
--- `judged::admit` meets its contract, by one law of `hopTaken` for each way out.
+-- `judged::admit` meets its contract, by one law for each way out. Assumes nothing.
 use Rattle.handler.proofs.JudgeLaws.{admit-laws as laws}
 use Rattle.handler.proofs.judged.admit as fn
 
@@ -6,6 +6,6 @@ pub admit-spec : {M : Type 1} → fn.Statement.statement M
 admit-spec =
     fn.Tie.close
     (fn.Tie.spec
-    (λ c. search laws) (λ c. search laws) (λ c. search laws) (λ c. search laws) (λ c. search laws) (λ c. search laws) (λ c. search laws)
-    (λ c. search laws) (λ c. search laws) (λ c. search laws) (λ c κs. search laws) (λ c. search laws) (λ c. search laws) (λ c. search laws)
-    (λ c. search laws) (λ c. search laws) (λ c. search laws) (λ c. search laws) (λ c. search laws) (λ c. search laws) (λ c. search laws))
+    (λ c κs. search laws) (λ c. search laws) (λ c κs. search laws) (λ c. search laws) (λ c. search laws) (λ c κs. search laws) (λ c κs. search laws)
+    (λ c κs. search laws) (λ c κs. search laws) (λ c. search laws) (λ c κs. search laws) (λ c. search laws) (λ c. search laws) (λ c. search laws)
+    (λ c. search laws) (λ c κs. search laws) (λ c. search laws) (λ c. search laws) (λ c. search laws) (λ c. search laws))
