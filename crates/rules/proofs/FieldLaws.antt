@@ -1,32 +1,33 @@
 -- Laws of fields: one for each outcome of reading a field, what is known of a field that was taken, the fields from a place on by what
 -- stands there, that more fuel changes none of them, and the lengths that tags have. By the tests, and by induction on the fuel. Assumes nothing.
-use mathlib.Core.Path.{_≡_, refl, sym, ap, _∙_}
+use mathlib.Core.Path.{_≡_, refl, sym, _∙_}
 use mathlib.Core.List.{List, [], _∷_}
-use mathlib.Core.Bool.{Bool, true, false, cond}
+use mathlib.Core.Bool.{Bool, false}
 use Prim.Native.Nat.{ℕ, zero, suc, _+_, _-_, _<_, _≤_}
 use native.Mathlib.Omega.{arith}
 use borrow.Author.Needs.{needs}
-use borrow.Author.Tests.{lt-ltb, le-ltb, ltb-true, ltb-false, ne-eqb, lt-leb, le-leb}
-use lib.Dec.{ltb, leb, eqb}
+use borrow.Author.Tests.{lt-ltb, le-ltb, ltb-false}
+use lib.Dec.{leb, eqb}
 use mir.Syntax.{w8}
 use mir.Val.{Fits}
 use lib.ListN.{length, getD}
-use Rattle.rules.specs.Octets.{octet, be16, part}
-use Rattle.rules.specs.Fields.{Field, field, cut, fieldAt, fieldsFrom, fieldsAt, hopSize, lengthGood}
-use Rattle.rules.specs.declared.FieldRead.{FieldRead}
-use Rattle.rules.specs.declared.FieldRead.the-variants.{Taken, Cut}
-use Rattle.rules.proofs.TestLaws.{by-test}
+use Rattle.rules.specs
+use specs.Octets.{octet, be16, part}
+use specs.Fields.{field, cut, fieldAt, fieldsFrom, fieldsAt, hopSize, lengthGood}
+use specs.declared.FieldRead.{FieldRead}
+use specs.declared.FieldRead.the-variants.{Taken, Cut}
+use Rattle.rules.proofs.TestLaws.{tests, by-order, either}
 
 -- reading a field as the code does: `size` is the length that it says
 module _ (s : List ℕ) (at : ℕ) where
   pub field-outside : length s < at → Cut ≡ fieldAt s at
   unfolding fieldAt
-  field-outside h = rw (lt-ltb (length s) (at + 3) (omega arith))
+  field-outside h = let short : length s < at + 3 = omega arith in simp tests
 
   module _ (from : at ≤ length s) where
     pub field-short : length s - at < 3 → Cut ≡ fieldAt s at
     unfolding fieldAt
-    field-short h = rw (lt-ltb (length s) (at + 3) (omega arith))
+    field-short h = let short : length s < at + 3 = omega arith in simp tests
 
     module _ (a : 3 ≤ length s - at) (size : ℕ) (is : size ≡ be16 s (at + 1)) where
       pub field-cut : length s - at - 3 < size → Cut ≡ fieldAt s at
@@ -48,54 +49,48 @@ pub record IsField (s : List ℕ) (at tag size next : ℕ) : Type 0 where
   pub ends : next ≡ at + 3 + size
   pub within : next ≤ length s
 
-both-passed : (a b : Bool) (x : FieldRead) (t n m : ℕ) → cond a Cut (cond b Cut x) ≡ Taken t n m → (b ≡ false) × (x ≡ Taken t n m)
-both-passed false false x t n m e = (refl, e)
-both-passed true b x t n m e = let z : _≡_ {A = ℕ} 0 1 = cc in absurd (omega arith)
-both-passed false true x t n m e = let z : _≡_ {A = ℕ} 0 1 = cc in absurd (omega arith)
+FieldFound : List ℕ → ℕ → FieldRead → Type 0
+FieldFound s at Cut = Unit {0}
+FieldFound s at (Taken tag size next) = IsField s at tag size next
 
 pub field-read : (s : List ℕ) (at t n m : ℕ) → fieldAt s at ≡ Taken t n m → IsField s at t n m
-unfolding fieldAt
-field-read s at t n m e =
-    let end = at + 3 + be16 s (at + 1) in
-    let p = both-passed (ltb (length s) (at + 3)) (ltb (length s) end) (Taken (octet s at) (be16 s (at + 1)) end) t n m e in
-    let et : octet s at ≡ t = cc (p .1) in
-    let en : be16 s (at + 1) ≡ n = cc (p .1) in
-    let em : end ≡ m = cc (p .1) in
-    record { its-tag = et; its-size = en; ends = omega (arith, em, en); within = omega (arith, em, ltb-false (length s) end (p .0)) }
+unfolding fieldAt FieldFound
+field-read s at t n m e = rw e at found
+  where
+    found : FieldFound s at (fieldAt s at)
+    found = search (either (FieldFound s at), ltb-false)
 
 -- the fields from a place on
 module _ (fuel : ℕ) (s : List ℕ) (at : ℕ) where
   pub fields-end : length s ≤ at → fieldsFrom (suc fuel) s at ≡ []
   unfolding fieldsFrom
-  fields-end h = rw (fieldsFrom, le-ltb at (length s) h)
+  fields-end h = simp (fieldsFrom, tests)
 
   pub fields-cut : at < length s → fieldAt s at ≡ Cut → fieldsFrom (suc fuel) s at ≡ cut ∷ []
   unfolding fieldsFrom
-  fields-cut h e = rw (fieldsFrom, lt-ltb at (length s) h, e)
+  fields-cut h e = simp (fieldsFrom, tests, e)
 
   pub fields-on : (tag size next : ℕ) → at < length s → fieldAt s at ≡ Taken tag size next
       → fieldsFrom (suc fuel) s at ≡ field tag (part s (at + 3) size) ∷ fieldsFrom fuel s next
   unfolding fieldsFrom
-  fields-on tag size next h e = rw (fieldsFrom, lt-ltb at (length s) h, e)
+  fields-on tag size next h e = simp (fieldsFrom, tests, e)
 
 -- a fuel that reaches the end of the octets is as good as any other that does
 module _ (s : List ℕ) where
   pub fields-fuel : (g g′ at : ℕ) → length s ≤ at + g → length s ≤ at + g′ → fieldsFrom (suc g) s at ≡ fieldsFrom (suc g′) s at
-  fields-fuel zero g′ at h h′ = fields-end 0 s at (omega arith) ∙ sym (fields-end g′ s at (omega arith))
-  fields-fuel (suc g) zero at h h′ = fields-end (suc g) s at (omega arith) ∙ sym (fields-end 0 s at (omega arith))
+  fields-fuel zero g′ at h h′ = let done : length s ≤ at = omega arith in rw (fields-end 0, fields-end g′)
+  fields-fuel (suc g) zero at h h′ = let done : length s ≤ at = omega arith in rw (fields-end (suc g), fields-end 0)
   fields-fuel (suc g) (suc g′) at h h′ =
-      by-test (ltb at (length s))
-      (λ b. inside (ltb-true at (length s) b) (fieldAt s at) refl (λ next k. fields-fuel g g′ next (omega (arith, k)) (omega (arith, k))))
-      (λ b. let e = ltb-false at (length s) b in fields-end (suc g) s at e ∙ sym (fields-end (suc g′) s at e))
-    where
-      inside : at < length s → (w : FieldRead) → fieldAt s at ≡ w → ((next : ℕ) → at + 3 ≤ next → fieldsFrom (suc g) s next ≡ fieldsFrom (suc g′) s next)
-          → fieldsFrom (suc (suc g)) s at ≡ fieldsFrom (suc (suc g′)) s at
-      inside l Cut e ih = fields-cut (suc g) s at l e ∙ sym (fields-cut (suc g′) s at l e)
-      inside l (Taken tag size next) e ih =
-          let i = field-read s at tag size next e in
-          fields-on (suc g) s at tag size next l e
-          ∙ ap (λ (fs : List Field). field tag (part s (at + 3) size) ∷ fs) (ih next (omega (arith, i .ends)))
-          ∙ sym (fields-on (suc g′) s at tag size next l e)
+      by-order at (length s)
+      (λ l.
+      elim (fieldAt s at) as (λ w. fieldAt s at ≡ w → fieldsFrom (suc (suc g)) s at ≡ fieldsFrom (suc (suc g′)) s at) [
+        | Cut ↦ λ e. simp fields-cut
+        | Taken tag size next ↦ λ e.
+            let i = field-read s at tag size next e in
+            let later = fields-fuel g g′ next (omega arith) (omega arith) in
+            rw (fields-on (suc g) s at tag size next l e, fields-on (suc g′) s at tag size next l e, later)
+      ] refl)
+      (λ e. simp fields-end)
 
   pub fields-whole : (at g : ℕ) → length s ≤ at + g → fieldsFrom (suc g) s at ≡ fieldsAt s at
   fields-whole at g h = fields-fuel g (length s) at h (omega arith)
@@ -139,15 +134,15 @@ module _ (tag size : ℕ) where
   module _ (one : tag ≡ 1 → ⊥) (two : tag ≡ 2 → ⊥) (three : tag ≡ 3 → ⊥) (four : tag ≡ 4 → ⊥) where
     pub length-unknown : (tag ≡ 5 → ⊥) → (tag ≡ 6 → ⊥) → false ≡ lengthGood tag size
     unfolding lengthGood
-    length-unknown n m = rw (ne-eqb tag 1 one, ne-eqb tag 2 two, ne-eqb tag 3 three, ne-eqb tag 4 four, ne-eqb tag 5 n, ne-eqb tag 6 m)
+    length-unknown n m = simp tests
 
   module _ (five : tag ≡ 5) where
     pub length-short : size < 2 → false ≡ lengthGood tag size
     unfolding lengthGood
-    length-short h = rw (five, lt-leb 2 size h)
+    length-short h = simp (five, tests)
 
     pub length-frame : 2 ≤ size → leb size 2050 ≡ lengthGood tag size
     unfolding lengthGood
-    length-frame h = rw (five, le-leb 2 size h)
+    length-frame h = simp (five, tests)
 
 pub ruleset length-good-laws = (needs, length-switch, length-hop, length-flag, length-edition, length-clock, length-unknown, length-short, length-frame)

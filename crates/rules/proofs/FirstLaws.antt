@@ -6,16 +6,16 @@ use mathlib.Core.Bool.{true, false}
 use mathlib.Core.Option.{none}
 use Prim.Native.Nat.{ℕ, _-_}
 use native.Mathlib.Omega.{arith}
-use borrow.Author.Tests.{ltb-true, ltb-false}
-use lib.Dec.{ltb, eqb}
 use lib.ListN.{length}
-use Rattle.rules.specs.Octets.{part}
-use Rattle.rules.specs.Fields.{Field, field, cut, fieldAt, fieldsAt, fields}
-use Rattle.rules.specs.Settings.{Settings, switchOf, withField, opens, opened, continues, settingsFrom, settingsOf}
-use Rattle.rules.specs.Campus.{known}
-use Rattle.rules.specs.declared.FieldRead.the-variants.{Taken, Cut}
-use Rattle.rules.proofs.TestLaws.{by-test}
-use Rattle.rules.proofs.FieldLaws.{field-read, fields-at-end, fields-at-cut, fields-at-on}
+use Rattle.rules.specs
+use specs.Octets.{part}
+use specs.Fields.{Field, field, cut, fieldAt, fieldsAt, fields}
+use specs.Settings.{Settings, switchOf, withField, opens, opened, continues, settingsFrom, settingsOf}
+use specs.Campus.{known}
+use specs.declared.FieldRead.the-variants.{Taken, Cut}
+use Rattle.rules.proofs
+use proofs.TestLaws.{by-order, either}
+use proofs.FieldLaws.{field-read, fields-at-end, fields-at-cut, fields-at-on}
 
 pub continues-cut : (T : Settings) → continues T cut ≡ false
 unfolding continues
@@ -35,20 +35,10 @@ module _ (s : List ℕ) (f : Field) (fs : List Field) (is : fields s ≡ f ∷ f
   unfolding settingsOf
   settings-open o = rw (settingsOf, is, o)
 
-settings-none : (s : List ℕ) → fields s ≡ [] → settingsOf s ≡ none
-unfolding settingsOf
-settings-none s is = rw (settingsOf, is)
-
-opens-cut : opens cut ≡ false
-unfolding opens
-opens-cut = refl
-
 pub settings-cut : (s : List ℕ) → fieldAt s 0 ≡ Cut → false ≡ known (settingsOf s)
-unfolding fields
+unfolding fields settingsOf opens
 settings-cut s e =
-    by-test (ltb 0 (length s))
-    (λ t. rw (settings-shut s cut [] (fields-at-cut s 0 (ltb-true 0 (length s) t) e) opens-cut))
-    (λ t. rw (settings-none s (fields-at-end s 0 (ltb-false 0 (length s) t))))
+    by-order 0 (length s) (λ some-octet. rw (settingsOf, fields-at-cut s 0 some-octet e)) (λ empty. rw (settingsOf, fields-at-end s 0 empty))
 
 module _ (s : List ℕ) {tag size next : ℕ} (e : fieldAt s 0 ≡ Taken tag size next) where
   pub first : fields s ≡ field tag (part s 3 (next - 3)) ∷ fieldsAt s next
@@ -66,10 +56,7 @@ module _ {A : Type 0} (own : ℕ → ℕ → A) where
   switch-with : (S : Settings) (f : Field) → own (withField S f .nickname) (withField S f .mac) ≡ own (S .nickname) (S .mac)
   unfolding withField
   switch-with S cut = refl
-  switch-with S (field tag v) =
-      by-test (eqb tag 2)
-      (λ e. rw e)
-      (λ e. by-test (eqb tag 3) (λ f. rw (e, f)) (λ f. by-test (eqb tag 6) (λ g. rw (e, f, g)) (λ g. rw (e, f, g))))
+  switch-with S (field tag v) = search (either (λ (T : Settings). own (T .nickname) (T .mac) ≡ own (S .nickname) (S .mac)))
 
   pub switch-fold : (S : Settings) (fs : List Field) → own (foldl withField S fs .nickname) (foldl withField S fs .mac) ≡ own (S .nickname) (S .mac)
   switch-fold S [] = refl

@@ -1,34 +1,32 @@
 -- One law for each outcome of a handling's stages, how long what is written is, and which numbers refuse a frame. By the tests in their
 -- order. Assumes nothing.
-use mathlib.Core.Path.{_≡_, refl}
+use mathlib.Core.Path.{_≡_}
 use mathlib.Core.List.{List}
-use mathlib.Core.Bool.{Bool, true, false, not, _&&_, _||_, cond}
+use mathlib.Core.Bool.{true, false, _||_}
 use mathlib.Core.Option.{none, some}
 use Prim.Native.Nat.{ℕ, _+_, _<_, _≤_}
 use native.Mathlib.Omega.{arith}
-use borrow.Author.Tests.{lt-ltb, le-ltb, eq-eqb, ne-eqb, ltb-false}
-use lib.Dec.{ltb, leb, eqb}
+use borrow.Author.Tests.{ltb-false}
+use lib.Dec.{ltb}
 use lib.ListN.{length, length-append, length-take}
-use Rattle.rules.specs.Octets.{be48}
-use Rattle.rules.specs.Settings.{Settings, Ways, waysOf, settingsOf}
-use Rattle.rules.specs.Link.{link, linkLength, linkEthertype, ethertypeTrill}
-use Rattle.rules.specs.Header.{version, multi, hopCount, anyRBridge, readFrame, innerStart, areaOf, innerOf, headerRefusal, weAreEgress}
-use Rattle.rules.specs.Options.{WellFormed, Faulty}
-use Rattle.rules.specs.Extension.{areaRead, areaStops, areaSent}
-use Rattle.rules.specs.Answer.{dropped, droppedAt, wrote, wroteBoth, delivered}
-use Rattle.rules.specs.Channel.{ethertypeChannel, ethertypeIsIs, protocolError, protocolEcho, innerEthertype, chv, protocol, na}
-use Rattle.rules.specs.Channel.{err, bodyOf, replyMode, echoRead, channelRead, silenced, returnPath, errorReply, echoReply}
-use Rattle.rules.specs.Handling.{forwardedRest, forwarded, onward, alertOf, alerted, transit, faulted, echoed, channelled, untagged}
-use Rattle.rules.specs.Handling.{toAllEgressRBridges, decapsulated, routed, handling, frameMost, besideLeast, handledWith, handled}
-use Rattle.rules.specs.declared.NextHop.{NextHop}
-use Rattle.rules.specs.declared.Header.{Header}
-use Rattle.rules.specs.declared.Ruling.the-variants.{Found, Absent}
-use Rattle.rules.specs.declared.FrameRead.the-variants.{Trill, Unreadable}
-use Rattle.rules.specs.declared.ChannelRead.{ChannelRead}
-use Rattle.rules.specs.declared.ChannelRead.the-variants.{Fault, BadErr, ErrorHeard, BadEcho, EchoRequest}
-use Rattle.rules.proofs.TestLaws.{or-false, and-no}
-use Rattle.rules.proofs.FrameLaws.{link-most}
-use Rattle.rules.proofs.ReplyLaws.{length-reply, echo-body-length}
+use Rattle.rules.specs
+use specs.Settings.{Settings, Ways, waysOf, settingsOf}
+use specs.Link.{link}
+use specs.Header.{anyRBridge, readFrame, innerStart, areaOf, innerOf, headerRefusal, weAreEgress}
+use specs.Options.{WellFormed, Faulty}
+use specs.Extension.{areaRead, areaStops, areaSent}
+use specs.Answer.{dropped, droppedAt, wrote, wroteBoth, delivered}
+use specs.Channel.{ethertypeIsIs, innerEthertype, bodyOf, replyMode, echoRead, channelRead, silenced, returnPath, errorReply, echoReply}
+use specs.Handling.{forwardedRest, forwarded, onward, alertOf, alerted, transit, faulted, echoed, channelled, untagged, toAllEgressRBridges, decapsulated}
+use specs.Handling.{routed, handling, frameMost, besideLeast, handledWith, handled}
+use specs.declared.{NextHop.NextHop, Header.Header}
+use specs.declared.Ruling.the-variants.{Found, Absent}
+use specs.declared.FrameRead.the-variants.{Trill, Unreadable}
+use specs.declared.ChannelRead.the-variants.{Fault, BadErr, ErrorHeard, EchoRequest}
+use Rattle.rules.proofs
+use proofs.TestLaws.{tests, apart, by-test, either, or-left, or-right, and-no}
+use proofs.FrameLaws.{link-most, frame-found}
+use proofs.ReplyLaws.{length-reply, echo-body-length}
 
 module _ (S : Ways) (f : List ℕ) (h : Header) where
   module _ (clock : List ℕ) where
@@ -43,12 +41,12 @@ module _ (S : Ways) (f : List ℕ) (h : Header) where
   module _ (r : NextHop) (beside : List ℕ) (besideVia : ℕ) where
     pub onward-long : frameMost < length (forwarded S r f h) → onward S r f h beside besideVia ≡ dropped 29
     unfolding onward
-    onward-long n = rw (lt-ltb frameMost (length (forwarded S r f h)) n)
+    onward-long n = simp tests
 
     pub onward-sent : length (forwarded S r f h) ≤ frameMost
         → onward S r f h beside besideVia ≡ wroteBoth 50 (forwarded S r f h) (r .neighbour) beside besideVia
     unfolding onward
-    onward-sent n = rw (le-ltb frameMost (length (forwarded S r f h)) n)
+    onward-sent n = simp tests
 
   module _ (code : ℕ) where
     pub faulted-silent : silenced code (innerOf f h) ≡ true → faulted S f h code ≡ dropped 25
@@ -67,17 +65,17 @@ module _ (S : Ways) (f : List ℕ) (h : Header) where
   module _ (clock : List ℕ) where
     pub echoed-mode : (replyMode (bodyOf (innerOf f h)) ≡ 2 → ⊥) → echoed S clock f h ≡ dropped 28
     unfolding echoed
-    echoed-mode e = rw (echoed, ne-eqb (replyMode (bodyOf (innerOf f h))) 2 e)
+    echoed-mode e = simp tests
 
     module _ (asked : replyMode (bodyOf (innerOf f h)) ≡ 2) where
       pub echoed-none : returnPath S (h .ingress) ≡ Absent → echoed S clock f h ≡ dropped 28
       unfolding echoed
-      echoed-none e = rw (echoed, eq-eqb (replyMode (bodyOf (innerOf f h))) 2 asked, e)
+      echoed-none e = simp (tests, echoed, e)
 
       pub echoed-over : (r : NextHop) → returnPath S (h .ingress) ≡ Found r
           → echoed S clock f h ≡ wrote 54 (echoReply S r h clock (bodyOf (innerOf f h))) (r .neighbour)
       unfolding echoed
-      echoed-over r e = rw (echoed, eq-eqb (replyMode (bodyOf (innerOf f h))) 2 asked, e)
+      echoed-over r e = simp (tests, echoed, e)
 
 -- how long what is written is
 module _ (S : Ways) (r : NextHop) (f : List ℕ) (h : Header) where
@@ -85,7 +83,7 @@ module _ (S : Ways) (r : NextHop) (f : List ℕ) (h : Header) where
   unfolding forwarded forwardedRest
   length-forwarded =
       let n = length-append (areaSent S (areaOf f h)) (innerOf f h) in
-      rw (length-append (link S r)) (omega (arith, n))
+      rw (length-append (link S r)) (omega arith)
 
   -- T-01: "The longest replies become 174 and 576."
   pub length-error : (code : ℕ) → length (errorReply S r f h code) ≤ 174
@@ -97,56 +95,53 @@ module _ (S : Ways) (r : NextHop) (f : List ℕ) (h : Header) where
   length-echo clock body c b = rw (length-reply, echo-body-length body clock b c)
 
 -- only an echo request of 18 to 530 octets is found to be one
-passed-over : (b : Bool) (x y : ChannelRead) → (x ≡ EchoRequest → _≡_ {A = ℕ} 0 1) → cond b x y ≡ EchoRequest → (b ≡ false) × (y ≡ EchoRequest)
-passed-over false x y other e = (refl, e)
-passed-over true x y other e = let z = other e in absurd (omega arith)
-
 pub echo-ranged : (body : List ℕ) → echoRead body ≡ EchoRequest → (18 ≤ length body) × (length body ≤ 530)
 unfolding echoRead
 echo-ranged body e =
-    let o = or-false (ltb (length body) 18) (ltb 530 (length body)) (passed-over _ BadEcho _ (λ z. cc) e .0) in
-    (ltb-false (length body) 18 (o .0), ltb-false 530 (length body) (o .1))
+    by-test (ltb (length body) 18 || ltb 530 (length body)) (λ t. apart (cc (rw t at e))) (λ t. search (ltb-false, or-left, or-right))
 
 pub channel-echo : (inner : List ℕ) → channelRead inner ≡ EchoRequest → echoRead (bodyOf inner) ≡ EchoRequest
 unfolding channelRead
-channel-echo inner e =
-    let e1 = passed-over (not (eqb (innerEthertype inner) ethertypeChannel) && not (eqb (innerEthertype inner) ethertypeIsIs)) (Fault 2) _ (λ z. cc) e .1 in
-    let e2 = passed-over (ltb (length inner) 22) (Fault 1) _ (λ z. cc) e1 .1 in
-    let e3 = passed-over (not (eqb (chv inner) 0)) (Fault 3) _ (λ z. cc) e2 .1 in
-    let e4 = passed-over (eqb (na inner) 1) (Fault 4) _ (λ z. cc) e3 .1 in
-    let e5 = passed-over (not (eqb (protocol inner) protocolError) && not (eqb (protocol inner) protocolEcho)) (Fault 5) _ (λ z. cc) e4 .1 in
-    let e6 = passed-over (not (eqb (protocol inner) protocolError) && not (eqb (err inner) 0)) BadErr _ (λ z. cc) e5 .1 in
-    passed-over (eqb (protocol inner) protocolError) ErrorHeard _ (λ z. cc) e6 .1
+channel-echo inner = search (either (λ c. c ≡ EchoRequest → echoRead (bodyOf inner) ≡ EchoRequest), fault, bad, heard) depth 12
+  where
+    fault : (code : ℕ) → Fault code ≡ EchoRequest → echoRead (bodyOf inner) ≡ EchoRequest
+    fault code e = apart cc
+
+    bad : BadErr ≡ EchoRequest → echoRead (bodyOf inner) ≡ EchoRequest
+    bad e = apart cc
+
+    heard : ErrorHeard ≡ EchoRequest → echoRead (bodyOf inner) ≡ EchoRequest
+    heard e = apart cc
 
 -- the stages of an egress, by outcome
 module _ (S : Ways) (clock f : List ℕ) (h : Header) where
   pub inner-short : length (innerOf f h) < 18 → decapsulated S clock f h ≡ dropped 22
   unfolding decapsulated
-  inner-short a = simp (lt-ltb (length (innerOf f h)) 18 a)
+  inner-short a = simp tests
 
   module _ (a : 18 ≤ length (innerOf f h)) where
     pub inner-untagged : untagged (innerOf f h) ≡ true → decapsulated S clock f h ≡ dropped 23
     unfolding decapsulated
-    inner-untagged b = simp (le-ltb (length (innerOf f h)) 18 a, b)
+    inner-untagged b = simp (tests, b)
 
     module _ (b : untagged (innerOf f h) ≡ false) where
       pub inner-any : h .egress ≡ anyRBridge → toAllEgressRBridges (innerOf f h) ≡ false → decapsulated S clock f h ≡ dropped 24
       unfolding decapsulated
-      inner-any c d = simp (le-ltb (length (innerOf f h)) 18 a, b, eq-eqb (h .egress) anyRBridge c, d)
+      inner-any c d = simp (tests, b, d)
 
       pub inner-delivered : (h .egress ≡ anyRBridge → ⊥) → toAllEgressRBridges (innerOf f h) ≡ false
           → decapsulated S clock f h ≡ delivered 51 (innerStart h) (length (innerOf f h))
       unfolding decapsulated
-      inner-delivered c d = simp (le-ltb (length (innerOf f h)) 18 a, b, ne-eqb (h .egress) anyRBridge c, d)
+      inner-delivered c d = simp (tests, b, d)
 
       module _ (d : toAllEgressRBridges (innerOf f h) ≡ true) where
         pub inner-up : innerEthertype (innerOf f h) ≡ ethertypeIsIs → decapsulated S clock f h ≡ delivered 52 (innerStart h) (length (innerOf f h))
         unfolding decapsulated
-        inner-up g = simp (le-ltb (length (innerOf f h)) 18 a, b, d, and-no, eq-eqb (innerEthertype (innerOf f h)) ethertypeIsIs g)
+        inner-up g = simp (tests, b, d, and-no)
 
         pub inner-channel : (innerEthertype (innerOf f h) ≡ ethertypeIsIs → ⊥) → decapsulated S clock f h ≡ channelled S clock f h (channelRead (innerOf f h))
         unfolding decapsulated
-        inner-channel g = simp (le-ltb (length (innerOf f h)) 18 a, b, d, and-no, ne-eqb (innerEthertype (innerOf f h)) ethertypeIsIs g)
+        inner-channel g = simp (tests, b, d, and-no)
 
   pub routed-faulty : (number place : ℕ) → areaRead S (areaOf f h) ≡ Faulty number place → routed S clock f h ≡ droppedAt number place
   unfolding routed
@@ -168,11 +163,11 @@ module _ (S : Ways) (clock f : List ℕ) (h : Header) where
 
   pub handling-refused : readFrame f ≡ Trill h → (headerRefusal (S .mac) f h ≡ 0 → ⊥) → handling S clock f ≡ dropped (headerRefusal (S .mac) f h)
   unfolding handling
-  handling-refused e a = rw (handling, e, ne-eqb (headerRefusal (S .mac) f h) 0 a)
+  handling-refused e a = simp (tests, handling, e)
 
   pub handling-routed : readFrame f ≡ Trill h → headerRefusal (S .mac) f h ≡ 0 → handling S clock f ≡ routed S clock f h
   unfolding handling
-  handling-routed e a = rw (handling, e, eq-eqb (headerRefusal (S .mac) f h) 0 a)
+  handling-routed e a = simp (tests, handling, e)
 
 pub handling-unread : (S : Ways) (clock f : List ℕ) (n : ℕ) → readFrame f ≡ Unreadable n → handling S clock f ≡ dropped n
 unfolding handling
@@ -182,26 +177,26 @@ handling-unread S clock f n e = rw (handling, e)
 module _ (S : Ways) (clock : List ℕ) (room besideRoom : ℕ) (f : List ℕ) where
   pub clock-bad : (length clock ≡ 6 → ⊥) → handledWith S clock room besideRoom f ≡ dropped 1
   unfolding handledWith
-  clock-bad a = simp (ne-eqb (length clock) 6 a)
+  clock-bad a = simp tests
 
   module _ (a : length clock ≡ 6) where
     pub room-short : room < frameMost → handledWith S clock room besideRoom f ≡ dropped 2
     unfolding handledWith
-    room-short b = simp (eq-eqb (length clock) 6 a, lt-ltb room frameMost b)
+    room-short b = simp tests
 
     module _ (b : frameMost ≤ room) where
       pub beside-short : besideRoom < besideLeast → handledWith S clock room besideRoom f ≡ dropped 37
       unfolding handledWith
-      beside-short c = simp (eq-eqb (length clock) 6 a, le-ltb room frameMost b, lt-ltb besideRoom besideLeast c)
+      beside-short c = simp tests
 
       module _ (c : besideLeast ≤ besideRoom) where
         pub frame-long : frameMost < length f → handledWith S clock room besideRoom f ≡ dropped 3
         unfolding handledWith
-        frame-long d = simp (eq-eqb (length clock) 6 a, le-ltb room frameMost b, le-ltb besideRoom besideLeast c, lt-ltb frameMost (length f) d)
+        frame-long d = simp tests
 
         pub frame-handled : length f ≤ frameMost → handledWith S clock room besideRoom f ≡ handling S clock f
         unfolding handledWith
-        frame-handled d = simp (eq-eqb (length clock) 6 a, le-ltb room frameMost b, le-ltb besideRoom besideLeast c, le-ltb frameMost (length f) d)
+        frame-handled d = simp tests
 
 module _ (settings clock : List ℕ) (room besideRoom : ℕ) (f : List ℕ) where
   pub settings-bad : settingsOf settings ≡ none → handled settings clock room besideRoom f ≡ dropped 1
@@ -212,35 +207,5 @@ module _ (settings clock : List ℕ) (room besideRoom : ℕ) (f : List ℕ) wher
   unfolding handled
   settings-good S e = rw (handled, e)
 
--- the numbers of what is refused before 50
-pub record HeaderNumber (n : ℕ) : Type 0 where
-  pub most : n ≤ 18
-  pub least : 1 ≤ n → 12 ≤ n
-
-one-number : (b : Bool) (n x : ℕ) → 12 ≤ n → n ≤ 18 → HeaderNumber x → HeaderNumber (cond b n x)
-one-number true n x lo hi hx = record { most = hi; least = λ _. lo }
-one-number false n x lo hi hx = hx
-
-pub header-number : (S : Ways) (f : List ℕ) (h : Header) → HeaderNumber (headerRefusal (S .mac) f h)
-unfolding headerRefusal
-header-number S f h =
-    one-number (not (eqb (be48 f 0) (S .mac))) 12 _ (omega arith) (omega arith)
-    (one-number (not (eqb (version (h .word)) 0)) 13 _ (omega arith) (omega arith)
-    (one-number (eqb (multi (h .word)) 1) 14 _ (omega arith) (omega arith)
-    (one-number (eqb (h .ingress) 0 || leb 0xFFC0 (h .ingress)) 15 _ (omega arith) (omega arith)
-    (one-number (eqb (h .egress) 0 || ltb 0xFFC0 (h .egress)) 16 _ (omega arith) (omega arith)
-    (one-number (eqb (hopCount (h .word)) 0) 17 _ (omega arith) (omega arith)
-    (one-number (ltb (length f) (innerStart h)) 18 0 (omega arith) (omega arith) (record { most = omega arith; least = λ k. omega arith })))))))
-
-unread-one : (a b c d : Bool) (g : Header) (n : ℕ)
-    → cond a (Unreadable 10) (cond b (Unreadable 10) (cond c (Unreadable 11) (cond d (Unreadable 10) (Trill g)))) ≡ Unreadable n → (10 ≤ n) × (n ≤ 11)
-unread-one true b c d g n e = let q : 10 ≡ n = cc in (omega arith, omega arith)
-unread-one false true c d g n e = let q : 10 ≡ n = cc in (omega arith, omega arith)
-unread-one false false true d g n e = let q : 11 ≡ n = cc in (omega arith, omega arith)
-unread-one false false false true g n e = let q : 10 ≡ n = cc in (omega arith, omega arith)
-unread-one false false false false g n e = let z : _≡_ {A = ℕ} 0 1 = cc in absurd (omega arith)
-
 pub unread-number : (f : List ℕ) (n : ℕ) → readFrame f ≡ Unreadable n → (10 ≤ n) × (n ≤ 11)
-unfolding readFrame
-unread-number f n e =
-    unread-one (ltb (length f) 14) (ltb (length f) (linkLength f)) (not (eqb (linkEthertype f) ethertypeTrill)) (ltb (length f) (linkLength f + 6)) _ n e
+unread-number f n e = rw e at (frame-found f)

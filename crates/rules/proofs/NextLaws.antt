@@ -3,14 +3,12 @@ use mathlib.Core.Path.{_≡_, refl, ap, _∙_}
 use mathlib.Core.List.{List, [], _∷_}
 use mathlib.Core.Bool.{true, false}
 use Prim.Native.Nat.{ℕ}
-use borrow.Author.Tests.{eq-eqb, ne-eqb}
-use lib.Dec.{eqb}
 use lib.ListN.{length}
-use Rattle.rules.specs.Settings.{Settings}
-use Rattle.rules.specs.Answer.{Handled}
-use Rattle.rules.specs.Campus.{Kind, reply, Waiting, writesReply, repliesMade, inCampus, staying, waitingAfter, over, next, sentOn}
-use Rattle.rules.specs.Campus.{firstWaiting, nextAfter}
-use Rattle.rules.proofs.TestLaws.{and-no}
+use Rattle.rules.specs
+use specs.Settings.{Settings}
+use specs.Answer.{Handled}
+use specs.Campus.{Kind, reply, Waiting, writesReply, repliesMade, inCampus, staying, waitingAfter, over, next, sentOn, firstWaiting, nextAfter}
+use Rattle.rules.proofs.TestLaws.{tests}
 
 -- the replies that a handling makes
 module _ (a : Handled) where
@@ -21,11 +19,11 @@ module _ (a : Handled) where
   module _ (e : writesReply (a .number) ≡ false) where
     pub made-beside : (length (a .beside) ≡ 0 → ⊥) → repliesMade a ≡ record { towards = a .besideVia; frame = a .beside } ∷ []
     unfolding repliesMade
-    made-beside n = rw (e, ne-eqb (length (a .beside)) 0 n)
+    made-beside n = simp (e, tests)
 
     pub made-nothing : length (a .beside) ≡ 0 → repliesMade a ≡ []
     unfolding repliesMade
-    made-nothing n = rw (e, eq-eqb (length (a .beside)) 0 n)
+    made-nothing n = simp (e, tests)
 
 module _ (switches : List Settings) where
   -- those of them that stay in the campus
@@ -43,19 +41,6 @@ module _ (switches : List Settings) where
     stays-left e = rw e
 
   module _ (a : Handled) where
-    -- whether what is forwarded goes on
-    pub sent-on : a .number ≡ 50 → inCampus switches (a .via) ≡ true → sentOn switches a ≡ true
-    unfolding sentOn
-    sent-on e t = rw (eq-eqb (a .number) 50 e, t)
-
-    pub sent-left : inCampus switches (a .via) ≡ false → sentOn switches a ≡ false
-    unfolding sentOn
-    sent-left t = rw t (and-no (eqb (a .number) 50))
-
-    pub sent-none : (a .number ≡ 50 → ⊥) → sentOn switches a ≡ false
-    unfolding sentOn
-    sent-none n = rw (ne-eqb (a .number) 50 n)
-
     -- the frame that was forwarded, else the reply that has waited longest, else nothing
     module _ (kind : Kind) (q : List Waiting) where
       pub next-on : sentOn switches a ≡ true → nextAfter switches kind q a ≡ next (a .via) kind (a .octets) (waitingAfter switches q a)

@@ -1,8 +1,8 @@
 -- Laws of octet strings: what is written reads back, reading across a seam, and buffers after one write or two. By computation and append laws.
 -- Assumes nothing.
-use mathlib.Core.Path.{_≡_, ap, _∙_}
+use mathlib.Core.Path.{_≡_}
 use mathlib.Core.List.{List, [], _++_, append-assoc, append-nil}
-use Prim.Native.Nat.{ℕ, _+_, _%_, _<_, _≤_}
+use Prim.Native.Nat.{ℕ, _+_, _<_, _≤_}
 use native.Mathlib.Omega.{arith}
 use native.Mathlib.Nat.{zero-add, add-zero, add-assoc}
 use lib.ListN.{length, take, drop, length-append, length-drop, take-append-drop, List·getD-append}
@@ -16,10 +16,10 @@ be16-octets16 n t fits = omega arith
 -- reading before and after a seam
 module _ (s t : List ℕ) where
   pub octet-before : (at : ℕ) → at < length s → octet (s ++ t) at ≡ octet s at
-  octet-before at h = ap (λ (x : ℕ). x % 256) (List·getD-append s t 0 at h)
+  octet-before at h = rw (List·getD-append s t 0 at h)
 
   pub octet-after : (n : ℕ) → octet (s ++ t) (length s + n) ≡ octet t n
-  octet-after n = ap (λ (x : ℕ). x % 256) (getD-append-add s t n 0)
+  octet-after n = rw (getD-append-add s t n 0)
 
   pub be16-before : (at : ℕ) → at + 1 < length s → be16 (s ++ t) at ≡ be16 s at
   be16-before at h = rw (octet-before at (omega arith), octet-before (at + 1) h)
@@ -29,12 +29,15 @@ module _ (s t : List ℕ) where
       let e : length s + n + 1 ≡ length s + (n + 1) = omega arith in
       rw (e, octet-after n, octet-after (n + 1))
 
+  pub be16-at : be16 (s ++ t) (length s) ≡ be16 t 0
+  be16-at = rw add-zero at (be16-after 0)
+
 -- a part of an octet string reads as the string does from its start on
 pub octet-drop : (s : List ℕ) (n at : ℕ) → octet (drop n s) at ≡ octet s (n + at)
-octet-drop s n at = ap (λ (x : ℕ). x % 256) (getD-drop n s at 0)
+octet-drop s n at = rw (getD-drop n s at 0)
 
 pub octet-part : (s : List ℕ) (n size at : ℕ) → at < size → octet (part s n size) at ≡ octet s (n + at)
-octet-part s n size at h = ap (λ (x : ℕ). x % 256) (getD-take size (drop n s) at 0 h) ∙ octet-drop s n at
+octet-part s n size at h = rw (getD-take size (drop n s) at 0 h) (octet-drop s n at)
 
 pub length-part : (s : List ℕ) (n size : ℕ) → n + size ≤ length s → length (part s n size) ≡ size
 length-part s n size h = length-take-le size (drop n s) (rw length-drop (omega arith))

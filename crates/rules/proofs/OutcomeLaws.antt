@@ -2,35 +2,35 @@
 use mathlib.Core.Path.{_≡_}
 use mathlib.Core.List.{List}
 use Prim.Native.Nat.{ℕ, _<_, _≤_}
-use borrow.Author.Tests.{lt-ltb, le-ltb}
+use borrow.Author.Tests.{leb-true}
 use native.Mathlib.Omega.{arith}
 use lib.ListN.{length}
-use Rattle.rules.specs.Campus.{Described, refused, accepted, described, plainRun, traceOctets, traceLeast, refusal, someEdition2, traceNeeded, campus}
-use Rattle.rules.proofs.TestLaws.{by-test}
+use Rattle.rules.specs.Campus.{Described, refused, accepted, described, plainRun, traceOctets, traceLeast, refusal, traceNeeded, campus}
+use Rattle.rules.proofs.TestLaws.{tests, either}
 
 module _ (file : List ℕ) (room : ℕ) where
   pub campus-short : room < traceLeast → campus file room ≡ refusal 49
   unfolding campus
-  campus-short h = rw (lt-ltb room traceLeast h)
+  campus-short h = simp tests
 
   module _ (h : traceLeast ≤ room) where
     pub campus-refused : (code : ℕ) → described file ≡ refused code → campus file room ≡ refusal code
     unfolding campus
-    campus-refused code e = rw (campus, le-ltb room traceLeast h, e)
+    campus-refused code e = simp (campus, tests, e)
 
     module _ (d : Described) (e : described file ≡ accepted d) where
       pub campus-needed : room < traceNeeded d → campus file room ≡ refusal 49
       unfolding campus
-      campus-needed n = rw (campus, le-ltb room traceLeast h, e, lt-ltb room (traceNeeded d) n)
+      campus-needed n = simp (campus, tests, e)
 
       pub campus-run : traceNeeded d ≤ room → campus file room ≡ record { code = 0; count = length (plainRun d); trace = traceOctets (plainRun d) }
       unfolding campus
-      campus-run n = rw (campus, le-ltb room traceLeast h, e, le-ltb room (traceNeeded d) n)
+      campus-run n = simp (campus, tests, e)
 
 -- every description needs the 640 octets at least
 pub least-needed : (d : Described) → traceLeast ≤ traceNeeded d
 unfolding traceNeeded
-least-needed d = by-test (someEdition2 (d .switches)) (λ e. rw e (omega arith)) (λ e. rw e (omega arith))
+least-needed d = search (either (λ n. traceLeast ≤ n), leb-true)
 
 pub campus-accepted : (file : List ℕ) (room : ℕ) (d : Described) → described file ≡ accepted d → traceNeeded d ≤ room
     → campus file room ≡ record { code = 0; count = length (plainRun d); trace = traceOctets (plainRun d) }

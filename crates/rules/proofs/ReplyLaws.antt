@@ -5,29 +5,28 @@ use mathlib.Core.List.{List, [], _++_}
 use mathlib.Core.Bool.{true}
 use Prim.Native.Nat.{ℕ, _+_, _/_, _<_, _≤_}
 use native.Mathlib.Omega.{arith}
-use borrow.Author.Tests.{le-ltb, eq-eqb, ne-eqb, eqb-false}
-use lib.Dec.{eqb}
+use borrow.Author.Tests.{le-ltb, ne-eqb}
 use lib.ListN.{length, length-append, length-take, length-drop}
-use Rattle.rules.specs.Octets.{be16}
-use Rattle.rules.specs.Settings.{Ways}
-use Rattle.rules.specs.Link.{link}
-use Rattle.rules.specs.Header.{readFrame, innerOf}
-use Rattle.rules.specs.Channel.{protocolError, protocolEcho, protocol, na, spid, spidReply, echoRead}
-use Rattle.rules.specs.Channel.{channelRead, silenced, replyInner, replyRest, echoBody}
-use Rattle.rules.specs.declared.NextHop.{NextHop}
-use Rattle.rules.specs.declared.Header.{Header}
-use Rattle.rules.specs.declared.FrameRead.the-variants.{Trill}
-use Rattle.rules.specs.declared.ChannelRead.the-variants.{ErrorHeard, EchoHeard}
-use Rattle.rules.proofs.TestLaws.{by-test, or-yes}
-use Rattle.rules.proofs.FrameLaws.{IsLink, read-with-header, inner-with-header}
+use Rattle.rules.specs
+use specs.Octets.{be16}
+use specs.Settings.{Ways}
+use specs.Link.{link}
+use specs.Header.{readFrame, innerOf}
+use specs.Channel.{protocolError, protocolEcho, protocol, na, spid, spidReply, echoRead, channelRead, silenced, replyInner, replyRest, echoBody}
+use specs.declared.{NextHop.NextHop, Header.Header}
+use specs.declared.FrameRead.the-variants.{Trill}
+use specs.declared.ChannelRead.the-variants.{ErrorHeard, EchoHeard}
+use Rattle.rules.proofs
+use proofs.TestLaws.{tests, by-equal, or-yes}
+use proofs.FrameLaws.{IsLink, read-with-header, inner-with-header}
 
-module _ (S : Ways) (own : S .nickname < 65536) (ingress : ℕ) (hi : ingress < 65536) (number code : ℕ) (body : List ℕ) (l : List ℕ) (is : IsLink l) where
+module _ (S : Ways) (own : S .nickname < 65536) {ingress : ℕ} (hi : ingress < 65536) (number code : ℕ) (body : List ℕ) {l : List ℕ} (is : IsLink l) where
   abbrev pub replyHeader : Header
   replyHeader = record { place = length l; word = 0x003F; egress = ingress; ingress = S .nickname }
 
   pub reply-read : readFrame (l ++ replyRest S ingress number code body) ≡ Trill replyHeader
   unfolding replyRest
-  reply-read = read-with-header l is 0x003F ingress (S .nickname) (omega arith) hi own (replyInner S number code body)
+  reply-read = read-with-header is (omega arith) hi own (replyInner S number code body)
 
   pub reply-inner : innerOf (l ++ replyRest S ingress number code body) replyHeader ≡ replyInner S number code body
   unfolding replyRest
@@ -37,7 +36,7 @@ module _ (S : Ways) (own : S .nickname < 65536) (ingress : ℕ) (hi : ingress < 
 pub error-heard : (S : Ways) (code : ℕ) (body : List ℕ) → code < 16 → channelRead (replyInner S protocolError code body) ≡ ErrorHeard
 unfolding replyInner channelRead
 error-heard S code body h =
-    let i : List ℕ = replyInner S protocolError code body in
+    let i = replyInner S protocolError code body in
     let flags : be16 i 20 ≡ 0xC000 + code = omega arith in
     let high : (0xC000 + code) / 8192 ≡ 6 = omega arith in
     simp (le-ltb (length i) 22 (omega arith), ne-eqb (na i) 1 (rw (flags, high) (omega arith)))
@@ -47,7 +46,7 @@ pub echo-heard : (S : Ways) (body : List ℕ) → 18 ≤ length body → length 
     → channelRead (replyInner S protocolEcho 0 body) ≡ EchoHeard
 unfolding replyInner channelRead echoRead
 echo-heard S body h k e =
-    simp (le-ltb (length (replyInner S protocolEcho 0 body)) 22 (omega arith), le-ltb (length body) 18 h, le-ltb 530 (length body) k, e)
+    simp (le-ltb (length (replyInner S protocolEcho 0 body)) 22 (omega arith), tests, e)
 
 -- an echo body answered: as long, with SPID 4
 pub echo-body-length : (body clock : List ℕ) → 18 ≤ length body → length clock ≡ 6 → length (echoBody body clock) ≡ length body
@@ -63,7 +62,7 @@ echo-body-spid body clock = omega arith
 pub error-unanswered : (code : ℕ) (inner : List ℕ) → 4 ≤ code → code ≤ 5 → protocol inner ≡ protocolError → silenced code inner ≡ true
 unfolding silenced
 error-unanswered code inner h k e =
-    by-test (eqb code 4) (λ t. simp (t, e, or-yes)) (λ t. simp (t, eq-eqb code 5 (omega (arith, eqb-false code 4 t)), e, or-yes))
+    by-equal code 4 (λ is. simp (tests, e, or-yes)) (λ n. let is : code ≡ 5 = omega arith in simp (tests, e, or-yes))
 
 pub length-reply : (S : Ways) (r : NextHop) (ingress number code : ℕ) (body : List ℕ)
     → length (link S r ++ replyRest S ingress number code body) ≡ length (link S r) + 28 + length body

@@ -3,34 +3,33 @@
 -- edition 1 only the egress replies, and nothing stands beside what is forwarded. By reading back what is written. Assumes nothing.
 use mathlib.Core.Path.{_≡_, refl, sym, ap, _∙_}
 use mathlib.Core.List.{List, [], _∷_, _++_, List·Memᴰ, List·Memᴰ·not-nil, List·Memᴰ·eq-of-singleton}
+use mathlib.Core.Logic.{_⊎_, inl, inr}
 use mathlib.Core.Bool.{Bool, true, false, _||_, true≢false}
 use mathlib.Core.Option.{Option, none}
 use Prim.Native.Nat.{ℕ, suc, _<_, _≤_}
 use native.Mathlib.Omega.{arith}
-use borrow.Author.Tests.{eq-eqb, ne-eqb}
+use borrow.Author.Tests.{eq-eqb, ne-eqb, eqb-true, not-true}
 use lib.Dec.{eqb}
 use lib.ListN.{length}
-use Rattle.rules.specs.Settings.{Settings, ruling, nextHop, Ways, waysOf}
-use Rattle.rules.specs.Link.{link}
-use Rattle.rules.specs.Header.{hopCount, anyRBridge, readFrame, innerOf, weAreEgress}
-use Rattle.rules.specs.Answer.{Handled, wroteBoth}
-use Rattle.rules.specs.Channel.{protocolError, protocolEcho, bodyOf, spid, spidReply, channelRead, returnPath}
-use Rattle.rules.specs.Channel.{replyInner, replyRest, errorBody, echoBody, errorReply, echoReply}
-use Rattle.rules.specs.Handling.{forwarded, besideLeast, handling}
-use Rattle.rules.specs.Campus.{switchNamed, Waiting, writesReply, repliesMade, hopReceived, egressReceived}
-use Rattle.rules.specs.declared.NextHop.{NextHop}
-use Rattle.rules.specs.declared.Header.{Header}
-use Rattle.rules.specs.declared.Ruling.{Ruling}
-use Rattle.rules.specs.declared.Ruling.the-variants.{Found, Absent}
-use Rattle.rules.proofs.TestLaws.{by-test}
-use Rattle.rules.specs.declared.FrameRead.{FrameRead}
-use Rattle.rules.specs.declared.FrameRead.the-variants.{Trill, Unreadable}
-use Rattle.rules.specs.declared.ChannelRead.the-variants.{Fault, ErrorHeard, EchoHeard, EchoRequest}
-use Rattle.rules.proofs.FrameLaws.{frame-read, link-written, header-passed, Passed, sent-hop, sentHeader, forwarded-read, forwarded-inner}
-use Rattle.rules.proofs.ReplyLaws.{replyHeader, reply-read, reply-inner, error-heard, echo-heard, echo-body-length, echo-body-spid}
-use Rattle.rules.proofs.HandlingLaws.{echo-ranged, channel-echo, length-error, length-echo}
-use Rattle.rules.proofs.NextLaws.{made-reply}
-use Rattle.rules.proofs.HandledLaws.{Final, Cleared, Beside, alone, How, fault-small, how, echo-fits}
+use Rattle.rules.specs
+use specs.Settings.{Settings, ruling, nextHop, waysOf}
+use specs.Link.{link}
+use specs.Header.{hopCount, anyRBridge, readFrame, innerOf, weAreEgress}
+use specs.Answer.{Handled, wroteBoth}
+use specs.Channel.{protocolError, protocolEcho, bodyOf, channelRead, returnPath, replyInner, replyRest, errorBody, echoBody, errorReply, echoReply}
+use specs.Handling.{forwarded, besideLeast, handling}
+use specs.Campus.{switchNamed, Waiting, writesReply, repliesMade, hopReceived, egressReceived}
+use specs.declared.{NextHop.NextHop, Header.Header}
+use specs.declared.Ruling.the-variants.{Found, Absent}
+use specs.declared.FrameRead.the-variants.{Trill, Unreadable}
+use specs.declared.ChannelRead.the-variants.{Fault, ErrorHeard, EchoHeard, EchoRequest}
+use Rattle.rules.proofs
+use proofs.TestLaws.{apart, by-test, and-right, or-left, or-right}
+use proofs.FrameLaws.{Cleared, frame-read, link-written, header-passed, sent-hop, sentHeader, forwarded-read, forwarded-inner}
+use proofs.ReplyLaws.{replyHeader, reply-read, reply-inner, error-heard, echo-heard, echo-body-length, echo-body-spid}
+use proofs.HandlingLaws.{echo-ranged, channel-echo, length-error, length-echo}
+use proofs.NextLaws.{made-reply}
+use proofs.HandledLaws.{alone, replied, How, fault-small, how, echo-fits}
 
 -- hop count and egress of a frame
 module _ (f : List ℕ) where
@@ -47,11 +46,11 @@ module _ (f : List ℕ) where
   egress-read h e = rw (egressReceived, e)
 
   pub hop-most : hopReceived f ≤ 63
-  hop-most = go (readFrame f) refl
-    where
-      go : (w : FrameRead) → readFrame f ≡ w → hopReceived f ≤ 63
-      go (Unreadable n) e = omega (arith, hop-unread n e)
-      go (Trill h) e = omega (arith, hop-read h e)
+  hop-most =
+      elim (readFrame f) as (λ w. readFrame f ≡ w → hopReceived f ≤ 63) [
+        | Unreadable n ↦ λ e. omega (arith, hop-unread n e)
+        | Trill h ↦ λ e. omega (arith, hop-read h e)
+      ] refl
 
 -- whether a switch is the egress of a frame, and where it forwards one: both by the frame's egress alone
 unfoldable pub ours : ℕ → Settings → Bool
@@ -64,39 +63,17 @@ ours-role : (S : Settings) (f : List ℕ) (h : Header) → readFrame f ≡ Trill
 unfolding ours weAreEgress
 ours-role S f h e = rw (egress-read f h e)
 
-towards-found : (switches : List Settings) (egress : ℕ) (S : Settings) (r : NextHop) → nextHop S egress ≡ Found r
-    → towards switches egress S ≡ switchNamed switches (r .neighbour)
-unfolding towards
-towards-found switches egress S r e = rw (towards, e)
-
--- a frame that is a reply of ours, wherever it is on its way
-pub data ReplyInner (inner : List ℕ) : Type 0 where
-  error : (S : Ways) (code : ℕ) (body : List ℕ) → code < 16 → inner ≡ replyInner S protocolError code body → ReplyInner inner
-  echo : (S : Ways) (body : List ℕ) → 18 ≤ length body → length body ≤ 530 → spid body ≡ spidReply
-      → inner ≡ replyInner S protocolEcho 0 body → ReplyInner inner
+-- what a reply of ours is, wherever it is on its way: a frame that is heard at its egress, so that nothing answers it
+abbrev pub Heard : List ℕ → Type 0
+Heard inner = (channelRead inner ≡ ErrorHeard) ⊎ (channelRead inner ≡ EchoHeard)
 
 pub record IsReply (f : List ℕ) : Type 0 where
   pub header : Header
   pub read : readFrame f ≡ Trill header
-  pub inner : ReplyInner (innerOf f header)
+  pub heard : Heard (innerOf f header)
 
--- nothing answers one: at its egress it is heard, so it is neither at fault nor an echo request
-record Heard (inner : List ℕ) : Type 0 where
-  pub no-fault : (code : ℕ) → channelRead inner ≡ Fault code → ⊥
-  pub no-request : channelRead inner ≡ EchoRequest → ⊥
-
-inner-heard : (inner : List ℕ) → ReplyInner inner → Heard inner
-inner-heard inner (error S code body c e) =
-    let is : channelRead inner ≡ ErrorHeard = ap channelRead e ∙ error-heard S code body c in
-    record { no-fault = λ n w. let z : _≡_ {A = ℕ} 0 1 = cc in omega arith; no-request = λ w. let z : _≡_ {A = ℕ} 0 1 = cc in omega arith }
-inner-heard inner (echo S body a b s e) =
-    let is : channelRead inner ≡ EchoHeard = ap channelRead e ∙ echo-heard S body a b s in
-    record { no-fault = λ n w. let z : _≡_ {A = ℕ} 0 1 = cc in omega arith; no-request = λ w. let z : _≡_ {A = ℕ} 0 1 = cc in omega arith }
-
-reply-heard : (f : List ℕ) (h : Header) → readFrame f ≡ Trill h → IsReply f → Heard (innerOf f h)
-reply-heard f h e y =
-    let same : y .header ≡ h = cc (y .read, e) in
-    rw (← same) (inner-heard (innerOf f (y .header)) (y .inner))
+reply-heard : (f : List ℕ) {h : Header} → readFrame f ≡ Trill h → IsReply f → Heard (innerOf f h)
+reply-heard f {h} e y = let same : y .header ≡ h = cc (y .read) in rw same at (y .heard)
 
 -- "the neighbour in the writing switch's ruling record for that frame's egress": of a frame written, and the neighbour that it goes to
 pub record NextSwitch (S : Settings) (written : List ℕ) (via : ℕ) : Type 0 where
@@ -107,25 +84,20 @@ pub record NextSwitch (S : Settings) (written : List ℕ) (via : ℕ) : Type 0 w
 module _ (S : Settings) (d : ℕ) (r : NextHop) where
   hop-rules : nextHop S d ≡ Found r → ruling (S .hops) d ≡ Found r
   unfolding nextHop
-  hop-rules e = go (ruling (S .hops) d) refl
-    where
-      go : (w : Ruling) → ruling (S .hops) d ≡ w → ruling (S .hops) d ≡ Found r
-      go Absent is = let n : Absent ≡ Found r = (rw (nextHop, is) at e) in let z : _≡_ {A = ℕ} 0 1 = cc n in absurd (omega arith)
-      go (Found q) is =
-          by-test (eqb (q .neighbour) 0)
-          (λ b. let n : Absent ≡ Found r = (rw (nextHop, is, b) at e) in let z : _≡_ {A = ℕ} 0 1 = cc n in absurd (omega arith))
-          (λ b. is ∙ (rw (nextHop, is, b) at e))
+  hop-rules e =
+      elim (ruling (S .hops) d) as (λ w. ruling (S .hops) d ≡ w → ruling (S .hops) d ≡ Found r) [
+        | Absent ↦ λ is. apart (cc (rw (nextHop, is) at e))
+        | Found q ↦ λ is.
+            by-test (eqb (q .neighbour) 0) (λ b. apart (cc (rw (nextHop, is, b) at e))) (λ b. is ∙ (rw (nextHop, is, b) at e))
+      ] refl
 
   return-rules : returnPath (waysOf S) d ≡ Found r → ruling (S .hops) d ≡ Found r
   unfolding returnPath
-  return-rules e =
-      by-test (eqb d (S .nickname))
-      (λ b. let n : Absent ≡ Found r = (rw b at e) in let z : _≡_ {A = ℕ} 0 1 = cc n in absurd (omega arith))
-      (λ b. hop-rules (rw b at e))
+  return-rules e = by-test (eqb d (S .nickname)) (λ b. apart (cc (rw b at e))) (λ b. hop-rules (rw b at e))
 
 -- what goes on after a handling that answers 50
 pub record Forwarded (S : Settings) (f : List ℕ) (a : Handled) : Type 0 where
-  pub is-50 : a .number ≡ 50
+  pub is-50 : eqb (a .number) 50 ≡ true
   pub transit : ours (egressReceived f) S ≡ false
   pub one-less : hopReceived f ≡ suc (hopReceived (a .octets))
   pub same-egress : egressReceived (a .octets) ≡ egressReceived f
@@ -134,42 +106,30 @@ pub record Forwarded (S : Settings) (f : List ℕ) (a : Handled) : Type 0 where
   pub reply-kept : IsReply f → IsReply (a .octets)
 
 module _ (S : Settings) (f : List ℕ) (h : Header) (r : NextHop) (t : Cleared (waysOf S) f h false) (found : nextHop S (h .egress) ≡ Found r) where
-  passed : Passed (waysOf S) f h
-  passed = header-passed (waysOf S) f h (t .unrefused)
-
   abbrev sent : Header
-  sent = sentHeader (waysOf S) f h (t .read) passed (t .well) (link (waysOf S) r) (link-written (waysOf S) r)
+  sent = sentHeader t (link-written (waysOf S) r)
 
   sent-read : readFrame (forwarded (waysOf S) r f h) ≡ Trill sent
   unfolding forwarded
-  sent-read = forwarded-read (waysOf S) f h (t .read) passed (t .well) (link (waysOf S) r) (link-written (waysOf S) r)
+  sent-read = forwarded-read t (link-written (waysOf S) r)
 
   sent-inner : innerOf (forwarded (waysOf S) r f h) sent ≡ innerOf f h
   unfolding forwarded
-  sent-inner = forwarded-inner (waysOf S) f h (t .read) passed (t .well) (link (waysOf S) r) (link-written (waysOf S) r)
-
-  sent-reply : IsReply f → IsReply (forwarded (waysOf S) r f h)
-  sent-reply y =
-      let same : y .header ≡ h = cc (y .read, t .read) in
-      record { header = sent; read = sent-read; inner = rw (sent-inner, ← same) (y .inner) }
+  sent-inner = forwarded-inner t (link-written (waysOf S) r)
 
   forwarded-on : (beside : List ℕ) (via : ℕ) → Forwarded S f (wroteBoth 50 (forwarded (waysOf S) r f h) (r .neighbour) beside via)
+  unfolding towards
   forwarded-on beside via =
+      let out = egress-read (forwarded (waysOf S) r f h) sent sent-read in
+      let hops = hop-read (forwarded (waysOf S) r f h) sent sent-read in
       record {
         is-50 = refl;
         transit = ours-role S f h (t .read) ∙ t .role;
-        one-less =
-            hop-read f h (t .read) ∙ sym (sent-hop (waysOf S) f h (t .read) passed (t .well))
-            ∙ ap suc (sym (hop-read (forwarded (waysOf S) r f h) sent sent-read));
-        same-egress = egress-read (forwarded (waysOf S) r f h) sent sent-read ∙ sym (egress-read f h (t .read));
-        goes = λ switches. ap (λ (e : ℕ). towards switches e S) (egress-read f h (t .read)) ∙ towards-found switches (h .egress) S r found;
-        next =
-            record {
-              hop = r;
-              rules = rw (egress-read (forwarded (waysOf S) r f h) sent sent-read) (hop-rules S (h .egress) r found);
-              neighbour = refl;
-            };
-        reply-kept = sent-reply;
+        one-less = omega (arith, hop-read f h (t .read), sent-hop t, hops);
+        same-egress = out ∙ sym (egress-read f h (t .read));
+        goes = λ switches. rw (egress-read f h (t .read), towards, found);
+        next = record { hop = r; rules = rw out (hop-rules S (h .egress) r found); neighbour = refl };
+        reply-kept = λ y. record { header = sent; read = sent-read; heard = rw sent-inner (reply-heard f (t .read) y) };
       }
 
 -- a reply made to a frame, and the neighbour that it goes to
@@ -181,69 +141,47 @@ pub record Answered (S : Settings) (f written : List ℕ) (via : ℕ) : Type 0 w
   pub is-reply : IsReply written
   pub short : length written ≤ besideLeast
 
-module _ (S : Settings) (own : S .nickname < 65536) (f : List ℕ) (h : Header) (r : NextHop) (egress : Bool) (t : Cleared (waysOf S) f h egress)
+module _ (S : Settings) (own : S .nickname < 65536) (f : List ℕ) (h : Header) (r : NextHop) {egress : Bool} (t : Cleared (waysOf S) f h egress)
     (found : returnPath (waysOf S) (h .ingress) ≡ Found r) where
-  hops-had : 1 ≤ hopReceived f
-  hops-had = omega (arith, hop-read f h (t .read), header-passed (waysOf S) f h (t .unrefused) .hops-left)
-
   -- either reply, as it is written
-  module _ (number code : ℕ) (body : List ℕ) (is : ReplyInner (replyInner (waysOf S) number code body)) where
+  module _ (number code : ℕ) (body : List ℕ) where
     abbrev written : List ℕ
     written = link (waysOf S) r ++ replyRest (waysOf S) (h .ingress) number code body
 
-    to-fits : h .ingress < 65536
-    to-fits = frame-read f h (t .read) .ingress-fits
-
-    abbrev header-written : Header
-    header-written = replyHeader (waysOf S) own (h .ingress) to-fits number code body (link (waysOf S) r) (link-written (waysOf S) r)
-
-    read-written : readFrame written ≡ Trill header-written
-    read-written = reply-read (waysOf S) own (h .ingress) to-fits number code body (link (waysOf S) r) (link-written (waysOf S) r)
-
-    written-full : hopReceived written ≡ 63
-    written-full = hop-read written header-written read-written
-
-    written-next : NextSwitch S written (r .neighbour)
-    written-next =
-        record { hop = r; rules = rw (egress-read written header-written read-written) (return-rules S (h .ingress) r found); neighbour = refl }
-
-    written-reply : IsReply written
-    written-reply =
+    answered : Heard (replyInner (waysOf S) number code body) → (Heard (innerOf f h) → ⊥) → length written ≤ besideLeast
+        → Answered S f written (r .neighbour)
+    answered heard new short =
+        let fits = frame-read f h (t .read) .ingress-fits in
+        let header = replyHeader (waysOf S) own fits number code body (link-written (waysOf S) r) in
+        let read = reply-read (waysOf S) own fits number code body (link-written (waysOf S) r) in
+        let inner = reply-inner (waysOf S) own fits number code body (link-written (waysOf S) r) in
         record {
-          header = header-written;
-          read = read-written;
-          inner = rw (reply-inner (waysOf S) own (h .ingress) to-fits number code body (link (waysOf S) r) (link-written (waysOf S) r)) is;
+          hops-left = omega (arith, hop-read f h (t .read), header-passed (waysOf S) f h (t .unrefused) .hops-left);
+          not-a-reply = λ y. new (reply-heard f (t .read) y);
+          full = hop-read written header read;
+          next = record { hop = r; rules = rw (egress-read written header read) (return-rules S (h .ingress) r found); neighbour = refl };
+          is-reply = record { header = header; read = read; heard = rw inner heard };
+          short = short;
         }
 
   error-answered : (code : ℕ) → channelRead (innerOf f h) ≡ Fault code → Answered S f (errorReply (waysOf S) r f h code) (r .neighbour)
   unfolding errorReply
   error-answered code c =
-      let is = error (waysOf S) code (errorBody f h) (fault-small (innerOf f h) code c) refl in
-      record {
-        hops-left = hops-had;
-        not-a-reply = λ y. reply-heard f h (t .read) y .no-fault code c;
-        full = written-full protocolError code (errorBody f h) is;
-        next = written-next protocolError code (errorBody f h) is;
-        is-reply = written-reply protocolError code (errorBody f h) is;
-        short = omega (arith, length-error (waysOf S) r f h code);
-      }
+      answered protocolError code (errorBody f h) (inl (error-heard (waysOf S) code (errorBody f h) (fault-small (innerOf f h) code c)))
+      (λ w. elim w [ inl e ↦ apart cc | inr e ↦ apart cc ])
+      (omega (arith, length-error (waysOf S) r f h code))
 
   echo-answered : (clock : List ℕ) → length clock ≡ 6 → channelRead (innerOf f h) ≡ EchoRequest
       → Answered S f (echoReply (waysOf S) r h clock (bodyOf (innerOf f h))) (r .neighbour)
   unfolding echoReply
   echo-answered clock six c =
-      let body : List ℕ = bodyOf (innerOf f h) in
+      let body = bodyOf (innerOf f h) in
       let ranged = echo-ranged body (channel-echo (innerOf f h) c) in
       let n = echo-body-length body clock (ranged .0) six in
-      let is = echo (waysOf S) (echoBody body clock) (omega (arith, n, ranged)) (omega (arith, n, ranged)) (echo-body-spid body clock) refl in
-      record {
-        hops-left = hops-had;
-        not-a-reply = λ y. reply-heard f h (t .read) y .no-request c;
-        full = written-full protocolEcho 0 (echoBody body clock) is;
-        next = written-next protocolEcho 0 (echoBody body clock) is;
-        is-reply = written-reply protocolEcho 0 (echoBody body clock) is;
-        short = echo-fits (waysOf S) r clock f h six c;
-      }
+      answered protocolEcho 0 (echoBody body clock)
+      (inr (echo-heard (waysOf S) (echoBody body clock) (omega arith) (omega arith) (echo-body-spid body clock)))
+      (λ w. elim w [ inl e ↦ apart cc | inr e ↦ apart cc ])
+      (echo-fits (waysOf S) r clock f h six c)
 
 -- the replies that a handling makes: none, or one to its frame
 pub data Made (S : Settings) (f : List ℕ) : List Waiting → Type 0 where
@@ -252,109 +190,67 @@ pub data Made (S : Settings) (f : List ℕ) : List Waiting → Type 0 where
 
 -- every handling ends the frame's way, forwards it, perhaps with a reply beside, or replies; in edition 1 nothing stands beside what is
 -- forwarded, and only the egress replies
-pub record Ended (a : Handled) : Type 0 where
-  pub not-50 : a .number ≡ 50 → ⊥
-  pub no-reply : writesReply (a .number) ≡ false
-  pub none-made : repliesMade a ≡ []
-
-pub record Replied (S : Settings) (f : List ℕ) (a : Handled) : Type 0 where
-  pub not-50 : a .number ≡ 50 → ⊥
-  pub replies : writesReply (a .number) ≡ true
-  pub answered : Answered S f (a .octets) (a .via)
-  pub egress : S .rfc7179 ≡ false → ours (egressReceived f) S ≡ true
-
 pub data Does (S : Settings) (f : List ℕ) (a : Handled) : Type 0 where
-  ends : Ended a → Does S f a
+  ends : eqb (a .number) 50 ≡ false → writesReply (a .number) ≡ false → repliesMade a ≡ [] → Does S f a
   forwards : Forwarded S f a → Made S f (repliesMade a) → (S .rfc7179 ≡ false → repliesMade a ≡ []) → Does S f a
-  replies : Replied S f a → Does S f a
+  replies : eqb (a .number) 50 ≡ false → writesReply (a .number) ≡ true → Answered S f (a .octets) (a .via)
+      → (S .rfc7179 ≡ false → ours (egressReceived f) S ≡ true) → Does S f a
 
-final-ended : (a : Handled) → Final a → Ended a
-unfolding repliesMade
-final-ended a n =
-    let n53 = ne-eqb (a .number) 53 (n .not-53) in
-    let n54 = ne-eqb (a .number) 54 (n .not-54) in
-    record { not-50 = n .not-50; no-reply = rw (n53, n54); none-made = rw (n53, n54, eq-eqb (length (a .beside)) 0 (n .nothing-beside)) }
+-- what of it a run needs, whatever the edition: a frame that goes on was forwarded; each reply made answers the frame
+module _ {S : Settings} {f : List ℕ} {a : Handled} where
+  pub does-forward : Does S f a → eqb (a .number) 50 ≡ true → Forwarded S f a
+  does-forward (ends n s m) e = apart cc
+  does-forward (forwards o m old) e = o
+  does-forward (replies n y o at) e = apart cc
+
+  pub does-make : Does S f a → Made S f (repliesMade a)
+  does-make (ends n s m) = rw m nothing
+  does-make (forwards o m old) = m
+  does-make (replies n y o at) = rw (made-reply a y) (one _ o)
+
+  does-short : Does S f a → writesReply (a .number) ≡ true → length (a .octets) ≤ besideLeast
+  does-short (ends n s m) e = apart cc
+  does-short (forwards o m old) e = apart (cc (ap writesReply (eqb-true (a .number) 50 (o .is-50))))
+  does-short (replies n y o at) e = o .short
 
 module _ (S : Settings) (clock f : List ℕ) (own : S .nickname < 65536) (six : length clock ≡ 6) where
-  beside-made : (h : Header) (out beside : List ℕ) (near via : ℕ) → Cleared (waysOf S) f h false → Beside (waysOf S) clock f h beside via
-      → Made S f (repliesMade (wroteBoth 50 out near beside via))
-  unfolding repliesMade
-  beside-made h out beside near via t alone = nothing
-  beside-made h out beside near via t (Beside.replied r two e c) =
-      rw (ne-eqb (length (echoReply (waysOf S) r h clock (bodyOf (innerOf f h)))) 0 some-octets) (one _ (echo-answered S own f h r false t e clock six c))
-    where
-      some-octets : length (echoReply (waysOf S) r h clock (bodyOf (innerOf f h))) ≡ 0 → ⊥
-      some-octets z =
-          let ranged = echo-ranged (bodyOf (innerOf f h)) (channel-echo (innerOf f h) c) in
-          omega (arith, z, length-echo (waysOf S) r f h clock (bodyOf (innerOf f h)) six (ranged .0), ranged .0)
-
-  beside-none : (h : Header) (out beside : List ℕ) (near via : ℕ) → Beside (waysOf S) clock f h beside via → S .rfc7179 ≡ false
-      → repliesMade (wroteBoth 50 out near beside via) ≡ []
-  unfolding repliesMade
-  beside-none h out beside near via alone old = refl
-  beside-none h out beside near via (Beside.replied r two e c) old = absurd (true≢false (sym two ∙ old))
-
   at-egress : (egress : Bool) (h : Header) → Cleared (waysOf S) f h egress → (egress ≡ false → S .rfc7179 ≡ true) → S .rfc7179 ≡ false
       → ours (egressReceived f) S ≡ true
   at-egress true h t two old = ours-role S f h (t .read) ∙ t .role
-  at-egress false h t two old = absurd (true≢false (sym (two refl) ∙ old))
+  at-egress false h t two old = apart (cc (two refl))
+
+  does-how : {a : Handled} → How (waysOf S) clock f a → Does S f a
+  unfolding repliesMade
+  does-how {a} (How.ends o) =
+      let silent : writesReply (a .number) ≡ false = search (or-right, not-true, and-right, o .closed) in
+      ends (search (or-left, not-true, and-right, o .closed)) silent (rw (silent, o .nothing-beside))
+  does-how (How.forwards h r t found fits alone) = forwards (forwarded-on S f h r t found [] 0) nothing (λ old. refl)
+  does-how (How.forwards h r t found fits (replied q two e c)) =
+      let body = bodyOf (innerOf f h) in
+      let ranged = echo-ranged body (channel-echo (innerOf f h) c) in
+      let long = length-echo (waysOf S) q f h clock body six (ranged .0) in
+      forwards (forwarded-on S f h r t found _ _)
+      (rw (ne-eqb (length (echoReply (waysOf S) q h clock body)) 0 (λ z. omega arith)) (one _ (echo-answered S own f h q t e clock six c)))
+      (λ old. apart cc)
+  does-how (How.faults {egress = egress} h r code t two found c) =
+      replies refl refl (error-answered S own f h r t found code c) (at-egress egress h t two)
+  does-how (How.echoes h r t found c) =
+      replies refl refl (echo-answered S own f h r t found clock six c) (at-egress true h t (λ z. absurd (true≢false z)))
 
   pub does : Does S f (handling (waysOf S) clock f)
-  does = go (handling (waysOf S) clock f) (how (waysOf S) clock f)
-    where
-      go : (a : Handled) → How (waysOf S) clock f a → Does S f a
-      go a (How.ends n) = ends (final-ended a n)
-      go a (How.forwards h r beside via t found fits b e) =
-          rw e
-          (forwards (forwarded-on S f h r t found beside via) (beside-made h (forwarded (waysOf S) r f h) beside (r .neighbour) via t b)
-          (beside-none h (forwarded (waysOf S) r f h) beside (r .neighbour) via b))
-      go a (How.faults egress h r code t two found c e) =
-          rw e
-          (replies (record {
-            not-50 = λ z. omega (arith, z);
-            replies = refl;
-            answered = error-answered S own f h r egress t found code c;
-            egress = at-egress egress h t two;
-          }))
-      go a (How.echoes h r t found c e) =
-          rw e
-          (replies (record {
-            not-50 = λ z. omega (arith, z);
-            replies = refl;
-            answered = echo-answered S own f h r true t found clock six c;
-            egress = at-egress true h t (λ z. absurd (true≢false z));
-          }))
+  does = does-how (how (waysOf S) clock f)
 
--- what of it a run needs, whatever the edition: a frame that goes on was forwarded; each reply made answers the frame
-module _ (S : Settings) (f : List ℕ) (a : Handled) where
-  pub does-forward : Does S f a → a .number ≡ 50 → Forwarded S f a
-  does-forward (ends o) e = absurd (o .not-50 e)
-  does-forward (forwards o m old) e = o
-  does-forward (replies o) e = absurd (o .not-50 e)
+  -- a reply, 53 or 54, is as short as one beside
+  pub reply-short : writesReply (handling (waysOf S) clock f .number) ≡ true → length (handling (waysOf S) clock f .octets) ≤ besideLeast
+  reply-short e = does-short does e
 
-  pub does-make : Does S f a → Made S f (repliesMade a)
-  does-make (ends o) = rw (o .none-made) nothing
-  does-make (forwards o m old) = m
-  does-make (replies o) = rw (made-reply a (o .replies)) (one _ (o .answered))
-
--- a reply, 53 or 54, is as short as one beside
-pub reply-short : (S : Settings) (clock f : List ℕ) → S .nickname < 65536 → length clock ≡ 6 → writesReply (handling (waysOf S) clock f .number) ≡ true
-    → length (handling (waysOf S) clock f .octets) ≤ besideLeast
-reply-short S clock f own six e = go (does S clock f own six)
-  where
-    go : Does S f (handling (waysOf S) clock f) → length (handling (waysOf S) clock f .octets) ≤ besideLeast
-    go (ends o) = absurd (true≢false (sym e ∙ o .no-reply))
-    go (forwards o m old) = absurd (true≢false (sym e ∙ ap writesReply (o .is-50)))
-    go (replies o) = o .answered .short
-
--- where a frame that is written goes next, forwarded or a reply: the run goes by the neighbour named, document 01 by the ruling record
-module _ (S : Settings) (clock f : List ℕ) (own : S .nickname < 65536) (six : length clock ≡ 6) where
+  -- where a frame that is written goes next, forwarded or a reply: the run goes by the neighbour named, document 01 by the ruling record
   pub forwarded-next : handling (waysOf S) clock f .number ≡ 50 → NextSwitch S (handling (waysOf S) clock f .octets) (handling (waysOf S) clock f .via)
-  forwarded-next e = does-forward S f (handling (waysOf S) clock f) (does S clock f own six) e .next
+  forwarded-next e = does-forward does (eq-eqb (handling (waysOf S) clock f .number) 50 e) .next
 
   pub reply-next : (w : Waiting) → List·Memᴰ w (repliesMade (handling (waysOf S) clock f)) → NextSwitch S (w .frame) (w .towards)
-  reply-next w i = go (repliesMade (handling (waysOf S) clock f)) (does-make S f (handling (waysOf S) clock f) (does S clock f own six)) i
+  reply-next w = go (does-make does)
     where
-      go : (l : List Waiting) → Made S f l → List·Memᴰ w l → NextSwitch S (w .frame) (w .towards)
-      go l nothing j = absurd (List·Memᴰ·not-nil j)
-      go l (one v o) j = rw (List·Memᴰ·eq-of-singleton j) (o .next)
+      go : {l : List Waiting} → Made S f l → List·Memᴰ w l → NextSwitch S (w .frame) (w .towards)
+      go nothing j = absurd (List·Memᴰ·not-nil j)
+      go (one v o) j = rw (List·Memᴰ·eq-of-singleton j) (o .next)

@@ -4,9 +4,10 @@ use mathlib.Core.List.{List}
 use Prim.Native.Nat.{ℕ, _+_, _-_, _≤_, _<_}
 use native.Mathlib.Omega.{arith}
 use lib.ListN.{length}
-use Rattle.rules.specs.Fields.{fieldAt}
-use Rattle.rules.specs.declared.FieldRead.{FieldRead}
-use Rattle.rules.specs.declared.FieldRead.the-variants.{Taken}
+use Rattle.rules.specs
+use specs.Fields.{fieldAt}
+use specs.declared.FieldRead.{FieldRead}
+use specs.declared.FieldRead.the-variants.{Taken}
 use Rattle.rules.proofs.FieldLaws.{IsField, field-read}
 
 module _ (s : List ℕ) (at tag size next : ℕ) (read : FieldRead) (t : read ≡ Taken tag size next) (e : read ≡ fieldAt s at) where
