@@ -1,45 +1,43 @@
 -- From what was read to the run, and from the run to the outcome, by the laws of descriptions, runs and the demand. Assumes nothing.
 use mathlib.Core.Path.{_≡_, refl, sym, ap, _∙_}
 use mathlib.Core.List.{List, [], _∷_, append-nil, List·Memᴰ, List·Memᴰ·not-nil, List·Memᴰ·cases-cons}
-use mathlib.Core.Logic.{_⊎_, inl, inr}
+use mathlib.Core.Logic.{inl, inr}
 use mathlib.Core.Bool.{Bool, true, false}
 use mathlib.Core.Option.{Option, none, some}
-use Prim.Native.Nat.{ℕ, zero, suc, _+_, _-_, _*_, _<_, _≤_, min}
+use Prim.Native.Nat.{ℕ, zero, suc, _+_, _-_, _*_, _/_, _<_, _≤_}
+use native.Mathlib.Nat.{lt-of-le-of-lt}
 use native.Mathlib.Omega.{arith}
 use borrow.Author.Needs.{needs}
 use borrow.Author.Tests.{ne-eqb, le-leb, leb-true}
 use lib.Dec.{eqb, leb}
 use lib.ListN.{length, take, drop, replicate, length-take, length-drop, length-replicate}
-use lib.Seq.{take-all}
-use Rattle.rules.specs.Octets.{if_then_else_, be16, part, put}
+use Rattle.rules.specs.Octets.{be16, part}
 use Rattle.rules.specs.Settings.{Settings, Ways, waysOf}
-use Rattle.rules.specs.Campus.{Described, switchNamed, original, runFrom, handlingsMost, plainRun, State, clockOf, traceOctets, someEdition2, traceNeeded}
+use Rattle.rules.specs.Campus.{Described, switchNamed, original, runFrom, handlingsMost, plainRun, clockOf, someEdition2, traceNeeded, accepted, described}
+use Rattle.rules.specs.Campus.{refusal, campus, traceAfter}
 use Rattle.rules.specs.Demand.{repliesIn, singleRun}
-use Rattle.rules.specs.Campus.{accepted, described, Outcome, refusal, campus, traceAfter}
 use Rattle.rules.proofs.TestLaws.{by-test}
 use Rattle.rules.proofs.OctetLaws.{put-none, put-front}
 use Rattle.rules.proofs.DescriptionLaws.{Accepted, accepted-good}
 use Rattle.rules.proofs.OutcomeLaws.{campus-short, campus-refused, campus-needed, campus-accepted}
 use Rattle.rules.proofs.DemandLaws.{plain-run, plain-most, plain-room, demand}
+use Rattle.rules.proofs.AlikeLaws.{Both, Same, run-alike}
+use Rattle.rules.proofs.RunLaws.{named-nickname, few-replies, named-member}
+use Rattle.rules.proofs.SingleLaws.{Draft, edition-1-all, single, one-reply}
+use Rattle.rules.proofs.StepLaws.{hop-most}
 use Rattle.octets.specs.Copy.{putFitting}
 use Rattle.octets.proofs.Ends.{put-fits}
 use Rattle.campus.specs.declared.switches.Named.{Named}
 use Rattle.campus.specs.declared.switches.Named.the-variants.{At, Nowhere}
 use Rattle.campus.specs.declared.reading.Reading.{Reading}
 use Rattle.campus.specs.Places.{between, clockAt, clockFrom, entryValue, describedBy}
-use Rattle.campus.specs.Stores.{settingsAt, switchesIn, numberIn, Placed, SoundAt, Sound, wordsFor, ReadDone}
+use Rattle.campus.specs.Stores.{settingsAt, switchesIn, numberIn, Placed, SoundAt, Sound, wordsFor, Accepts, ReadDone}
 use Rattle.campus.specs.Steps.{neededBy, Ran, runOf, RunReady, EntryReady, statesOf}
 use Rattle.campus.specs.Queue.{LoopReady}
 use Rattle.campus.specs.Done.{CampusDone}
-use Rattle.campus.proofs.StoresLaws.{stores-sound, NamedAs, named-so}
-use Rattle.rules.proofs.AlikeLaws.{Same, run-alike}
-use Rattle.rules.proofs.RunLaws.{named-nickname, few-replies, named-member}
-use Rattle.rules.proofs.SingleLaws.{Draft, edition-1-all, single, one-reply}
-use Rattle.rules.proofs.StepLaws.{hop-most}
-use Rattle.campus.proofs.AlikeLaws.{Alike, count-alike, named-alike, edition-alike}
-use Rattle.campus.proofs.StepLaws.{named-some, nickname-is, nickname-small}
-use Rattle.campus.proofs.ReadLaws.{between-is}
-use Rattle.campus.proofs.LoopLaws.{trace-none}
+use Rattle.campus.proofs.StoresLaws.{lent, stores-sound, named-none, named-some, named-same, edition-same}
+use Rattle.campus.proofs.RunLaws.{nickname-is, nickname-small, trace-none}
+use Rattle.campus.proofs.ReadLaws.{between-there}
 
 -- the clock's octets
 module _ (s : List ℕ) (clock : ℕ) where
@@ -54,35 +52,31 @@ module _ (s : List ℕ) (clock : ℕ) where
   module _ (six : length (clockFrom s clock) ≡ 6) (h : clock ≡ 0 → ⊥) where
     clock-some : clockFrom s clock ≡ part s clock 6
     unfolding clockFrom
-    clock-some = rw (ne-eqb clock 0 h)
+    clock-some = simp ne-eqb
+
+    part-six : length (part s clock 6) ≡ 6
+    part-six = rw clock-some at six
 
     pub clock-within : clock + 6 ≤ length s
-    clock-within =
-        let e : min 6 (length s - clock) ≡ 6 =
-        sym (length-take 6 (drop clock s) ∙ ap (min 6) (length-drop clock s)) ∙ ap length (sym clock-some) ∙ six in
-        omega (arith, e)
-
-    pub clock-sum : (bound : ℕ) → length s < bound → clock + 6 < bound
-    clock-sum bound fits = omega (arith, clock-within)
+    clock-within = omega (arith, simp (length-take, length-drop) at part-six)
 
     pub clock-copied : (c : List ℕ) → c ≡ putFitting (0 ∷ 0 ∷ 0 ∷ 0 ∷ 0 ∷ 0 ∷ []) 0 (take (clock + 6 - clock) (drop clock s))
         → c ≡ clockFrom s clock
     clock-copied c e =
         let zeros : List ℕ = 0 ∷ 0 ∷ 0 ∷ 0 ∷ 0 ∷ 0 ∷ [] in
         let q : clock + 6 - clock ≡ 6 = omega arith in
-        let l : length (part s clock 6) ≡ 6 = ap length (sym clock-some) ∙ six in
-        let w : c ≡ put zeros 0 (part s clock 6) = e ∙ rw q (put-fits zeros 0 (part s clock 6) (omega (arith, l))) in
-        w ∙ put-front zeros (part s clock 6) ∙ rw l (append-nil (part s clock 6)) ∙ sym clock-some
+        e
+        ∙ rw (q, clock-some)
+        (put-fits zeros 0 (part s clock 6) (omega (arith, part-six)) ∙ put-front zeros (part s clock 6) ∙ rw part-six (append-nil (part s clock 6)))
 
-pub ruleset clock-of-laws = (needs, clock-none, clock-within, clock-sum, clock-copied)
+pub ruleset clock-of-laws = (needs, clock-none, clock-within, lt-of-le-of-lt, clock-copied)
 
 -- the octets from the third on
 between-drop : (v : List ℕ) → between v 2 (length v) ≡ drop 2 v
 unfolding between
 between-drop [] = refl
 between-drop (x ∷ []) = refl
-between-drop (x ∷ y ∷ l) =
-    rw (between-is (x ∷ y ∷ l) 2 (length (x ∷ y ∷ l)) (omega arith) (omega arith)) (take-all (length (x ∷ y ∷ l) - 2) l (omega arith))
+between-drop (x ∷ y ∷ l) = sym (between-there (x ∷ y ∷ l) 2 (length (x ∷ y ∷ l)) (omega arith) (omega arith)) ∙ lent (x ∷ y ∷ l) 2
 
 plain-none : (d : Described) → d .entry ≡ none → plainRun d ≡ []
 unfolding plainRun
@@ -92,188 +86,151 @@ states-so : (s : List ℕ) (d : Described) → described s ≡ accepted d → st
 unfolding statesOf
 states-so s d e = rw (statesOf, e)
 
+-- two options alike
+both-none : (o : Option Settings) → Both o none → o ≡ none
+both-none none b = refl
+both-none (some S) b = absurd b
+
+both-some : (o : Option Settings) (T : Settings) → Both o (some T) → (S : Settings) × (o ≡ some S) × (waysOf S ≡ waysOf T)
+both-some none T b = absurd b
+both-some (some S) T b = (S, refl, b)
+
 -- the stores that were read
-module _ (s w starts : List ℕ) (n clock place : ℕ) (trace : List ℕ) (ready : RunReady s w starts n clock place trace) where
-  abbrev l : List Settings
-  l = ready .read .switches
+accepts-sound : {s w starts : List ℕ} {n clock place : ℕ} → Accepts s w starts n clock place → Sound w starts n
+accepts-sound {s} {w} {starts} {n} {clock} {place} a =
+    stores-sound w starts (a .switches) (a .stores) n (a .count) (a .span)
+    (omega (arith, accepted-good s (describedBy s (a .switches) clock place) (a .is) .few-switches))
 
-  abbrev d : Described
-  d = describedBy s l clock place
-
-  few-switches : n ≤ length starts
-  few-switches = omega (arith, accepted-good s d (ready .read .is) .few-switches, ready .read .count, ready .read .sixteen)
-
-  pub run-sound : Sound w starts n
-  run-sound = stores-sound w starts l (ready .read .stores) n (ready .read .count) (ready .read .span) few-switches
-
+module _ {s w starts : List ℕ} {n clock place : ℕ} {trace : List ℕ} (ready : RunReady s w starts n clock place trace) where
   pub run-placed : Placed w starts n
-  run-placed = run-sound .placed
+  run-placed = accepts-sound (ready .read) .placed
 
   -- where the entry switch is
   module _ (v : List ℕ) (ev : v ≡ entryValue s place) (b : ℕ) (eb : b ≡ be16 v 0) (found : Named) (ef : found ≡ numberIn w starts n b) where
-    told : NamedAs w starts n found (switchNamed l (be16 v 0))
-    told = rw (ef, eb) (named-so w starts l n (be16 v 0) (ready .read .count) (ready .read .stores))
+    abbrev l : List Settings
+    l = ready .read .switches
 
-    entry-is : d .entry ≡ switchNamed l (be16 v 0)
-    entry-is = rw (← ev)
+    alike : Both (switchNamed l b) (switchNamed (switchesIn w starts n) b)
+    alike = named-same w starts l (ready .read .stores) n (ready .read .count) b
 
     pub run-unknown : found ≡ Nowhere → Ran (statesOf s) trace trace 0
-    run-unknown e = go (switchNamed l (be16 v 0)) refl (rw e at told)
-      where
-        go : (o : Option Settings) → switchNamed l (be16 v 0) ≡ o → NamedAs w starts n Nowhere (switchNamed l (be16 v 0))
-            → Ran (statesOf s) trace trace 0
-        go none q t =
-            let p = states-so s d (ready .read .is) ∙ plain-none d (entry-is ∙ q) in
-            record { counted = ap length (sym p); traced = sym (put-none trace 0) ∙ ap (put trace 0) (sym (ap traceOctets p ∙ trace-none)) }
-        go (some T) q t = absurd (rw q at t)
+    run-unknown e =
+        let none-named = both-none (switchNamed l b) (rw (named-none w starts n b found ef e) at alike) in
+        let none-run = states-so s _ (ready .read .is) ∙ plain-none (describedBy s l clock place) (rw (← ev, ← eb) none-named) in
+        rw none-run (record { counted = refl; traced = rw trace-none (sym (put-none trace 0)) })
 
     pub entry-ready : (first : ℕ) → found ≡ At first → EntryReady s w starts n clock place first v trace
-    entry-ready first e = go (switchNamed l (be16 v 0)) refl (rw e at told)
-      where
-        go : (o : Option Settings) → switchNamed l (be16 v 0) ≡ o → NamedAs w starts n (At first) (switchNamed l (be16 v 0))
-            → EntryReady s w starts n clock place first v trace
-        go none q t = absurd (rw q at t)
-        go (some T) q t =
-            let u : (first < n) × (waysOf T ≡ waysOf (settingsAt w starts first)) = rw q at t in
-            record {
-              ready = ready;
-              value = ev;
-              within = u .0;
-              entry = T;
-              entered = q;
-              same = u .1;
-              named = rw eb at (named-some w starts n b found ef first e);
-            }
+    entry-ready first e =
+        let there = named-some w starts n b found ef first e in
+        let its = both-some (switchNamed l b) (settingsAt w starts first) (rw (there .1) at alike) in
+        let entered : switchNamed l (be16 v 0) ≡ some (its .0) = rw (← eb) (its .1) in
+        let named = rw eb at (there .1) in
+        search
 
-pub run-value : (s w starts : List ℕ) (n clock place : ℕ) (trace : List ℕ) → RunReady s w starts n clock place trace → (bound : ℕ)
-    → length s < bound
-    → place + 3 < bound
-run-value s w starts n clock place trace ready bound h = omega (arith, ready .read .placed)
-
-pub ruleset run-laws = (needs, run-placed, run-unknown, entry-ready, run-value)
+pub ruleset run-laws = (needs, run-placed, run-unknown, entry-ready)
 
 -- every nickname has two octets
 all-small : (w starts : List ℕ) (n : ℕ) → ((i : ℕ) → i < n → SoundAt w starts i) → (S : Settings) → List·Memᴰ S (switchesIn w starts n)
     → S .nickname < 65536
 unfolding switchesIn
 all-small w starts zero each S j = absurd (List·Memᴰ·not-nil j)
-all-small w starts (suc n) each S j = go (List·Memᴰ·cases-cons j) (all-small w starts n (λ i h. each i (omega arith)) S)
-  where
-    go : (S ≡ settingsAt w starts n) ⊎ List·Memᴰ S (switchesIn w starts n) → (List·Memᴰ S (switchesIn w starts n) → S .nickname < 65536)
-        → S .nickname < 65536
-    go (inl e) ih =
-        let x = each n (omega arith) in
-        rw e (omega (arith, nickname-is w starts n x, nickname-small w starts n x))
-    go (inr k) ih = ih k
+all-small w starts (suc n) each S j =
+    let last = each n (omega arith) in
+    elim (List·Memᴰ·cases-cons j) [
+      | inl e ↦ rw (e, ← nickname-is last) (nickname-small last)
+      | inr k ↦ all-small w starts n (λ i h. each i (omega arith)) S k
+    ]
 
 -- the run at its entry switch
-module _ (s w starts : List ℕ) (n clock place first : ℕ) (v trace : List ℕ) (at : EntryReady s w starts n clock place first v trace) where
+module _ {s w starts : List ℕ} {n clock place first : ℕ} {v trace : List ℕ} (at : EntryReady s w starts n clock place first v trace) where
   abbrev m : List Settings
   m = at .ready .read .switches
 
-  abbrev e : Described
-  e = describedBy s m clock place
+  abbrev d : Described
+  d = describedBy s m clock place
 
-  good : Accepted e
-  good = accepted-good s e (at .ready .read .is)
+  good : Accepted d
+  good = accepted-good s d (at .ready .read .is)
 
   pub clock-six : length (clockFrom s clock) ≡ 6
   clock-six = rw (← clock-is s clock m place) (good .six-clock)
 
   module _ (clock′ : List ℕ) (ec : clock′ ≡ clockFrom s clock) (frame : List ℕ) (ef : frame ≡ between v 2 (length v)) where
-    frame-is : frame ≡ e .frame
+    abbrev all : List Settings
+    all = switchesIn w starts n
+
+    abbrev entry : Settings
+    entry = settingsAt w starts first
+
+    frame-is : frame ≡ d .frame
     frame-is = ef ∙ between-drop v ∙ ap (drop 2) (at .value)
 
-    entry-nickname : at .entry .nickname ≡ settingsAt w starts first .nickname
-    entry-nickname = ap (λ (x : Ways). x .nickname) (at .same)
+    plain : plainRun d ≡ runFrom handlingsMost 1 m clock′ (entry .nickname) original frame []
+    plain =
+        rw (ec, ← clock-is s clock m place, frame-is, ← ap (λ (x : Ways). x .nickname) (at .same))
+        (plain-run d (at .entry) (rw (← at .value) (at .entered)))
 
-    plain : plainRun e ≡ runFrom handlingsMost 1 m clock′ (settingsAt w starts first .nickname) original frame []
-    plain = rw (ec, ← clock-is s clock m place, frame-is, ← entry-nickname) (plain-run e (at .entry) (rw (← at .value) (at .entered)))
-
-    alike : Alike m (switchesIn w starts n)
-    alike = count-alike w starts m n (at .ready .read .count) (at .ready .read .stores)
-
-    same : Same (plainRun e) (runOf w starts n first clock′ frame)
+    same : Same (plainRun d) (runOf w starts n first clock′ frame)
     same =
         rw plain
-        (run-alike m (switchesIn w starts n) (named-alike m (switchesIn w starts n) alike) clock′
-        handlingsMost 1 (settingsAt w starts first .nickname) original frame [])
+        (run-alike m all (named-same w starts m (at .ready .read .stores) n (at .ready .read .count)) clock′
+        handlingsMost 1 (entry .nickname) original frame [])
 
     sound : Sound w starts n
-    sound = run-sound s w starts n clock place trace (at .ready)
+    sound = accepts-sound (at .ready .read)
 
     six : length clock′ ≡ 6
     six = rw ec clock-six
 
-    named : switchNamed (switchesIn w starts n) (settingsAt w starts first .nickname) ≡ some (settingsAt w starts first)
-    named =
-        ap (λ (x : ℕ). switchNamed (switchesIn w starts n) x) (named-nickname (switchesIn w starts n) (be16 v 0) (settingsAt w starts first) (at .named))
-        ∙ at .named
+    named : switchNamed all (entry .nickname) ≡ some entry
+    named = ap (switchNamed all) (named-nickname all (be16 v 0) entry (at .named)) ∙ at .named
 
-    fit : (S : Settings) → List·Memᴰ S (switchesIn w starts n) → S .nickname < 65536
-    fit = all-small w starts n (λ i h. sound .each i h)
+    fit : (S : Settings) → List·Memᴰ S all → S .nickname < 65536
+    fit = all-small w starts n (sound .each)
 
     loop-ready : (few : ℕ) → repliesIn (runOf w starts n first clock′ frame) ≤ few → (waiting : List ℕ) → 579 * few ≤ length waiting
         → LoopReady w starts n first clock′ frame waiting trace
     loop-ready few h waiting enough =
-        record {
-          sound = sound;
-          within = at .within;
-          named = named;
-          six = six;
-          short = rw frame-is (good .short-frame);
-          most = omega (arith, same .count, plain-most e good);
-          room = omega (arith, same .count, plain-room e good, at .ready .room);
-          slots = omega (arith, h, enough);
-        }
+        let short : length frame ≤ 2048 = rw frame-is (good .short-frame) in
+        let count = same .count in
+        let most = plain-most d good in
+        let room = plain-room d good in
+        search (arith, sound, named, six)
 
     module _ (two : Bool) (is : two ≡ someEdition2 (switchesIn w starts n)) where
       pub loop-2 : two ≡ true → LoopReady w starts n first clock′ frame (replicate 36477 0) trace
       loop-2 t =
-          loop-ready 63
-          (omega (
-            arith,
-            few-replies (switchesIn w starts n) clock′ six fit
-                handlingsMost 1 (settingsAt w starts first .nickname) original frame,
-            hop-most frame,
-          ))
+          loop-ready 63 (omega (arith, few-replies all clock′ six fit handlingsMost 1 (entry .nickname) original frame, hop-most frame))
           (replicate 36477 0) (omega (arith, length-replicate {A = ℕ} 36477 0))
 
       pub loop-1 : two ≡ false → LoopReady w starts n first clock′ frame (replicate 579 0) trace
       loop-1 t =
-          loop-ready 1 (rw one (one-reply (switchesIn w starts n) clock′ six draft handlingsMost 1 (settingsAt w starts first) original frame among))
+          loop-ready 1 (rw one (one-reply all clock′ six draft handlingsMost 1 entry original frame (named-member all (entry .nickname) entry named)))
           (replicate 579 0) (omega (arith, length-replicate {A = ℕ} 579 0))
         where
-          draft : (S : Settings) → List·Memᴰ S (switchesIn w starts n) → Draft S
-          draft S j = record { nickname-fits = fit S j; edition-1 = edition-1-all (switchesIn w starts n) (sym is ∙ t) S j }
+          draft : (S : Settings) → List·Memᴰ S all → Draft S
+          draft S j = record { nickname-fits = fit S j; edition-1 = edition-1-all all (sym is ∙ t) S j }
 
-          one : runOf w starts n first clock′ frame ≡ singleRun handlingsMost 1 (switchesIn w starts n) clock′ (settingsAt w starts first) original frame
-          one =
-              single (switchesIn w starts n) clock′ six draft handlingsMost 1 (settingsAt w starts first .nickname) (settingsAt w starts first)
-              named original frame
+          one : runOf w starts n first clock′ frame ≡ singleRun handlingsMost 1 all clock′ entry original frame
+          one = single all clock′ six draft handlingsMost 1 (entry .nickname) entry named original frame
 
-          among : List·Memᴰ (settingsAt w starts first) (switchesIn w starts n)
-          among = named-member (switchesIn w starts n) (settingsAt w starts first .nickname) (settingsAt w starts first) named
-
-    pub run-plain : (trace′ : List ℕ) (r : ℕ) → Ran (runOf w starts n first clock′ frame) trace trace′ r → Ran (statesOf s) trace trace′ r
-    run-plain trace′ r ran =
-        rw (states-so s e (at .ready .read .is))
-        (record { counted = ran .counted ∙ sym (same .count); traced = ran .traced ∙ ap (put trace 0) (sym (same .trace)) })
+    pub run-plain : {trace′ : List ℕ} {r : ℕ} → Ran (runOf w starts n first clock′ frame) trace trace′ r → Ran (statesOf s) trace trace′ r
+    run-plain ran =
+        rw (states-so s d (at .ready .read .is))
+        (record { counted = ran .counted ∙ sym (same .count); traced = rw (same .trace) (ran .traced) })
 
 pub ruleset run-at-laws = (needs, clock-six, loop-2, loop-1, run-plain)
 
 -- the outcome, by the room and the description
 module _ (file trace : List ℕ) where
-  done-so : (trace′ : List ℕ) (code count : ℕ) → code ≡ campus file (length trace) .code → count ≡ campus file (length trace) .count
+  done-so : {trace′ : List ℕ} {code count : ℕ} → code ≡ campus file (length trace) .code → count ≡ campus file (length trace) .count
       → trace′ ≡ traceAfter trace (campus file (length trace)) → CampusDone file trace trace′ code count
-  done-so trace′ code count c n t = record { coded = c; counted = n; traced = t; demanded = demand file trace trace′ code count c n t }
+  done-so {trace′} {code} {count} c n t =
+      let demanded = demand file trace trace′ code count c n t in
+      search
 
   refusal-done : (code : ℕ) → campus file (length trace) ≡ refusal code → CampusDone file trace trace code 0
-  refusal-done code o =
-      done-so trace code 0
-      (sym (ap (λ (x : Outcome). x .code) o))
-      (sym (ap (λ (x : Outcome). x .count) o))
-      (sym (put-none trace 0) ∙ ap (λ (x : Outcome). put trace 0 (x .trace)) (sym o))
+  refusal-done code o = done-so (rw o) (rw o) (rw o (sym (put-none trace 0)))
 
   pub done-short : length trace < 640 → CampusDone file trace trace 49 0
   done-short h = refusal-done 49 (campus-short file (length trace) h)
@@ -283,59 +240,50 @@ module _ (file trace : List ℕ) where
     done-refused z = refusal-done (r .code) (campus-refused file (length trace) h (r .code) (sym (read .refuses z)))
 
     module _ (z : r .code ≡ 0) where
+      abbrev accepts : Accepts file w starts (r .n) (r .clock) (r .place)
+      accepts = read .accepts z
+
       abbrev its : Described
       its = describedBy file (read .accepts z .switches) (r .clock) (r .place)
 
       pub read-sound : Sound w starts (r .n)
-      read-sound =
-          let a = read .accepts z in
-          stores-sound w starts (a .switches) (a .stores) (r .n) (a .count) (a .span)
-          (omega (arith, accepted-good file its (a .is) .few-switches, a .count, a .sixteen))
+      read-sound = accepts-sound accepts
 
-      module _ (two : Bool) (e : two ≡ someEdition2 (switchesIn w starts (r .n))) where
-        edition-so : someEdition2 (read .accepts z .switches) ≡ two
-        edition-so =
-            edition-alike (read .accepts z .switches) (switchesIn w starts (r .n))
-            (count-alike w starts (read .accepts z .switches) (r .n) (read .accepts z .count) (read .accepts z .stores))
-            ∙ sym e
-
-        needed-so : traceNeeded its ≡ neededBy two
+      module _ (two : Bool) (e : two ≡ someEdition2 (switchesIn w starts (r .n))) (room : ℕ) (is : room ≡ neededBy two) where
+        needed-so : traceNeeded its ≡ room
         unfolding traceNeeded
-        needed-so = rw edition-so (go two)
-          where
-            go : (b : Bool) → (if b then 32768 else 640) ≡ neededBy b
-            go true = refl
-            go false = refl
+        needed-so =
+            rw (is, edition-same w starts (accepts .switches) (accepts .stores) (r .n) (accepts .count) ∙ sym e)
+            (elim two [ true ↦ refl | false ↦ refl ])
 
-        module _ (room : ℕ) (is : room ≡ neededBy two) where
-          pub done-needed : length trace < room → CampusDone file trace trace 49 0
-          done-needed k = refusal-done 49 (campus-needed file (length trace) h its (read .accepts z .is) (omega (arith, needed-so)))
+        pub done-needed : length trace < room → CampusDone file trace trace 49 0
+        done-needed k = refusal-done 49 (campus-needed file (length trace) h its (accepts .is) (omega (arith, needed-so)))
 
-          pub run-ready : room ≤ length trace → RunReady file w starts (r .n) (r .clock) (r .place) trace
-          run-ready k = record { read = read .accepts z; room = omega (arith, needed-so) }
+        pub run-ready : room ≤ length trace → RunReady file w starts (r .n) (r .clock) (r .place) trace
+        run-ready k = record { read = accepts; room = omega (arith, needed-so) }
 
-          pub done-run : room ≤ length trace → (trace′ : List ℕ) (count : ℕ) → Ran (statesOf file) trace trace′ count
-              → CampusDone file trace trace′ 0 count
-          done-run k trace′ count ran =
-              let o = campus-accepted file (length trace) its (read .accepts z .is) (omega (arith, needed-so)) in
-              let p = states-so file its (read .accepts z .is) in
-              done-so trace′ 0 count
-              (sym (ap (λ (x : Outcome). x .code) o))
-              (ran .counted ∙ ap length p ∙ sym (ap (λ (x : Outcome). x .count) o))
-              (ran .traced ∙ ap (λ (x : List State). put trace 0 (traceOctets x)) p ∙ ap (λ (x : Outcome). put trace 0 (x .trace)) (sym o))
+        pub done-run : room ≤ length trace → {trace′ : List ℕ} {count : ℕ} → Ran (statesOf file) trace trace′ count
+            → CampusDone file trace trace′ 0 count
+        done-run k {trace′} {count} ran =
+            let o = campus-accepted file (length trace) its (accepts .is) (omega (arith, needed-so)) in
+            let p = states-so file its (accepts .is) in
+            done-so (rw o) (rw o (rw p at (ran .counted))) (rw o (rw p at (ran .traced)))
 
 pub ruleset run-in-laws = (needs, done-refused, read-sound, done-needed, run-ready, done-run)
 
 -- words enough
 module _ (octets : ℕ) where
+  words-few : (n : ℕ) → octets ≤ 5808 → 4 * octets / 11 + 6 ≤ n → wordsFor octets ≤ length {A = ℕ} (replicate n 0)
+  words-few n h e = rw (le-leb octets 5808 h, length-replicate {A = ℕ} n 0) e
+
   pub words-80 : octets ≤ 203 → wordsFor octets ≤ length {A = ℕ} (replicate 80 0)
-  words-80 h = rw (le-leb octets 5808 (omega arith), length-replicate {A = ℕ} 80 0) (omega arith)
+  words-80 h = words-few 80 (omega arith) (omega arith)
 
   pub words-256 : octets ≤ 687 → wordsFor octets ≤ length {A = ℕ} (replicate 256 0)
-  words-256 h = rw (le-leb octets 5808 (omega arith), length-replicate {A = ℕ} 256 0) (omega arith)
+  words-256 h = words-few 256 (omega arith) (omega arith)
 
   pub words-1024 : octets ≤ 2799 → wordsFor octets ≤ length {A = ℕ} (replicate 1024 0)
-  words-1024 h = rw (le-leb octets 5808 (omega arith), length-replicate {A = ℕ} 1024 0) (omega arith)
+  words-1024 h = words-few 1024 (omega arith) (omega arith)
 
   pub words-all : wordsFor octets ≤ length {A = ℕ} (replicate 2118 0)
   words-all =

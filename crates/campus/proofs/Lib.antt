@@ -1,9 +1,5 @@
-pub mod SwitchLaws
 pub mod StoresLaws
-pub mod TakeLaws
 pub mod ReadLaws
-pub mod StepLaws
 pub mod QueueLaws
-pub mod LoopLaws
-pub mod AlikeLaws
+pub mod RunLaws
 pub mod DoneLaws

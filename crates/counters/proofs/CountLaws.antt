@@ -1,6 +1,6 @@
 -- The scan of the counters, one more answer counted, and one law for each way out of the counted call. By the tests in their order and by
 -- induction over the counters. Assumes nothing.
-use mathlib.Core.Path.{_≡_, refl, sym, ap, _∙_}
+use mathlib.Core.Path.{_≡_, refl, sym, _∙_}
 use mathlib.Core.List.{List, [], _∷_}
 use mathlib.Core.Bool.{Bool, true, false, _||_}
 use Prim.Native.Nat.{ℕ, zero, suc, _+_, _<_, _≤_}
@@ -14,7 +14,6 @@ use mir.Val.{Fits}
 use mir.Syntax.{w64}
 use lib.ListN.{length, getD, set, drop}
 use lib.Seq.{drop-cons, drop-length}
-use Rattle.rules.specs.Octets.{if_then_else_}
 use Rattle.rules.specs.Answer.{dropped}
 use Rattle.rules.specs.Handling.{handled}
 use Rattle.rules.proofs.TestLaws.{by-test, or-false, or-no, or-assoc}
@@ -23,7 +22,7 @@ use Rattle.rules.proofs.HandledLaws.{handled-bounded}
 use Rattle.handler.specs.Shapes.{answerOf}
 use Rattle.handler.specs.Tasks.{Both}
 use Rattle.handler.specs.declared.answers.Answer.{Answer}
-use Rattle.counters.specs.Counting.{greatest, made, Words, Above, someGreatest, full, oneMore, Call, Outcome, uncounted, counted, CallDone}
+use Rattle.counters.specs.Counting.{greatest, made, Words, Above, someGreatest, full, oneMore, Call, uncounted, counted, CallDone}
 use Rattle.counters.specs.declared.Counters.{Counters}
 
 -- the scan: what was found so far and what the counters from the i-th on hold make up the whole
@@ -39,24 +38,17 @@ module _ (counts : List ℕ) (total : ℕ) where
   module _ (found : Bool) (i : ℕ) (s : Scanning counts total found i) (whole : length counts ≡ 64) where
     pub scan-goes-on : i < 64 → Scanning counts total (found || eqb (getD counts i 0) greatest) (i + 1)
     unfolding someGreatest
-    scan-goes-on h =
-        record {
-          within = omega arith;
-          rest = rw add-one (or-assoc found _ _ ∙ ap (λ (l : List ℕ). found || someGreatest l) (sym (drop-cons counts i 0 (omega arith))) ∙ s .rest);
-        }
+    scan-goes-on h = record { within = omega arith; rest = rw (add-one, or-assoc) (rw (drop-cons counts i 0 (omega arith)) at (s .rest)) }
 
     pub scan-ends : 64 ≤ i → found ≡ full (made counts total)
     unfolding someGreatest
     scan-ends h =
         let e : i ≡ length counts = omega (arith, s .within) in
-        sym (or-no found) ∙ ap (λ (l : List ℕ). found || someGreatest l) (sym (drop-length counts) ∙ ap (λ (n : ℕ). drop n counts) (sym e)) ∙ s .rest
+        rw (e, drop-length, or-no) at (s .rest)
 
 pub ruleset some-greatest-laws = (needs, scan-begins, scan-goes-on, scan-ends)
 
 -- the bits met: what was met so far is above the total and the counters passed
-or-above : (a b : ℕ) → (a ≤ bitOr a b) × (b ≤ bitOr a b)
-or-above a b = (omega (arith, or-add-and a b, and-le-r a b), omega (arith, or-add-and a b, and-le-l a b))
-
 pub record Meeting (counts : List ℕ) (total met i : ℕ) : Type 0 where
   pub within : i ≤ 64
   pub over : total ≤ met
@@ -69,11 +61,13 @@ module _ (counts : List ℕ) (total : ℕ) where
   module _ (met i : ℕ) (m : Meeting counts total met i) where
     pub meeting-goes-on : i < 64 → Meeting counts total (bitOr met (getD counts i 0)) (i + 1)
     meeting-goes-on h =
-        let up = or-above met (getD counts i 0) in
+        let n = getD counts i 0 in
+        let up : met ≤ bitOr met n = omega (arith, or-add-and met n, and-le-r met n) in
+        let new : n ≤ bitOr met n = omega (arith, or-add-and met n, and-le-l met n) in
         record {
           within = omega arith;
-          over = omega (arith, m .over, up .0);
-          each = λ j k. by-test (eqb j i) (λ t. rw (eqb-true j i t) (up .1)) (λ t. omega (arith, m .each j (omega (arith, eqb-false j i t)), up .0));
+          over = omega (arith, m .over);
+          each = λ j k. by-test (eqb j i) (λ t. rw (eqb-true j i t) new) (λ t. omega (arith, m .each j (omega (arith, eqb-false j i t))));
         }
 
     pub meeting-ends : 64 ≤ i → Above counts total met
@@ -85,14 +79,12 @@ pub ruleset bits-met-laws = (needs, meeting-begins, meeting-goes-on, meeting-end
 none-above : (ns : List ℕ) (r : ℕ) → r < greatest → ((i : ℕ) → i < length ns → getD ns i 0 ≤ r) → someGreatest ns ≡ false
 unfolding someGreatest
 none-above [] r h e = refl
-none-above (n ∷ ns) r h e =
-    rw (ne-eqb n greatest (λ g. omega (arith, e 0 (omega arith)))) (none-above ns r h (λ i k. e (suc i) (omega arith)))
+none-above (n ∷ ns) r h e = rw (ne-eqb n greatest (omega (arith, e 0 (omega arith)))) (none-above ns r h (λ i k. e (suc i) (omega arith)))
 
-module _ (counts : List ℕ) (total r : ℕ) (a : Above counts total r) (whole : length counts ≡ 64) where
-  pub none-full : r < 9223372036854775808 → false ≡ full (made counts total)
-  unfolding full
-  none-full h =
-      sym (rw (ne-eqb total greatest (λ g. omega (arith, a .over))) (none-above counts r (omega arith) (λ i k. a .each i (omega (arith, whole)))))
+pub none-full : (counts : List ℕ) (total r : ℕ) → Above counts total r → length counts ≡ 64 → r < 9223372036854775808 → false ≡ full (made counts total)
+unfolding full
+none-full counts total r a whole h =
+    rw (ne-eqb total greatest (omega (arith, a .over)), none-above counts r (omega arith) (λ i k. a .each i (omega (arith, whole))))
 
 pub ruleset full-laws = (needs, none-full)
 
@@ -109,33 +101,26 @@ module _ (counts : List ℕ) (total : ℕ) (found : Bool) (scanned : found ≡ f
   parts = or-false (eqb total greatest) (someGreatest counts) (sym scanned ∙ f)
 
   pub total-fits : Fits w64 total → Fits w64 (total + 1)
-  total-fits h = let n = eqb-false total greatest (parts .0) in record { fits = omega (arith, h .fits) }
+  total-fits h = record { fits = omega (arith, h .fits, eqb-false total greatest (parts .0)) }
 
   pub counter-below : (i : ℕ) → i < 64 → Words counts → getD counts i 0 < greatest
-  counter-below i s w =
-      let n = none-greatest counts i (parts .1) (omega (arith, w .size)) in
-      omega (arith, w .each i)
+  counter-below i s w = omega (arith, w .each i, none-greatest counts i (parts .1) (omega (arith, w .size)))
 
 -- every answer's number has a counter
 pub number-small : (settings clock : List ℕ) (room besideRoom : ℕ) (f : List ℕ) (a : Answer) (out out′ beside beside′ : List ℕ)
     → Both (handled settings clock room besideRoom f) a out out′ beside beside′ → a .number < 64
 number-small settings clock room besideRoom f a out out′ beside beside′ b =
-    omega (arith, ap (λ (b : Answer). b .number) (b .answer), handled-bounded settings clock room besideRoom f .number-small)
+    rw (b .answer) (handled-bounded settings clock room besideRoom f .number-small)
 
 -- the two outcomes of a call
 module _ (c : Counters) (x : Call) where
-  abbrev either : Bool → Outcome
-  either b =
-      if b then record { answer = dropped 4; counters = c }
-      else record { answer = uncounted x; counters = oneMore c (uncounted x .number) }
-
   pub counted-full : full c ≡ true → counted c x ≡ record { answer = dropped 4; counters = c }
   unfolding counted
-  counted-full e = ap either e
+  counted-full e = rw e
 
   pub counted-open : full c ≡ false → counted c x ≡ record { answer = uncounted x; counters = oneMore c (uncounted x .number) }
   unfolding counted
-  counted-open e = ap either e
+  counted-open e = rw e
 
 module _ (counts : List ℕ) (total : ℕ) (x : Call) (found : Bool) (scanned : found ≡ full (made counts total)) (r : Answer) (out beside : List ℕ) where
   pub refuses : found ≡ true → r ≡ answerOf (dropped 4) → CallDone (counted (made counts total) x) r (made counts total) out out beside beside
@@ -148,10 +133,6 @@ module _ (counts : List ℕ) (total : ℕ) (x : Call) (found : Bool) (scanned : 
       → CallDone (counted (made counts total) x) r (made counts′ (total + 1)) out out′ beside beside′
   unfolding oneMore
   counts-one f out′ beside′ counts′ b c =
-      rw (counted-open (made counts total) x (sym scanned ∙ f))
-      (record {
-        both = b;
-        counters = ap (λ (l : List ℕ). made l (total + 1)) c ∙ ap (oneMore (made counts total)) (ap (λ (a : Answer). a .number) (b .answer));
-      })
+      rw (counted-open (made counts total) x (sym scanned ∙ f)) (record { both = b; counters = rw (c, b .answer) })
 
 pub ruleset count-laws = (needs, total-fits, counter-below, number-small, refuses, counts-one)

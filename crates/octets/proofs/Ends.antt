@@ -1,30 +1,30 @@
 -- Reading at and past the end of an octet string, and copying what fits. Assumes nothing.
-use mathlib.Core.Path.{_≡_, sym, ap, _∙_}
+use mathlib.Core.Path.{_≡_, sym, _∙_}
 use mathlib.Core.List.{List, [], _∷_}
 use Prim.Native.Nat.{ℕ, _+_, _-_, _*_, _/_, _%_, _≤_, _<_}
 use native.Mathlib.Omega.{arith}
 use native.Mathlib.Numerals.{add-one}
 use borrow.Author.Needs.{needs}
-use borrow.Author.Tests.{le-leb, lt-leb}
 use mir.Syntax.{w8}
 use mir.Val.{Fits}
 use lib.Seq.{paste, paste-zero, paste-suc, take-length}
 use lib.ListN.{length, getD, set, List·getD-eq-default}
+use Rattle.rules.proofs.TestLaws.{tests}
 use Rattle.rules.specs.Octets as O
 use Rattle.rules.specs.Octets.{octet, be16, be32, be48, octets48, put}
 use Rattle.octets.specs.Copy.{putFitting}
 
 -- what is read past the end is 0
-octet-past : (s : List ℕ) (n : ℕ) → length s ≤ n → octet s n ≡ 0
-octet-past s n h = ap (λ (x : ℕ). x % 256) (List·getD-eq-default s 0 h)
+pub octet-past : (s : List ℕ) (n : ℕ) → length s ≤ n → 0 ≡ octet s n
+octet-past s n h = rw (List·getD-eq-default s 0 h)
 
-be16-past : (s : List ℕ) (n : ℕ) → length s ≤ n → be16 s n ≡ 0
+pub be16-past : (s : List ℕ) (n : ℕ) → length s ≤ n → 0 ≡ be16 s n
 be16-past s n h = omega (arith, octet-past s n h, octet-past s (n + 1) (omega arith))
 
-be32-past : (s : List ℕ) (n : ℕ) → length s ≤ n → be32 s n ≡ 0
+pub be32-past : (s : List ℕ) (n : ℕ) → length s ≤ n → 0 ≡ be32 s n
 be32-past s n h = omega (arith, be16-past s n h, be16-past s (n + 2) (omega arith))
 
-be48-past : (s : List ℕ) (n : ℕ) → length s ≤ n → be48 s n ≡ 0
+pub be48-past : (s : List ℕ) (n : ℕ) → length s ≤ n → 0 ≡ be48 s n
 be48-past s n h = omega (arith, be16-past s n h, be32-past s (n + 2) (omega arith))
 
 -- reading as the code does: octets lent are below 256, and what is past the end reads 0
@@ -34,18 +34,6 @@ module _ (s : List ℕ) (at : ℕ) where
 
   pub octet-read : Octets → getD s at 0 ≡ octet s at
   octet-read octets = omega (arith, octets at)
-
-  pub octet-none : length s ≤ at → 0 ≡ octet s at
-  octet-none h = sym (octet-past s at h)
-
-  pub be16-none : length s ≤ at → 0 ≡ be16 s at
-  be16-none h = sym (be16-past s at h)
-
-  pub be32-none : length s ≤ at → 0 ≡ be32 s at
-  be32-none h = sym (be32-past s at h)
-
-  pub be48-none : length s ≤ at → 0 ≡ be48 s at
-  be48-none h = sym (be48-past s at h)
 
   module _ (r high low : ℕ) where
     pub be16-last : r ≡ getD s at 0 * 256 + 0 → Octets → length s - at < 2 → r ≡ be16 s at
@@ -66,13 +54,13 @@ module _ (s : List ℕ) (at : ℕ) where
     pub be48-read : r ≡ high * 4294967296 + low → high ≡ be16 s at → low ≡ be32 s (at + 2) → r ≡ be48 s at
     be48-read e eh el = rw (← eh, ← el) e
 
-pub ruleset octet-laws = (needs, octet-read, octet-none)
+pub ruleset octet-laws = (needs, octet-read, octet-past)
 
-pub ruleset be16-laws = (needs, be16-none, be16-last, be16-read)
+pub ruleset be16-laws = (needs, be16-past, be16-last, be16-read)
 
-pub ruleset be32-laws = (needs, be32-none, be32-last, be32-read)
+pub ruleset be32-laws = (needs, be32-past, be32-last, be32-read)
 
-pub ruleset be48-laws = (needs, be48-none, be48-last, be48-read)
+pub ruleset be48-laws = (needs, be48-past, be48-last, be48-read)
 
 -- the six octets of a number
 pub six-octets : (n a b c d e f : ℕ) → a ≡ n / 1099511627776 % 256 → b ≡ n / 4294967296 % 256 → c ≡ n / 16777216 % 256 → d ≡ n / 65536 % 256
@@ -87,11 +75,11 @@ pub ruleset six-laws = (needs, six-octets)
 module _ (d : List ℕ) (at : ℕ) (s : List ℕ) where
   pub put-fits : at + length s ≤ length d → putFitting d at s ≡ put d at s
   unfolding putFitting
-  put-fits h = simp (le-leb (at + length s) (length d) h)
+  put-fits h = simp tests
 
   pub put-not : length d < at + length s → d ≡ putFitting d at s
   unfolding putFitting
-  put-not h = simp (lt-leb (at + length s) (length d) h)
+  put-not h = simp tests
 
   -- as the code tests it
   pub put-outside : length d < at → d ≡ putFitting d at s

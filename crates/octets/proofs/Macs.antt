@@ -3,15 +3,15 @@
 use mathlib.Core.Path.{_≡_, sym, _∙_}
 use mathlib.Core.List.{List}
 use mathlib.Core.Bool.{Bool, true, false, not, _||_}
-use Prim.Native.Nat.{ℕ, _+_, _*_, _/_, _%_}
+use Prim.Native.Nat.{ℕ, _+_, _*_, _/_, _%_, _≤_}
 use native.Mathlib.Omega.{arith}
 use borrow.Author.Needs.{needs}
-use borrow.Author.Tests.{ne-eqb, eqb-true, eqb-false, le-leb, not-true, not-false}
+use borrow.Author.Tests.{ne-eqb, le-leb, not-true, not-false}
 use lib.Bits.{bitAnd, and-mask}
 use lib.Dec.{leb, eqb}
+use Rattle.rules.proofs.TestLaws.{by-equal, tests}
 use Rattle.rules.specs.Octets.{be16, be32, be48}
 use Rattle.rules.specs.Settings.{nicknameValid, macGood, switchGood, switchOf}
-use Rattle.rules.proofs.TestLaws.{by-test}
 
 -- 0x0001 to 0xFFBF
 module _ (n : ℕ) where
@@ -46,20 +46,20 @@ module _ (v : List ℕ) (at h : ℕ) (is : h ≡ be16 v at) where
 pub ruleset mac-good-laws = (needs, mac-group, mac-first, mac-rest)
 
 -- a neighbour is withdrawn or valid exactly where it is not above the valid nicknames
-pub withdrawn-or-valid : (n : ℕ) → leb n 0xFFBF ≡ (eqb n 0 || nicknameValid n)
+pub withdrawn-or-valid : (n : ℕ) → (eqb n 0 || nicknameValid n) ≡ leb n 0xFFBF
 withdrawn-or-valid n =
-    by-test (eqb n 0)
-    (λ e. rw (e, eqb-true n 0 e))
-    (λ e. rw (e, le-leb 1 n (omega (arith, eqb-false n 0 e))))
+    by-equal n 0 (λ e. rw e) (λ h.
+    let some : 1 ≤ n = omega (arith, h) in
+    simp tests)
 
 -- a switch: its nickname and its MAC
 module _ (v : List ℕ) (n : ℕ) (is-n : n ≡ be16 v 0) (a : Bool) (is-a : a ≡ nicknameValid n) where
   pub nickname-bad : not a ≡ true → false ≡ switchGood (switchOf v)
   unfolding switchGood
-  nickname-bad t = rw (← is-n, ← is-a, not-true a t)
+  nickname-bad t = cc (not-true a t)
 
   pub mac-decides : not a ≡ false → (b : Bool) → b ≡ macGood (be48 v 2) → b ≡ switchGood (switchOf v)
   unfolding switchGood
-  mac-decides t b is-b = rw (← is-n, ← is-a, not-false a t) is-b
+  mac-decides t b is-b = cc (not-false a t)
 
 pub ruleset switch-good-laws = (needs, nickname-bad, mac-decides)

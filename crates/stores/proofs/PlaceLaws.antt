@@ -1,26 +1,39 @@
--- Where a search or a hint leads, and that there is no record for others: one law for each test of the definitions. By computation. Assumes nothing.
-use Prim.Native.Nat.{ℕ, _+_, _≤_, _<_}
+-- What a good store has, where a search or a hint leads, and that there is no record for others: one law for each test of the definitions. By computation. Assumes nothing.
+use Prim.Native.Nat.{ℕ, _+_, _*_, _≤_, _<_}
 use mathlib.Core.Path.{_≡_}
 use mathlib.Core.List.{List}
 use mathlib.Core.Bool.{Bool, true, false}
-use borrow.Author.Tests.{lt-ltb, le-ltb, le-leb, lt-leb, ne-eqb}
+use native.Mathlib.Omega.{arith}
+use borrow.Author.Tests.{leb-true}
+use lib.ListN.{length}
+use Rattle.rules.proofs.TestLaws.{tests, and-left, and-right}
 use Rattle.rules.specs.declared.Ruling.the-variants.{Absent}
-use Rattle.stores.specs.Store.{destAt, stepped, searched, lastAt, hintAt, placeIn, hopFor}
+use Rattle.stores.specs.Store.{nicknameIn, countIn, destAt, stepped, searched, lastAt, hintAt, placeIn, hopFor, storeGood, Whole}
+
+-- what a good store has
+pub good-whole : (w : List ℕ) → storeGood w ≡ true → Whole w
+unfolding storeGood
+good-whole w e =
+    record {
+      named = omega (arith, leb-true (nicknameIn w) 0xFFBF (search (and-left, and-right)));
+      few = leb-true (countIn w) 64 (search (and-left, and-right));
+      long = leb-true (4 + 2 * countIn w) (length w) (search (and-left, and-right));
+    }
 
 -- the search
 module _ (w : List ℕ) (n d at half : ℕ) where
   pub step-past : n ≤ at + half → at ≡ stepped w n d at half
   unfolding stepped
-  step-past h = simp (le-ltb (at + half) n h)
+  step-past h = simp tests
 
   module _ (a : at + half < n) (key : ℕ) (is : key ≡ destAt w (at + half)) where
     pub step-up : key ≤ d → at + half ≡ stepped w n d at half
     unfolding stepped
-    step-up h = simp (lt-ltb (at + half) n a, le-leb (destAt w (at + half)) d (rw is at h))
+    step-up h = simp (← is, tests)
 
     pub step-stay : d < key → at ≡ stepped w n d at half
     unfolding stepped
-    step-stay h = simp (lt-ltb (at + half) n a, lt-leb (destAt w (at + half)) d (rw is at h))
+    step-stay h = simp (← is, tests)
 
 -- the place that a hint or the search comes to
 module _ (w : List ℕ) (n d i : ℕ) (e : i ≡ hintAt w d) (last : Bool) (is : last ≡ lastAt w n d i) where
@@ -36,9 +49,9 @@ module _ (w : List ℕ) (n d i : ℕ) (e : i ≡ hintAt w d) (last : Bool) (is :
 module _ (w : List ℕ) (n d i : ℕ) where
   pub for-past : n ≤ i → Absent ≡ hopFor w n d i
   unfolding hopFor
-  for-past h = rw (le-ltb i n h)
+  for-past h = simp tests
 
   module _ (a : i < n) (key : ℕ) (is : key ≡ destAt w i) where
     pub for-other : (key ≡ d → ⊥) → Absent ≡ hopFor w n d i
     unfolding hopFor
-    for-other h = rw (lt-ltb i n a, ← is, ne-eqb key d h)
+    for-other h = simp (← is, tests)

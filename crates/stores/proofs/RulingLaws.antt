@@ -1,13 +1,12 @@
 -- The record that rules among records in a row: those of other destinations count for nothing, the last of a rising row rules, and the order
 -- in which two that differ are seen is no matter. By induction on the row. Assumes nothing.
-use Prim.Native.Nat.{ℕ, zero, suc, _+_, _≤_, _<_}
+use Prim.Native.Nat.{ℕ, zero, suc, _+_, _-_, _≤_, _<_}
 use mathlib.Core.Path.{_≡_, refl, sym, ap, _∙_}
 use mathlib.Core.List.{List, [], _∷_, _++_, foldl}
 use native.Mathlib.Omega.{arith}
 use native.Mathlib.Nat.{zero-add, add-zero}
-use lib.Dec.{eqb, ltb}
-use borrow.Author.Tests.{lt-ltb, le-ltb, eq-eqb, ne-eqb, eqb-true, eqb-false, ltb-true, ltb-false}
-use Rattle.rules.proofs.TestLaws.{by-test}
+use borrow.Author.Tests.{ne-eqb}
+use Rattle.rules.proofs.TestLaws.{by-order, by-equal, tests}
 use Rattle.rules.specs.declared.NextHop.{NextHop}
 use Rattle.rules.specs.declared.Ruling.{Ruling}
 use Rattle.rules.specs.declared.Ruling.the-variants.{Found, Absent}
@@ -17,7 +16,7 @@ use Rattle.stores.specs.Store.{hopAt, hopsFrom}
 module _ (d : ℕ) where
   pub newer-other : (best : Ruling) (r : NextHop) → (r .destination ≡ d → ⊥) → S.newer d best r ≡ best
   unfolding S.newer
-  newer-other best r h = rw (S.newer, ne-eqb (r .destination) d h)
+  newer-other best r h = rw (S.newer, ne-eqb)
 
   -- no record yet, or one with a serial below m
   abbrev pub Below : ℕ → Ruling → Type 0
@@ -26,108 +25,83 @@ module _ (d : ℕ) where
 
   pub newer-rules : (best : Ruling) (r : NextHop) → r .destination ≡ d → Below (r .serial) best → S.newer d best r ≡ Found r
   unfolding S.newer
-  newer-rules Absent r e h = rw (S.newer, eq-eqb (r .destination) d e)
-  newer-rules (Found q) r e h = rw (S.newer, eq-eqb (r .destination) d e, lt-ltb (q .serial) (r .serial) h)
+  newer-rules Absent r e h = simp (S.newer, tests)
+  newer-rules (Found q) r e h = simp (S.newer, tests)
 
-  pub newer-stays : (q r : NextHop) → r .destination ≡ d → r .serial ≤ q .serial → S.newer d (Found q) r ≡ Found q
+  newer-mine : (m : ℕ) (best : Ruling) (r : NextHop) → Below m best → r .destination ≡ d → r .serial < m → Below m (S.newer d best r)
   unfolding S.newer
-  newer-stays q r e h = rw (S.newer, eq-eqb (r .destination) d e, le-ltb (q .serial) (r .serial) h)
+  newer-mine m Absent r h e k = simp (S.newer, tests) k
+  newer-mine m (Found q) r h e k = by-order (q .serial) (r .serial) (λ l. simp (S.newer, tests) k) (λ l. simp (S.newer, tests) h)
 
   pub newer-below : (m : ℕ) (best : Ruling) (r : NextHop) → Below m best → (r .destination ≡ d → r .serial < m) → Below m (S.newer d best r)
-  newer-below m best r h k =
-      by-test (eqb (r .destination) d) (λ t. mine best h (eqb-true (r .destination) d t)) (λ f. rw (newer-other best r (eqb-false (r .destination) d f)) h)
-    where
-      mine : (best : Ruling) → Below m best → r .destination ≡ d → Below m (S.newer d best r)
-      mine Absent h e = rw (newer-rules Absent r e tt) (k e)
-      mine (Found q) h e =
-          by-test (ltb (q .serial) (r .serial))
-          (λ t. rw (newer-rules (Found q) r e (ltb-true (q .serial) (r .serial) t)) (k e))
-          (λ f. rw (newer-stays q r e (ltb-false (q .serial) (r .serial) f)) h)
-
-  module _ (w : List ℕ) where
-    pub row-others : (k i : ℕ) (best : Ruling) → ((j : ℕ) → i ≤ j → j < i + k → hopAt w j .destination ≡ d → ⊥) → foldl (S.newer d) best (hopsFrom w i k) ≡ best
-    unfolding hopsFrom
-    row-others zero i best h = refl
-    row-others (suc k) i best h =
-        row-others k (suc i) (S.newer d best (hopAt w i)) (λ j a b. h j (omega arith) (omega arith))
-        ∙ newer-other best (hopAt w i) (h i (omega arith) (omega arith))
-
-    pub row-below : (m k i : ℕ) (best : Ruling) → Below m best → ((j : ℕ) → i ≤ j → j < i + k → hopAt w j .destination ≡ d → hopAt w j .serial < m)
-        → Below m (foldl (S.newer d) best (hopsFrom w i k))
-    unfolding hopsFrom
-    row-below m zero i best b h = b
-    row-below m (suc k) i best b h =
-        row-below m k (suc i) (S.newer d best (hopAt w i)) (newer-below m best (hopAt w i) b (h i (omega arith) (omega arith)))
-        (λ j a c. h j (omega arith) (omega arith))
+  newer-below m best r h k = by-equal (r .destination) d (λ e. newer-mine m best r h e (k e)) (λ n. rw newer-other h)
 
   -- two that differ may be seen in either order
-  module _ (r q : NextHop) (er : r .destination ≡ d) (eq : q .destination ≡ d) (h : r .serial < q .serial) where
-    lower-first : (best : Ruling) → S.newer d (S.newer d best r) q ≡ S.newer d best q
-    lower-first Absent = rw (newer-rules Absent r er tt, newer-rules (Found r) q eq h, newer-rules Absent q eq tt)
-    lower-first (Found b) =
-        by-test (ltb (b .serial) (r .serial))
-        (λ t.
-        let l = ltb-true (b .serial) (r .serial) t in
-        rw (newer-rules (Found b) r er l, newer-rules (Found r) q eq h, newer-rules (Found b) q eq (omega arith)))
-        (λ f. rw (newer-stays b r er (ltb-false (b .serial) (r .serial) f)))
-
-    lower-last : (best : Ruling) → S.newer d (S.newer d best q) r ≡ S.newer d best q
-    lower-last Absent = rw (newer-rules Absent q eq tt, newer-stays q r er (omega arith))
-    lower-last (Found b) =
-        by-test (ltb (b .serial) (q .serial))
-        (λ t. rw (newer-rules (Found b) q eq (ltb-true (b .serial) (q .serial) t), newer-stays q r er (omega arith)))
-        (λ f.
-        let l = ltb-false (b .serial) (q .serial) f in
-        rw (newer-stays b q eq l, newer-stays b r er (omega arith)))
+  newer-turn : (best : Ruling) (r q : NextHop) → r .destination ≡ d → q .destination ≡ d → r .serial < q .serial
+      → S.newer d (S.newer d best r) q ≡ S.newer d (S.newer d best q) r
+  unfolding S.newer
+  newer-turn Absent r q er eq h =
+      let k : r .serial ≤ q .serial = omega arith in
+      simp (S.newer, tests)
+  newer-turn (Found b) r q er eq h =
+      let k : r .serial ≤ q .serial = omega arith in
+      by-order (b .serial) (r .serial)
+      (λ l.
+      let m : b .serial < q .serial = omega arith in
+      simp (S.newer, tests))
+      (λ l. by-order (b .serial) (q .serial) (λ m. simp (S.newer, tests)) (λ m. simp (S.newer, tests)))
 
   pub newer-swap : (best : Ruling) (r q : NextHop) → (q .destination ≡ r .destination → q .serial ≡ r .serial → ⊥)
       → S.newer d (S.newer d best r) q ≡ S.newer d (S.newer d best q) r
   newer-swap best r q h =
-      by-test (eqb (r .destination) d)
-      (λ t. by-test (eqb (q .destination) d)
-      (λ u. both (eqb-true (r .destination) d t) (eqb-true (q .destination) d u))
-      (λ f. other-q (eqb-false (q .destination) d f)))
-      (λ f. other-r (eqb-false (r .destination) d f))
-    where
-      other-r : (r .destination ≡ d → ⊥) → S.newer d (S.newer d best r) q ≡ S.newer d (S.newer d best q) r
-      other-r n = rw (newer-other best r n, newer-other (S.newer d best q) r n)
+      by-equal (r .destination) d
+      (λ er. by-equal (q .destination) d
+      (λ eq. by-order (r .serial) (q .serial)
+      (λ l. newer-turn best r q er eq l)
+      (λ l. sym (newer-turn best q r eq er (omega (arith, h (eq ∙ sym er))))))
+      (λ n. simp newer-other))
+      (λ n. simp newer-other)
 
-      other-q : (q .destination ≡ d → ⊥) → S.newer d (S.newer d best r) q ≡ S.newer d (S.newer d best q) r
-      other-q n = rw (newer-other best q n, newer-other (S.newer d best r) q n)
+  -- what each record of a row keeps of two rulings, the whole row keeps
+  module _ (w : List ℕ) (R : Ruling → Ruling → Type 0) where
+    pub row-keeps : (k i : ℕ) (x y : Ruling) → R x y
+        → ((j : ℕ) → i ≤ j → j < i + k → (x y : Ruling) → R x y → R (S.newer d x (hopAt w j)) (S.newer d y (hopAt w j)))
+        → R (foldl (S.newer d) x (hopsFrom w i k)) (foldl (S.newer d) y (hopsFrom w i k))
+    unfolding hopsFrom
+    row-keeps zero i x y r step = r
+    row-keeps (suc k) i x y r step =
+        row-keeps k (suc i) (S.newer d x (hopAt w i)) (S.newer d y (hopAt w i)) (step i (omega arith) (omega arith) x y r)
+        (λ j a b. step j (omega arith) (omega arith))
 
-      both : r .destination ≡ d → q .destination ≡ d → S.newer d (S.newer d best r) q ≡ S.newer d (S.newer d best q) r
-      both er eq =
-          by-test (ltb (r .serial) (q .serial))
-          (λ t.
-          let l = ltb-true (r .serial) (q .serial) t in
-          lower-first r q er eq l best ∙ sym (lower-last r q er eq l best))
-          (λ f.
-          let l : q .serial < r .serial = below (ltb-false (r .serial) (q .serial) f) in
-          lower-last q r eq er l best ∙ sym (lower-first q r eq er l best))
-        where
-          below : q .serial ≤ r .serial → q .serial < r .serial
-          below l =
-              by-test (ltb (q .serial) (r .serial)) (ltb-true (q .serial) (r .serial))
-              (λ f. absurd (h (eq ∙ sym er) (omega (arith, ltb-false (q .serial) (r .serial) f))))
+  module _ (w : List ℕ) (k i : ℕ) (best : Ruling) where
+    pub row-others : ((j : ℕ) → i ≤ j → j < i + k → hopAt w j .destination ≡ d → ⊥) → foldl (S.newer d) best (hopsFrom w i k) ≡ best
+    row-others h = row-keeps w (λ x y. x ≡ best) k i best best refl (λ j a b x y e. newer-other x (hopAt w j) (h j a b) ∙ e)
 
-  -- so a record may be seen after a row as well as before it
-  pub row-slide : (w : List ℕ) (k i : ℕ) (best : Ruling) (r : NextHop)
-      → ((j : ℕ) → i ≤ j → j < i + k → hopAt w j .destination ≡ r .destination → hopAt w j .serial ≡ r .serial → ⊥)
-      → foldl (S.newer d) (S.newer d best r) (hopsFrom w i k) ≡ S.newer d (foldl (S.newer d) best (hopsFrom w i k)) r
-  unfolding hopsFrom
-  row-slide w zero i best r h = refl
-  row-slide w (suc k) i best r h =
-      ap (λ (x : Ruling). foldl (S.newer d) x (hopsFrom w (suc i) k)) (newer-swap best r (hopAt w i) (h i (omega arith) (omega arith)))
-      ∙ row-slide w k (suc i) (S.newer d best (hopAt w i)) r (λ j a b. h j (omega arith) (omega arith))
+    pub row-below : (m : ℕ) → Below m best → ((j : ℕ) → i ≤ j → j < i + k → hopAt w j .destination ≡ d → hopAt w j .serial < m)
+        → Below m (foldl (S.newer d) best (hopsFrom w i k))
+    row-below m b h = row-keeps w (λ x y. Below m x) k i best best b (λ j a c x y e. newer-below m x (hopAt w j) e (h j a c))
 
--- a row in two parts
+    -- a record may be seen after a row as well as before it
+    pub row-slide : (r : NextHop) → ((j : ℕ) → i ≤ j → j < i + k → hopAt w j .destination ≡ r .destination → hopAt w j .serial ≡ r .serial → ⊥)
+        → foldl (S.newer d) (S.newer d best r) (hopsFrom w i k) ≡ S.newer d (foldl (S.newer d) best (hopsFrom w i k)) r
+    row-slide r h =
+        row-keeps w (λ x y. x ≡ S.newer d y r) k i (S.newer d best r) best refl
+        (λ j a b x y e. rw e (newer-swap y r (hopAt w j) (h j a b)))
+
+-- a row in two parts, and at a record of it
 pub hops-split : (w : List ℕ) (a i b : ℕ) → hopsFrom w i (a + b) ≡ hopsFrom w i a ++ hopsFrom w (i + a) b
 unfolding hopsFrom
 hops-split w zero i b = rw (zero-add, add-zero)
 hops-split w (suc a) i b =
     let e : suc i + a ≡ i + suc a = omega arith in
     let f : suc a + b ≡ suc (a + b) = omega arith in
-    rw (f, ← e) (ap (λ (l : List NextHop). hopAt w i ∷ l) (hops-split w a (suc i) b))
+    rw (f, ← e, hops-split w a (suc i) b)
+
+pub hops-at : (w : List ℕ) (n p : ℕ) → p < n → hopsFrom w 0 n ≡ hopsFrom w 0 p ++ (hopAt w p ∷ hopsFrom w (suc p) (n - suc p))
+unfolding hopsFrom
+hops-at w n p h =
+    let e : n ≡ p + suc (n - suc p) = omega arith in
+    ap (hopsFrom w 0) e ∙ hops-split w p 0 (suc (n - suc p)) ∙ rw zero-add
 
 pub fold-append : {A B : Type 0} (f : A → B → A) (x : A) (l m : List B) → foldl f x (l ++ m) ≡ foldl f (foldl f x l) m
 fold-append f x [] m = refl

@@ -1,22 +1,10 @@
 -- `run_in` meets its contract, by what was read. Assumes nothing.
 use Rattle.campus.proofs.DoneLaws.{run-in-laws as laws}
-use Rattle.campus.proofs.run_in.Statement.{statement}
-use Rattle.campus.proofs.run_in.Tie as tie
+use Rattle.campus.proofs.run_in as fn
 
-pub run-in-spec : {M : Type 1} → statement M
+pub run-in-spec : {M : Type 1} → fn.Statement.statement M
 run-in-spec =
-    tie.close
-    (tie.spec
-    (λ c. search laws)
-    (λ c κs. search laws)
-    (λ c. search laws)
-    (λ c. search laws)
-    (λ c. search laws)
-    (λ c κs. search laws)
-    (λ c κs. search laws)
-    (λ c. search laws)
-    (λ c. search laws)
-    (λ c κs. search laws)
-    (λ c. search laws)
-    (λ c. search laws)
-    (λ c. search laws))
+    fn.Tie.close
+    (fn.Tie.spec
+    (λ c. search laws) (λ c κs. search laws) (λ c. search laws) (λ c. search laws) (λ c. search laws) (λ c κs. search laws) (λ c κs. search laws)
+    (λ c. search laws) (λ c. search laws) (λ c κs. search laws) (λ c. search laws) (λ c. search laws) (λ c. search laws))

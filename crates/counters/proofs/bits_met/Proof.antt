@@ -1,27 +1,18 @@
 -- `counters::bits_met` meets its contract. The invariant: what was met so far is above the total and the counters passed. Assumes nothing.
 use Prim.Native.Nat.{_-_}
 use Rattle.counters.proofs.CountLaws.{Meeting, bits-met-laws as laws}
-use Rattle.counters.proofs.bits_met.Statement.{statement}
-use Rattle.counters.proofs.bits_met.Tie as tie
-use Rattle.counters.proofs.bits_met.Reads as reads
-use Rattle.counters.proofs.bits_met.Lts as lts
+use Rattle.counters.proofs.bits_met as fn
 
-abbrev Inv-loop : tie.InvT-loop
+abbrev Inv-loop : fn.Tie.InvT-loop
 Inv-loop counts total met₀ i₀ met i = Meeting counts total met i
 
-abbrev μ-loop : tie.MeasureT-loop
+abbrev μ-loop : fn.Tie.MeasureT-loop
 μ-loop counts total met₀ i₀ met i = 64 - i
 
-pub bits-met-spec : {M : Type 1} → statement M
+pub bits-met-spec : {M : Type 1} → fn.Statement.statement M
 bits-met-spec =
-    tie.close
-    (tie.spec
+    fn.Tie.close
+    (fn.Tie.spec
     Inv-loop
     μ-loop
-    (λ c. search laws)
-    (λ c. search laws)
-    (λ c. search laws)
-    (λ c. search laws)
-    (λ c. search laws)
-    (λ c. search laws)
-    (λ c. search laws))
+    (λ c. search laws) (λ c. search laws) (λ c. search laws) (λ c. search laws) (λ c. search laws) (λ c. search laws) (λ c. search laws))

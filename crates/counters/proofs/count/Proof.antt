@@ -1,18 +1,10 @@
 -- `counters::count` meets its contract, by one law for each way out. Assumes nothing.
 use Rattle.counters.proofs.CountLaws.{count-laws as laws}
-use Rattle.counters.proofs.count.Statement.{statement}
-use Rattle.counters.proofs.count.Tie as tie
+use Rattle.counters.proofs.count as fn
 
-pub count-spec : {M : Type 1} → statement M
+pub count-spec : {M : Type 1} → fn.Statement.statement M
 count-spec =
-    tie.close
-    (tie.spec
-    (λ c κs. search laws)
-    (λ c κs. search laws)
-    (λ c. search laws)
-    (λ c κs. search laws)
-    (λ c κs. search laws)
-    (λ c. search laws)
-    (λ c. search laws)
-    (λ c. search laws)
-    (λ c. search laws))
+    fn.Tie.close
+    (fn.Tie.spec
+    (λ c κs. search laws) (λ c κs. search laws) (λ c. search laws) (λ c κs. search laws) (λ c κs. search laws) (λ c. search laws) (λ c. search laws)
+    (λ c. search laws) (λ c. search laws))

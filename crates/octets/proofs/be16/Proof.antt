@@ -1,19 +1,10 @@
 -- `octets::be16` meets its contract, by reading at and past the end. Assumes nothing.
 use Rattle.octets.proofs.Ends.{be16-laws as laws}
-use Rattle.octets.proofs.be16.Statement.{statement}
-use Rattle.octets.proofs.be16.Tie as tie
+use Rattle.octets.proofs.be16 as fn
 
-pub be16-spec : {M : Type 1} → statement M
+pub be16-spec : {M : Type 1} → fn.Statement.statement M
 be16-spec =
-    tie.close
-    (tie.spec
-    (λ c. search laws)
-    (λ c. search laws)
-    (λ c. search laws)
-    (λ c κs. search laws)
-    (λ c. search laws)
-    (λ c. search laws)
-    (λ c. search laws)
-    (λ c. search laws)
-    (λ c κs. search laws)
-    (λ c. search laws))
+    fn.Tie.close
+    (fn.Tie.spec
+    (λ c. search laws) (λ c. search laws) (λ c. search laws) (λ c κs. search laws) (λ c. search laws) (λ c. search laws) (λ c. search laws)
+    (λ c. search laws) (λ c κs. search laws) (λ c. search laws))

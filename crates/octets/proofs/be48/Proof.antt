@@ -1,25 +1,11 @@
 -- `octets::be48` meets its contract, by its two parts and reading past the end. Assumes nothing.
 use Rattle.octets.proofs.Ends.{be48-laws as laws}
-use Rattle.octets.proofs.be48.Statement.{statement}
-use Rattle.octets.proofs.be48.Tie as tie
+use Rattle.octets.proofs.be48 as fn
 
-pub be48-spec : {M : Type 1} → statement M
+pub be48-spec : {M : Type 1} → fn.Statement.statement M
 be48-spec =
-    tie.close
-    (tie.spec
-    (λ c. search laws)
-    (λ c. search laws)
-    (λ c κs. search laws)
-    (λ c. search laws)
-    (λ c κs. search laws)
-    (λ c κs. search laws)
-    (λ c. search laws)
-    (λ c. search laws)
-    (λ c κs. search laws)
-    (λ c κs. search laws)
-    (λ c. search laws)
-    (λ c κs. search laws)
-    (λ c. search laws)
-    (λ c κs. search laws)
-    (λ c κs. search laws)
-    (λ c. search laws))
+    fn.Tie.close
+    (fn.Tie.spec
+    (λ c. search laws) (λ c. search laws) (λ c κs. search laws) (λ c. search laws) (λ c κs. search laws) (λ c κs. search laws) (λ c. search laws)
+    (λ c. search laws) (λ c κs. search laws) (λ c κs. search laws) (λ c. search laws) (λ c κs. search laws) (λ c. search laws) (λ c κs. search laws)
+    (λ c κs. search laws) (λ c. search laws))

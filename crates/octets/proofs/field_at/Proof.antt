@@ -1,20 +1,10 @@
 -- `octets::field_at` meets its contract, by one law of `fieldAt` for each way out. Assumes nothing.
 use Rattle.rules.proofs.FieldLaws.{field-at-laws as laws}
-use Rattle.octets.proofs.field_at.Statement.{statement}
-use Rattle.octets.proofs.field_at.Tie as tie
+use Rattle.octets.proofs.field_at as fn
 
-pub field-at-spec : {M : Type 1} → statement M
+pub field-at-spec : {M : Type 1} → fn.Statement.statement M
 field-at-spec =
-    tie.close
-    (tie.spec
-    (λ c. search laws)
-    (λ c. search laws)
-    (λ c. search laws)
-    (λ c. search laws)
-    (λ c κs. search laws)
-    (λ c. search laws)
-    (λ c. search laws)
-    (λ c. search laws)
-    (λ c. search laws)
-    (λ c. search laws)
-    (λ c. search laws))
+    fn.Tie.close
+    (fn.Tie.spec
+    (λ c. search laws) (λ c. search laws) (λ c. search laws) (λ c. search laws) (λ c κs. search laws) (λ c. search laws) (λ c. search laws)
+    (λ c. search laws) (λ c. search laws) (λ c. search laws) (λ c. search laws))

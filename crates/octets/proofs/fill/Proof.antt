@@ -4,27 +4,19 @@ use Prim.Native.Nat.{_-_, _≤_}
 use lib.ListN.{length}
 use lib.Seq.{paste}
 use Rattle.octets.proofs.Ends.{fill-laws as laws}
-use Rattle.octets.proofs.fill.Statement.{statement}
-use Rattle.octets.proofs.fill.Tie as tie
+use Rattle.octets.proofs.fill as fn
 
-abbrev Inv-loop : tie.InvT-loop
+abbrev Inv-loop : fn.Tie.InvT-loop
 Inv-loop out₀ at s i₀ out i = (i ≤ length s) × (out ≡ paste out₀ at s i) × (length out ≡ length out₀)
 
-abbrev μ-loop : tie.MeasureT-loop
+abbrev μ-loop : fn.Tie.MeasureT-loop
 μ-loop out₀ at s i₀ out i = length s - i
 
-pub fill-spec : {M : Type 1} → statement M
+pub fill-spec : {M : Type 1} → fn.Statement.statement M
 fill-spec =
-    tie.close
-    (tie.spec
+    fn.Tie.close
+    (fn.Tie.spec
     Inv-loop
     μ-loop
-    (λ c. search laws)
-    (λ c. search laws)
-    (λ c. search laws)
-    (λ c. search laws)
-    (λ c. search laws)
-    (λ c. search laws)
-    (λ c. search laws)
-    (λ c. search laws)
+    (λ c. search laws) (λ c. search laws) (λ c. search laws) (λ c. search laws) (λ c. search laws) (λ c. search laws) (λ c. search laws) (λ c. search laws)
     (λ c. search laws))

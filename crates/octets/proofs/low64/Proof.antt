@@ -1,14 +1,7 @@
 -- `octets::low64` meets its contract, by a mask as a remainder. Assumes nothing.
 use mir.Facts.{fits-mask}
 use lib.Bits.{and-mask}
-use Rattle.octets.proofs.low64.Statement.{statement}
-use Rattle.octets.proofs.low64.Tie as tie
+use Rattle.octets.proofs.low64 as fn
 
-cast-result : tie.Need-cast-result
-cast-result c = fits-mask (c .args .n) 8 tt
-
-returns : tie.Need-returns
-returns c = and-mask (c .args .n) 8
-
-pub low64-spec : {M : Type 1} → statement M
-low64-spec = tie.close (tie.spec cast-result returns)
+pub low64-spec : {M : Type 1} → fn.Statement.statement M
+low64-spec = fn.Tie.close (fn.Tie.spec (λ c. fits-mask (c .args .n) 8 tt) (λ c. and-mask (c .args .n) 8))

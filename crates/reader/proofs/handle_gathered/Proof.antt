@@ -1,21 +1,10 @@
 -- `reader::handle_gathered` meets its contract: clock, octets and store are those in the words. Assumes nothing.
 use Rattle.reader.proofs.CallLaws.{handle-gathered-laws as laws}
-use Rattle.reader.proofs.handle_gathered.Statement.{statement}
-use Rattle.reader.proofs.handle_gathered.Tie as tie
+use Rattle.reader.proofs.handle_gathered as fn
 
-pub handle-gathered-spec : {M : Type 1} → statement M
+pub handle-gathered-spec : {M : Type 1} → fn.Statement.statement M
 handle-gathered-spec =
-    tie.close
-    (tie.spec
-    (λ c. search laws)
-    (λ c κs. search laws)
-    (λ c. search laws)
-    (λ c κs. search laws)
-    (λ c. search laws)
-    (λ c. search laws)
-    (λ c. search laws)
-    (λ c. search laws)
-    (λ c κs. search laws)
-    (λ c. search laws)
-    (λ c. search laws)
-    (λ c. search laws))
+    fn.Tie.close
+    (fn.Tie.spec
+    (λ c. search laws) (λ c κs. search laws) (λ c. search laws) (λ c κs. search laws) (λ c. search laws) (λ c. search laws) (λ c. search laws)
+    (λ c. search laws) (λ c κs. search laws) (λ c. search laws) (λ c. search laws) (λ c. search laws))

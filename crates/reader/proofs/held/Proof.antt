@@ -1,12 +1,6 @@
 -- `reader::held` meets its contract, by the length of what is taken. Assumes nothing.
 use Rattle.reader.proofs.CallLaws.{held-laws as laws}
-use Rattle.reader.proofs.held.Statement.{statement}
-use Rattle.reader.proofs.held.Tie as tie
+use Rattle.reader.proofs.held as fn
 
-pub held-spec : {M : Type 1} → statement M
-held-spec =
-    tie.close
-    (tie.spec
-    (λ c. search laws)
-    (λ c. search laws)
-    (λ c. search laws))
+pub held-spec : {M : Type 1} → fn.Statement.statement M
+held-spec = fn.Tie.close (fn.Tie.spec (λ c. search laws) (λ c. search laws) (λ c. search laws))

@@ -1,15 +1,9 @@
 -- `reader::prepare_store` meets its contract: the words lent are those from the fifth on. Assumes nothing.
 use Rattle.reader.proofs.CallLaws.{prepare-store-laws as laws}
-use Rattle.reader.proofs.prepare_store.Statement.{statement}
-use Rattle.reader.proofs.prepare_store.Tie as tie
+use Rattle.reader.proofs.prepare_store as fn
 
-pub prepare-store-spec : {M : Type 1} → statement M
+pub prepare-store-spec : {M : Type 1} → fn.Statement.statement M
 prepare-store-spec =
-    tie.close
-    (tie.spec
-    (λ c. search laws)
-    (λ c. search laws)
-    (λ c. search laws)
-    (λ c κs. search laws)
-    (λ c. search laws)
-    (λ c. search laws))
+    fn.Tie.close
+    (fn.Tie.spec
+    (λ c. search laws) (λ c. search laws) (λ c. search laws) (λ c κs. search laws) (λ c. search laws) (λ c. search laws))

@@ -1,30 +1,13 @@
--- `reader::trill_reader_burst` meets its contract, by one law for each way out. Assumes nothing.
+-- `reader::trill_reader_burst` meets its contract, by its tests in their order and one law for each other way out. Assumes nothing.
+use Rattle.reader.specs.Bursts.{burst}
 use Rattle.reader.proofs.CallLaws.{burst-laws as laws}
-use Rattle.reader.proofs.trill_reader_burst.Statement.{statement}
-use Rattle.reader.proofs.trill_reader_burst.Tie as tie
+use Rattle.reader.proofs.trill_reader_burst as fn
 
-pub trill-reader-burst-spec : {M : Type 1} → statement M
+pub trill-reader-burst-spec : {M : Type 1} → fn.Statement.statement M
+unfolding burst
 trill-reader-burst-spec =
-    tie.close
-    (tie.spec
-    (λ c. search laws)
-    (λ c. search laws)
-    (λ c. search laws)
-    (λ c. search laws)
-    (λ c. search laws)
-    (λ c. search laws)
-    (λ c. search laws)
-    (λ c. search laws)
-    (λ c. search laws)
-    (λ c. search laws)
-    (λ c. search laws)
-    (λ c. search laws)
-    (λ c. search laws)
-    (λ c. search laws)
-    (λ c. search laws)
-    (λ c κs. search laws)
-    (λ c. search laws)
-    (λ c. search laws)
-    (λ c. search laws)
-    (λ c. search laws)
-    (λ c. search laws))
+    fn.Tie.close
+    (fn.Tie.spec
+    (λ c. search laws) (λ c. search laws) (λ c. search laws) (λ c. search laws) (λ c. search laws) (λ c. search laws) (λ c. search laws) (λ c. search laws)
+    (λ c. search laws) (λ c. search laws) (λ c. search laws) (λ c. search laws) (λ c. search laws) (λ c. search laws) (λ c. search laws)
+    (λ c κs. search laws) (λ c. search laws) (λ c. search laws) (λ c. search laws) (λ c. search laws) (λ c. search laws))

@@ -1,28 +1,13 @@
--- `reader::trill_reader_mark` meets its contract, by one law for each way out. Assumes nothing.
+-- `reader::trill_reader_mark` meets its contract, by its tests in their order and one law for each other way out. Assumes nothing.
+use Rattle.reader.specs.Bursts.{mark}
 use Rattle.reader.proofs.CallLaws.{mark-laws as laws}
-use Rattle.reader.proofs.trill_reader_mark.Statement.{statement}
-use Rattle.reader.proofs.trill_reader_mark.Tie as tie
+use Rattle.reader.proofs.trill_reader_mark as fn
 
-pub trill-reader-mark-spec : {M : Type 1} → statement M
+pub trill-reader-mark-spec : {M : Type 1} → fn.Statement.statement M
+unfolding mark
 trill-reader-mark-spec =
-    tie.close
-    (tie.spec
-    (λ c κs. search laws)
-    (λ c. search laws)
-    (λ c. search laws)
-    (λ c κs. search laws)
-    (λ c. search laws)
-    (λ c. search laws)
-    (λ c. search laws)
-    (λ c. search laws)
-    (λ c κs. search laws)
-    (λ c. search laws)
-    (λ c. search laws)
-    (λ c κs. search laws)
-    (λ c. search laws)
-    (λ c κs. search laws)
-    (λ c. search laws)
-    (λ c. search laws)
-    (λ c. search laws)
-    (λ c. search laws)
-    (λ c. search laws))
+    fn.Tie.close
+    (fn.Tie.spec
+    (λ c κs. search laws) (λ c. search laws) (λ c. search laws) (λ c κs. search laws) (λ c. search laws) (λ c. search laws) (λ c. search laws)
+    (λ c. search laws) (λ c κs. search laws) (λ c. search laws) (λ c. search laws) (λ c κs. search laws) (λ c. search laws) (λ c κs. search laws)
+    (λ c. search laws) (λ c. search laws) (λ c. search laws) (λ c. search laws) (λ c. search laws))

@@ -1,16 +1,9 @@
 -- `reader::trill_reader_start` meets its contract, by one law for each way out. Assumes nothing.
 use Rattle.reader.proofs.CallLaws.{start-laws as laws}
-use Rattle.reader.proofs.trill_reader_start.Statement.{statement}
-use Rattle.reader.proofs.trill_reader_start.Tie as tie
+use Rattle.reader.proofs.trill_reader_start as fn
 
-pub trill-reader-start-spec : {M : Type 1} → statement M
+pub trill-reader-start-spec : {M : Type 1} → fn.Statement.statement M
 trill-reader-start-spec =
-    tie.close
-    (tie.spec
-    (λ c. search laws)
-    (λ c κs. search laws)
-    (λ c κs. search laws)
-    (λ c κs. search laws)
-    (λ c κs. search laws)
-    (λ c. search laws)
-    (λ c. search laws))
+    fn.Tie.close
+    (fn.Tie.spec
+    (λ c. search laws) (λ c κs. search laws) (λ c κs. search laws) (λ c κs. search laws) (λ c κs. search laws) (λ c. search laws) (λ c. search laws))

@@ -1,26 +1,13 @@
 -- `main` is safe: the text written lies within its buffer. Assumes nothing.
 use borrow.Author.Needs.{needs}
 use Rattle.text.proofs.TextLaws.{text-size}
-use Rattle.staffripple.proofs.main.Statement.{statement}
-use Rattle.staffripple.proofs.main.Tie as tie
+use Rattle.staffripple.proofs.main as fn
 
 ruleset laws = (needs, text-size)
 
-pub main-spec : {M : Type 1} → statement M
+pub main-spec : {M : Type 1} → fn.Statement.statement M
 main-spec =
-    tie.close
-    (tie.spec
-    (λ c κs. search laws)
-    (λ c. search laws)
-    (λ c κs. search laws)
-    (λ c. search laws)
-    (λ c. search laws)
-    (λ c. search laws)
-    (λ c κs. search laws)
-    (λ c. search laws)
-    (λ c. search laws)
-    (λ c κs. search laws)
-    (λ c. search laws)
-    (λ c κs. search laws)
-    (λ c. search laws)
-    (λ c. search laws))
+    fn.Tie.close
+    (fn.Tie.spec
+    (λ c κs. search laws) (λ c. search laws) (λ c κs. search laws) (λ c. search laws) (λ c. search laws) (λ c. search laws) (λ c κs. search laws)
+    (λ c. search laws) (λ c. search laws) (λ c κs. search laws) (λ c. search laws) (λ c κs. search laws) (λ c. search laws) (λ c. search laws))

@@ -1,16 +1,9 @@
 -- `text_of` meets its contract: 73,741 octets are room for every text. Assumes nothing.
 use borrow.Author.Needs.{needs}
 use Rattle.text.proofs.TextLaws.{text-whole}
-use Rattle.staffripple.proofs.text_of.Statement.{statement}
-use Rattle.staffripple.proofs.text_of.Tie as tie
+use Rattle.staffripple.proofs.text_of as fn
 
 ruleset laws = (needs, text-whole)
 
-pub text-of-spec : {M : Type 1} → statement M
-text-of-spec =
-    tie.close
-    (tie.spec
-    (λ c κs. search laws)
-    (λ c. search laws)
-    (λ c. search laws)
-    (λ c. search laws))
+pub text-of-spec : {M : Type 1} → fn.Statement.statement M
+text-of-spec = fn.Tie.close (fn.Tie.spec (λ c κs. search laws) (λ c. search laws) (λ c. search laws) (λ c. search laws))

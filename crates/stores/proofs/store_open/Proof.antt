@@ -1,15 +1,9 @@
 -- `store_open` meets its contract, by one law for each way out. Assumes nothing.
 use Rattle.stores.proofs.PrepareLaws.{store-open-laws as laws}
-use Rattle.stores.proofs.store_open.Statement.{statement}
-use Rattle.stores.proofs.store_open.Tie as tie
+use Rattle.stores.proofs.store_open as fn
 
-pub store-open-spec : {M : Type 1} → statement M
+pub store-open-spec : {M : Type 1} → fn.Statement.statement M
 store-open-spec =
-    tie.close
-    (tie.spec
-    (λ c. search laws)
-    (λ c κs. search laws)
-    (λ c. search laws)
-    (λ c κs. search laws)
-    (λ c. search laws)
-    (λ c. search laws))
+    fn.Tie.close
+    (fn.Tie.spec
+    (λ c. search laws) (λ c κs. search laws) (λ c. search laws) (λ c κs. search laws) (λ c. search laws) (λ c. search laws))

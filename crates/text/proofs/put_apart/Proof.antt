@@ -1,21 +1,10 @@
 -- `put_apart` meets its contract: what is printed is copied if it fits. Assumes nothing.
 use Rattle.text.proofs.TextLaws.{put-apart-laws as laws}
-use Rattle.text.proofs.put_apart.Statement.{statement}
-use Rattle.text.proofs.put_apart.Tie as tie
+use Rattle.text.proofs.put_apart as fn
 
-pub put-apart-spec : {M : Type 1} → statement M
+pub put-apart-spec : {M : Type 1} → fn.Statement.statement M
 put-apart-spec =
-    tie.close
-    (tie.spec
-    (λ c κs. search laws)
-    (λ c. search laws)
-    (λ c. search laws)
-    (λ c. search laws)
-    (λ c. search laws)
-    (λ c. search laws)
-    (λ c κs. search laws)
-    (λ c. search laws)
-    (λ c. search laws)
-    (λ c. search laws)
-    (λ c. search laws)
-    (λ c. search laws))
+    fn.Tie.close
+    (fn.Tie.spec
+    (λ c κs. search laws) (λ c. search laws) (λ c. search laws) (λ c. search laws) (λ c. search laws) (λ c. search laws) (λ c κs. search laws)
+    (λ c. search laws) (λ c. search laws) (λ c. search laws) (λ c. search laws) (λ c. search laws))

@@ -1,17 +1,10 @@
 -- `reading::code_after` meets its contract: one law for each return. Assumes nothing.
 use Rattle.campus.proofs.ReadLaws.{code-after-laws as laws}
-use Rattle.campus.proofs.reading.code_after.Statement.{statement}
-use Rattle.campus.proofs.reading.code_after.Tie as tie
+use Rattle.campus.proofs.reading.code_after as fn
 
-pub code-after-spec : {M : Type 1} → statement M
+pub code-after-spec : {M : Type 1} → fn.Statement.statement M
 code-after-spec =
-    tie.close
-    (tie.spec
-    (λ c. search laws)
-    (λ c κs. search laws)
-    (λ c. search laws)
-    (λ c. search laws)
-    (λ c. search laws)
-    (λ c κs. search laws)
-    (λ c. search laws)
+    fn.Tie.close
+    (fn.Tie.spec
+    (λ c. search laws) (λ c κs. search laws) (λ c. search laws) (λ c. search laws) (λ c. search laws) (λ c κs. search laws) (λ c. search laws)
     (λ c. search laws))

@@ -1,12 +1,6 @@
 -- `reading::counted` meets its contract, by the tag. Assumes nothing.
-use Rattle.campus.proofs.TakeLaws.{counted-laws as laws}
-use Rattle.campus.proofs.reading.counted.Statement.{statement}
-use Rattle.campus.proofs.reading.counted.Tie as tie
+use Rattle.campus.proofs.ReadLaws.{counted-laws as laws}
+use Rattle.campus.proofs.reading.counted as fn
 
-pub counted-spec : {M : Type 1} → statement M
-counted-spec =
-    tie.close
-    (tie.spec
-    (λ c. search laws)
-    (λ c. search laws)
-    (λ c. search laws))
+pub counted-spec : {M : Type 1} → fn.Statement.statement M
+counted-spec = fn.Tie.close (fn.Tie.spec (λ c. search laws) (λ c. search laws) (λ c. search laws))

@@ -1,15 +1,9 @@
 -- `refusals::extend` meets its contract, by the latest switch. Assumes nothing.
-use Rattle.campus.proofs.TakeLaws.{extend-laws as laws}
-use Rattle.campus.proofs.refusals.extend.Statement.{statement}
-use Rattle.campus.proofs.refusals.extend.Tie as tie
+use Rattle.campus.proofs.ReadLaws.{extend-laws as laws}
+use Rattle.campus.proofs.refusals.extend as fn
 
-pub extend-spec : {M : Type 1} → statement M
+pub extend-spec : {M : Type 1} → fn.Statement.statement M
 extend-spec =
-    tie.close
-    (tie.spec
-    (λ c. search laws)
-    (λ c. search laws)
-    (λ c. search laws)
-    (λ c κs. search laws)
-    (λ c. search laws)
-    (λ c. search laws))
+    fn.Tie.close
+    (fn.Tie.spec
+    (λ c. search laws) (λ c. search laws) (λ c. search laws) (λ c κs. search laws) (λ c. search laws) (λ c. search laws))

@@ -1,18 +1,10 @@
 -- `refusals::length_good` meets its contract, by one law for each tag. Assumes nothing.
 use Rattle.rules.proofs.FieldLaws.{length-good-laws as laws}
-use Rattle.campus.proofs.refusals.length_good.Statement.{statement}
-use Rattle.campus.proofs.refusals.length_good.Tie as tie
+use Rattle.campus.proofs.refusals.length_good as fn
 
-pub length-good-spec : {M : Type 1} → statement M
+pub length-good-spec : {M : Type 1} → fn.Statement.statement M
 length-good-spec =
-    tie.close
-    (tie.spec
-    (λ c. search laws)
-    (λ c. search laws)
-    (λ c. search laws)
-    (λ c. search laws)
-    (λ c. search laws)
-    (λ c. search laws)
-    (λ c. search laws)
-    (λ c. search laws)
+    fn.Tie.close
+    (fn.Tie.spec
+    (λ c. search laws) (λ c. search laws) (λ c. search laws) (λ c. search laws) (λ c. search laws) (λ c. search laws) (λ c. search laws) (λ c. search laws)
     (λ c. search laws))

@@ -1,16 +1,8 @@
 -- `refusals::nickname_known` meets its contract, by what is found. Assumes nothing.
-use Rattle.campus.proofs.TakeLaws.{nickname-known-laws as laws}
-use Rattle.campus.proofs.refusals.nickname_known.Statement.{statement}
-use Rattle.campus.proofs.refusals.nickname_known.Tie as tie
+use borrow.Author.Needs.{needs}
+use Rattle.campus.proofs.refusals.nickname_known as fn
 
-pub nickname-known-spec : {M : Type 1} → statement M
-nickname-known-spec =
-    tie.close
-    (tie.spec
-    (λ c κs. search laws)
-    (λ c. search laws)
-    (λ c κs. search laws)
-    (λ c. search laws)
-    (λ c. search laws)
-    (λ c. search laws)
-    (λ c. search laws))
+pub nickname-known-spec : {M : Type 1} → fn.Statement.statement M
+nickname-known-spec = fn.Tie.close (fn.Tie.spec (λ c κs. search needs) (λ c. search needs) (λ c κs. search needs) (λ c. search needs) (λ c. search needs)
+    (λ c. cc)
+    (λ c. cc))

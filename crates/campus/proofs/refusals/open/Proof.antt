@@ -1,26 +1,11 @@
 -- `refusals::open` meets its contract, by one law for each way out. Assumes nothing.
-use Rattle.campus.proofs.TakeLaws.{open-laws as laws}
-use Rattle.campus.proofs.refusals.open.Statement.{statement}
-use Rattle.campus.proofs.refusals.open.Tie as tie
+use Rattle.campus.proofs.ReadLaws.{open-laws as laws}
+use Rattle.campus.proofs.refusals.open as fn
 
-pub open-spec : {M : Type 1} → statement M
+pub open-spec : {M : Type 1} → fn.Statement.statement M
 open-spec =
-    tie.close
-    (tie.spec
-    (λ c κs. search laws)
-    (λ c κs. search laws)
-    (λ c κs. search laws)
-    (λ c. search laws)
-    (λ c. search laws)
-    (λ c. search laws)
-    (λ c. search laws)
-    (λ c. search laws)
-    (λ c. search laws)
-    (λ c. search laws)
-    (λ c. search laws)
-    (λ c. search laws)
-    (λ c. search laws)
-    (λ c. search laws)
-    (λ c. search laws)
-    (λ c. search laws)
-    (λ c. search laws))
+    fn.Tie.close
+    (fn.Tie.spec
+    (λ c κs. search laws) (λ c κs. search laws) (λ c κs. search laws) (λ c. search laws) (λ c. search laws) (λ c. search laws) (λ c. search laws)
+    (λ c. search laws) (λ c. search laws) (λ c. search laws) (λ c. search laws) (λ c. search laws) (λ c. search laws) (λ c. search laws) (λ c. search laws)
+    (λ c. search laws) (λ c. search laws))

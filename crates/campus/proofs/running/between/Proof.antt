@@ -1,16 +1,9 @@
 -- `running::between` meets its contract: the range lies in order within the octets, or there are none. Assumes nothing.
 use Rattle.campus.proofs.ReadLaws.{between-laws as laws}
-use Rattle.campus.proofs.running.between.Statement.{statement}
-use Rattle.campus.proofs.running.between.Tie as tie
+use Rattle.campus.proofs.running.between as fn
 
-pub between-spec : {M : Type 1} → statement M
+pub between-spec : {M : Type 1} → fn.Statement.statement M
 between-spec =
-    tie.close
-    (tie.spec
-    (λ c. search laws)
-    (λ c. search laws)
-    (λ c. search laws)
-    (λ c. search laws)
-    (λ c. search laws)
-    (λ c. search laws)
-    (λ c. search laws))
+    fn.Tie.close
+    (fn.Tie.spec
+    (λ c. search laws) (λ c. search laws) (λ c. search laws) (λ c. search laws) (λ c. search laws) (λ c. search laws) (λ c. search laws))

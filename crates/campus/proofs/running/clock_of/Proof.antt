@@ -1,17 +1,10 @@
 -- `running::clock_of` meets its contract, by one law for each need. Assumes nothing.
 use Rattle.campus.proofs.DoneLaws.{clock-of-laws as laws}
-use Rattle.campus.proofs.running.clock_of.Statement.{statement}
-use Rattle.campus.proofs.running.clock_of.Tie as tie
+use Rattle.campus.proofs.running.clock_of as fn
 
-pub clock-of-spec : {M : Type 1} → statement M
+pub clock-of-spec : {M : Type 1} → fn.Statement.statement M
 clock-of-spec =
-    tie.close
-    (tie.spec
-    (λ c. search laws)
-    (λ c. search laws)
-    (λ c. search laws)
-    (λ c. search laws)
-    (λ c. search laws)
-    (λ c. search laws)
-    (λ c κs. search laws)
+    fn.Tie.close
+    (fn.Tie.spec
+    (λ c. search laws) (λ c. search laws) (λ c. search laws) (λ c. search laws) (λ c. search laws) (λ c. search laws) (λ c κs. search laws)
     (λ c. search laws))

@@ -1,14 +1,7 @@
--- `running::enter` meets its contract, by one law for each need. Assumes nothing.
-use Rattle.campus.proofs.StepLaws.{enter-laws as laws}
-use Rattle.campus.proofs.running.enter.Statement.{statement}
-use Rattle.campus.proofs.running.enter.Tie as tie
+-- `running::enter` meets its contract: the nickname entered is the switch's. Assumes nothing.
+use borrow.Author.Needs.{needs}
+use Rattle.campus.proofs.running.enter as fn
 
-pub enter-spec : {M : Type 1} → statement M
-enter-spec =
-    tie.close
-    (tie.spec
-    (λ c κs. search laws)
-    (λ c. search laws)
-    (λ c κs. search laws)
-    (λ c. search laws)
-    (λ c. search laws))
+pub enter-spec : {M : Type 1} → fn.Statement.statement M
+enter-spec = fn.Tie.close (fn.Tie.spec (λ c κs. search needs) (λ c. search needs) (λ c κs. search needs) (λ c. search needs)
+    (λ c. cc))

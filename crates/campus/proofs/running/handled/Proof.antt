@@ -1,17 +1,10 @@
 -- `running::handled` meets its contract, by one law for each need. Assumes nothing.
-use Rattle.campus.proofs.StepLaws.{handled-laws as laws}
-use Rattle.campus.proofs.running.handled.Statement.{statement}
-use Rattle.campus.proofs.running.handled.Tie as tie
+use Rattle.campus.proofs.RunLaws.{handled-laws as laws}
+use Rattle.campus.proofs.running.handled as fn
 
-pub handled-spec : {M : Type 1} → statement M
+pub handled-spec : {M : Type 1} → fn.Statement.statement M
 handled-spec =
-    tie.close
-    (tie.spec
-    (λ c. search laws)
-    (λ c. search laws)
-    (λ c. search laws)
-    (λ c. search laws)
-    (λ c. search laws)
-    (λ c. search laws)
-    (λ c κs. search laws)
+    fn.Tie.close
+    (fn.Tie.spec
+    (λ c. search laws) (λ c. search laws) (λ c. search laws) (λ c. search laws) (λ c. search laws) (λ c. search laws) (λ c κs. search laws)
     (λ c. search laws))

@@ -1,15 +1,9 @@
 -- `running::nickname_of` meets its contract, by one law for each need. Assumes nothing.
-use Rattle.campus.proofs.StepLaws.{nickname-of-laws as laws}
-use Rattle.campus.proofs.running.nickname_of.Statement.{statement}
-use Rattle.campus.proofs.running.nickname_of.Tie as tie
+use Rattle.campus.proofs.RunLaws.{nickname-of-laws as laws}
+use Rattle.campus.proofs.running.nickname_of as fn
 
-pub nickname-of-spec : {M : Type 1} → statement M
+pub nickname-of-spec : {M : Type 1} → fn.Statement.statement M
 nickname-of-spec =
-    tie.close
-    (tie.spec
-    (λ c. search laws)
-    (λ c. search laws)
-    (λ c. search laws)
-    (λ c. search laws)
-    (λ c. search laws)
-    (λ c. search laws))
+    fn.Tie.close
+    (fn.Tie.spec
+    (λ c. search laws) (λ c. search laws) (λ c. search laws) (λ c. search laws) (λ c. search laws) (λ c. search laws))

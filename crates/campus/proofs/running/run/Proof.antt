@@ -1,20 +1,10 @@
 -- `running::run` meets its contract, by one law for each need. Assumes nothing.
 use Rattle.campus.proofs.DoneLaws.{run-laws as laws}
-use Rattle.campus.proofs.running.run.Statement.{statement}
-use Rattle.campus.proofs.running.run.Tie as tie
+use Rattle.campus.proofs.running.run as fn
 
-pub run-spec : {M : Type 1} → statement M
+pub run-spec : {M : Type 1} → fn.Statement.statement M
 run-spec =
-    tie.close
-    (tie.spec
-    (λ c. search laws)
-    (λ c κs. search laws)
-    (λ c κs. search laws)
-    (λ c. search laws)
-    (λ c κs. search laws)
-    (λ c. search laws)
-    (λ c. search laws)
-    (λ c. search laws)
-    (λ c κs. search laws)
-    (λ c. search laws)
-    (λ c. search laws))
+    fn.Tie.close
+    (fn.Tie.spec
+    (λ c. search laws) (λ c κs. search laws) (λ c κs. search laws) (λ c. search laws) (λ c κs. search laws) (λ c. search laws) (λ c. search laws)
+    (λ c. search laws) (λ c κs. search laws) (λ c. search laws) (λ c. search laws))

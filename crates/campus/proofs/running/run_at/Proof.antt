@@ -1,19 +1,10 @@
 -- `running::run_at` meets its contract, by one law for each need. Assumes nothing.
 use Rattle.campus.proofs.DoneLaws.{run-at-laws as laws}
-use Rattle.campus.proofs.running.run_at.Statement.{statement}
-use Rattle.campus.proofs.running.run_at.Tie as tie
+use Rattle.campus.proofs.running.run_at as fn
 
-pub run-at-spec : {M : Type 1} → statement M
+pub run-at-spec : {M : Type 1} → fn.Statement.statement M
 run-at-spec =
-    tie.close
-    (tie.spec
-    (λ c κs. search laws)
-    (λ c κs. search laws)
-    (λ c. search laws)
-    (λ c κs. search laws)
-    (λ c. search laws)
-    (λ c. search laws)
-    (λ c. search laws)
-    (λ c κs. search laws)
-    (λ c. search laws)
-    (λ c. search laws))
+    fn.Tie.close
+    (fn.Tie.spec
+    (λ c κs. search laws) (λ c κs. search laws) (λ c. search laws) (λ c κs. search laws) (λ c. search laws) (λ c. search laws) (λ c. search laws)
+    (λ c κs. search laws) (λ c. search laws) (λ c. search laws))

@@ -1,37 +1,16 @@
 -- `running::run_from` meets its contract, by the invariant that the states so far are traced, and the run from here, with the replies that wait, is the
 -- rest of the whole. Assumes nothing.
 use Prim.Native.Nat.{_-_}
-use Rattle.campus.proofs.LoopLaws.{RunSoFar, run-from-laws as laws}
-use Rattle.campus.proofs.running.run_from.Statement.{statement}
-use Rattle.campus.proofs.running.run_from.Tie as tie
+use Rattle.campus.proofs.RunLaws.{RunSoFar, run-from-laws as laws}
+use Rattle.campus.proofs.running.run_from as fn
 
-abbrev Inv-loop : tie.InvT-loop
-Inv-loop w starts n first clock frame waiting₀ trace₀ cur₀ out₀ beside₀ at₀ k₀ waiting trace cur out beside at k =
-    RunSoFar w starts n first clock frame waiting₀ trace₀ waiting trace cur at k
-
-abbrev μ-loop : tie.MeasureT-loop
-μ-loop w starts n first clock frame waiting₀ trace₀ cur₀ out₀ beside₀ at₀ k₀ waiting trace cur out beside at k = 4096 - k
-
-pub run-from-spec : {M : Type 1} → statement M
+pub run-from-spec : {M : Type 1} → fn.Statement.statement M
 run-from-spec =
-    tie.close
-    (tie.spec
-    Inv-loop
-    μ-loop
-    (λ c. search laws)
-    (λ c κs. search laws)
-    (λ c. search laws)
-    (λ c κs. search laws)
-    (λ c. search laws)
-    (λ c. search laws)
-    (λ c. search laws)
-    (λ c. search laws)
-    (λ c. search laws)
-    (λ c. search laws)
-    (λ c. search laws)
-    (λ c. search laws)
-    (λ c. search laws)
-    (λ c. search laws)
-    (λ c. search laws)
-    (λ c. search laws)
-    (λ c. search laws))
+    fn.Tie.close
+    (fn.Tie.spec
+    (λ w starts n first clock frame waiting₀ trace₀ _ _ _ _ _ waiting trace cur _ _ at k.
+    RunSoFar w starts n first clock frame waiting₀ trace₀ waiting trace cur at k)
+    (λ _ _ _ _ _ _ _ _ _ _ _ _ _ _ _ _ _ _ _ k. 4096 - k)
+    (λ c. search laws) (λ c κs. search laws) (λ c. search laws) (λ c κs. search laws) (λ c. search laws) (λ c. search laws) (λ c. search laws)
+    (λ c. search laws) (λ c. search laws) (λ c. search laws) (λ c. search laws) (λ c. search laws) (λ c. search laws) (λ c. search laws) (λ c. search laws)
+    (λ c. search laws) (λ c. search laws))

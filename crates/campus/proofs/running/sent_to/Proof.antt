@@ -1,13 +1,6 @@
 -- `running::sent_to` meets its contract, by one law for each way out. Assumes nothing.
 use Rattle.campus.proofs.QueueLaws.{sent-to-laws as laws}
-use Rattle.campus.proofs.running.sent_to.Statement.{statement}
-use Rattle.campus.proofs.running.sent_to.Tie as tie
+use Rattle.campus.proofs.running.sent_to as fn
 
-pub sent-to-spec : {M : Type 1} → statement M
-sent-to-spec =
-    tie.close
-    (tie.spec
-    (λ c. search laws)
-    (λ c. search laws)
-    (λ c κs. search laws)
-    (λ c. search laws))
+pub sent-to-spec : {M : Type 1} → fn.Statement.statement M
+sent-to-spec = fn.Tie.close (fn.Tie.spec (λ c. search laws) (λ c. search laws) (λ c κs. search laws) (λ c. search laws))

@@ -1,17 +1,11 @@
 -- `running::turn` meets its contract, by one law for each need. Assumes nothing.
-use Rattle.campus.proofs.LoopLaws.{turn-onward, turn-laws as laws}
-use Rattle.campus.proofs.running.turn.Statement.{statement}
-use Rattle.campus.proofs.running.turn.Tie as tie
+use Rattle.campus.proofs.RunLaws.{turn-onward, turn-laws as laws}
+use Rattle.campus.proofs.running.turn as fn
 
-pub turn-spec : {M : Type 1} → statement M
-turn-spec =
-    tie.close
-    (tie.spec
-    (λ c κs. search laws)
+pub turn-spec : {M : Type 1} → fn.Statement.statement M
+turn-spec = fn.Tie.close (fn.Tie.spec (λ c κs. search laws)
     (λ c κs. search (
       turn-onward,
       c .before .before .before .before .before .before .before .before .before .before .before .before .before .before .before .pre,
     ))
-    (λ c. search laws)
-    (λ c. search laws)
-    (λ c. search laws))
+    (λ c. search laws) (λ c. search laws) (λ c. search laws))

@@ -1,21 +1,10 @@
 -- `running::wait` meets its contract, by one law for each need. Assumes nothing.
 use Rattle.campus.proofs.QueueLaws.{wait-laws as laws}
-use Rattle.campus.proofs.running.wait.Statement.{statement}
-use Rattle.campus.proofs.running.wait.Tie as tie
+use Rattle.campus.proofs.running.wait as fn
 
-pub wait-spec : {M : Type 1} → statement M
+pub wait-spec : {M : Type 1} → fn.Statement.statement M
 wait-spec =
-    tie.close
-    (tie.spec
-    (λ c κs. search laws)
-    (λ c. search laws)
-    (λ c κs. search laws)
-    (λ c κs. search laws)
-    (λ c. search laws)
-    (λ c. search laws)
-    (λ c. search laws)
-    (λ c. search laws)
-    (λ c κs. search laws)
-    (λ c κs. search laws)
-    (λ c. search laws)
-    (λ c. search laws))
+    fn.Tie.close
+    (fn.Tie.spec
+    (λ c κs. search laws) (λ c. search laws) (λ c κs. search laws) (λ c κs. search laws) (λ c. search laws) (λ c. search laws) (λ c. search laws)
+    (λ c. search laws) (λ c κs. search laws) (λ c κs. search laws) (λ c. search laws) (λ c. search laws))

@@ -1,20 +1,10 @@
 -- `switches::end_of` meets its contract, by whether there is a switch. Assumes nothing.
-use Rattle.campus.proofs.SwitchLaws.{end-of-laws as laws}
-use Rattle.campus.proofs.switches.end_of.Statement.{statement}
-use Rattle.campus.proofs.switches.end_of.Tie as tie
+use Rattle.campus.proofs.StoresLaws.{end-of-laws as laws}
+use Rattle.campus.proofs.switches.end_of as fn
 
-pub end-of-spec : {M : Type 1} → statement M
+pub end-of-spec : {M : Type 1} → fn.Statement.statement M
 end-of-spec =
-    tie.close
-    (tie.spec
-    (λ c. search laws)
-    (λ c. search laws)
-    (λ c. search laws)
-    (λ c. search laws)
-    (λ c. search laws)
-    (λ c. search laws)
-    (λ c. search laws)
-    (λ c. search laws)
-    (λ c. search laws)
-    (λ c. search laws)
-    (λ c. search laws))
+    fn.Tie.close
+    (fn.Tie.spec
+    (λ c. search laws) (λ c. search laws) (λ c. search laws) (λ c. search laws) (λ c. search laws) (λ c. search laws) (λ c. search laws) (λ c. search laws)
+    (λ c. search laws) (λ c. search laws) (λ c. search laws))

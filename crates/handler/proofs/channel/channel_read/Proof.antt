@@ -6,6 +6,6 @@ pub channel-read-spec : {M : Type 1} → fn.Statement.statement M
 channel-read-spec =
     fn.Tie.close
     (fn.Tie.spec
-    (λ c κs. search laws) (λ c κs. search laws) (λ c. search laws) (λ c. search laws) (λ c κs. search laws) (λ c κs. search laws)
-    (λ c κs. search laws) (λ c. search laws) (λ c κs. search laws) (λ c. search laws) (λ c κs. search laws) (λ c. search laws) (λ c. search laws)
-    (λ c κs. search laws) (λ c. search laws) (λ c. search laws) (λ c. search laws) (λ c. search laws) (λ c κs. search laws) (λ c. search laws))
+    (λ c κs. search laws) (λ c κs. search laws) (λ c. search laws) (λ c. search laws) (λ c κs. search laws) (λ c κs. search laws) (λ c κs. search laws)
+    (λ c. search laws) (λ c κs. search laws) (λ c. search laws) (λ c κs. search laws) (λ c. search laws) (λ c. search laws) (λ c κs. search laws)
+    (λ c. search laws) (λ c. search laws) (λ c. search laws) (λ c. search laws) (λ c κs. search laws) (λ c. search laws))

@@ -6,5 +6,5 @@ pub silenced-spec : {M : Type 1} → fn.Statement.statement M
 silenced-spec =
     fn.Tie.close
     (fn.Tie.spec
-    (λ c κs. search laws) (λ c. search laws) (λ c κs. search laws) (λ c κs. search laws) (λ c. search laws) (λ c κs. search laws)
-    (λ c κs. search laws) (λ c. search laws) (λ c κs. search laws) (λ c. search laws))
+    (λ c κs. search laws) (λ c. search laws) (λ c κs. search laws) (λ c κs. search laws) (λ c. search laws) (λ c κs. search laws) (λ c κs. search laws)
+    (λ c. search laws) (λ c κs. search laws) (λ c. search laws))

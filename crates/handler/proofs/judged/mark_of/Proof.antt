@@ -7,9 +7,6 @@ use Rattle.handler.proofs.judged.mark_of as fn
 
 pub mark-of-spec : {M : Type 1} → fn.Statement.statement M
 unfolding markBy
-mark-of-spec =
-    fn.Tie.close
-    (fn.Tie.spec
-    (λ c. omega (arith, and-mask (c .args .mixed / 65536) 7))
+mark-of-spec = fn.Tie.close (fn.Tie.spec (λ c. omega (arith, and-mask (c .args .mixed / 65536) 7))
     (λ c. omega (arith, and-mask (c .args .mixed / 65536) 7))
     (λ c. rw (and-mask (c .args .mixed / 65536) 7)))

@@ -7,10 +7,7 @@ use Rattle.handler.proofs.judged.mix as fn
 
 pub mix-spec : {M : Type 1} → fn.Statement.statement M
 unfolding mixOf
-mix-spec =
-    fn.Tie.close
-    (fn.Tie.spec
-    (λ c. search needs)
+mix-spec = fn.Tie.close (fn.Tie.spec (λ c. search needs)
     (λ c. omega (arith, and-mask (c .args .key) 32))
     (λ c. omega (arith, and-mask (c .args .key) 32))
     (λ c. rw (and-mask (c .args .key) 32)))

@@ -1,15 +1,9 @@
 -- `values::flag_code` meets its contract, by its tests in their order. Assumes nothing.
-use Rattle.octets.proofs.FlagLaws.{flag-code-laws as laws}
-use Rattle.octets.proofs.values.flag_code.Statement.{statement}
-use Rattle.octets.proofs.values.flag_code.Tie as tie
+use Rattle.octets.proofs.Cases.{test-laws as laws}
+use Rattle.octets.proofs.values.flag_code as fn
 
-pub flag-code-spec : {M : Type 1} → statement M
+pub flag-code-spec : {M : Type 1} → fn.Statement.statement M
 flag-code-spec =
-    tie.close
-    (tie.spec
-    (λ c. search laws)
-    (λ c. search laws)
-    (λ c. search laws)
-    (λ c. search laws)
-    (λ c. search laws)
-    (λ c. search laws))
+    fn.Tie.close
+    (fn.Tie.spec
+    (λ c. search laws) (λ c. search laws) (λ c. search laws) (λ c. search laws) (λ c. search laws) (λ c. search laws))

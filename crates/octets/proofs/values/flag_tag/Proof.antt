@@ -1,11 +1,8 @@
 -- `values::flag_tag` meets its contract, by the tag. Assumes nothing.
-use Rattle.octets.proofs.FlagLaws.{flag-tag-laws as laws}
-use Rattle.octets.proofs.values.flag_tag.Statement.{statement}
-use Rattle.octets.proofs.values.flag_tag.Tie as tie
+use Rattle.octets.specs.Flags.{flagTag}
+use Rattle.octets.proofs.Cases.{test-laws as laws}
+use Rattle.octets.proofs.values.flag_tag as fn
 
-pub flag-tag-spec : {M : Type 1} → statement M
-flag-tag-spec =
-    tie.close
-    (tie.spec
-    (λ c. search laws)
-    (λ c. search laws))
+pub flag-tag-spec : {M : Type 1} → fn.Statement.statement M
+unfolding flagTag
+flag-tag-spec = fn.Tie.close (fn.Tie.spec (λ c. search laws) (λ c. search laws))

@@ -1,13 +1,6 @@
 -- `values::flag_value` meets its contract, by the tag. Assumes nothing.
 use Rattle.octets.proofs.FlagLaws.{flag-value-laws as laws}
-use Rattle.octets.proofs.values.flag_value.Statement.{statement}
-use Rattle.octets.proofs.values.flag_value.Tie as tie
+use Rattle.octets.proofs.values.flag_value as fn
 
-pub flag-value-spec : {M : Type 1} → statement M
-flag-value-spec =
-    tie.close
-    (tie.spec
-    (λ c. search laws)
-    (λ c. search laws)
-    (λ c. search laws)
-    (λ c. search laws))
+pub flag-value-spec : {M : Type 1} → fn.Statement.statement M
+flag-value-spec = fn.Tie.close (fn.Tie.spec (λ c. search laws) (λ c. search laws) (λ c. search laws) (λ c. search laws))

@@ -1,18 +1,10 @@
 -- `values::hop_good` meets its contract, by one law for each way out. Assumes nothing.
 use Rattle.octets.proofs.Hops.{hop-good-laws as laws}
-use Rattle.octets.proofs.values.hop_good.Statement.{statement}
-use Rattle.octets.proofs.values.hop_good.Tie as tie
+use Rattle.octets.proofs.values.hop_good as fn
 
-pub hop-good-spec : {M : Type 1} → statement M
+pub hop-good-spec : {M : Type 1} → fn.Statement.statement M
 hop-good-spec =
-    tie.close
-    (tie.spec
-    (λ c κs. search laws)
-    (λ c κs. search laws)
-    (λ c. search laws)
-    (λ c κs. search laws)
-    (λ c. search laws)
-    (λ c κs. search laws)
-    (λ c. search laws)
-    (λ c κs. search laws)
-    (λ c. search laws))
+    fn.Tie.close
+    (fn.Tie.spec
+    (λ c κs. search laws) (λ c κs. search laws) (λ c. search laws) (λ c κs. search laws) (λ c. search laws) (λ c κs. search laws) (λ c. search laws)
+    (λ c κs. search laws) (λ c. search laws))

@@ -1,15 +1,7 @@
 -- `values::hop_of` meets its contract, field by field. Assumes nothing.
 use borrow.Author.Needs.{needs}
-use Rattle.octets.proofs.values.hop_of.Statement.{statement}
-use Rattle.octets.proofs.values.hop_of.Tie as tie
+use Rattle.octets.proofs.values.hop_of as fn
 
-pub hop-of-spec : {M : Type 1} → statement M
-hop-of-spec =
-    tie.close
-    (tie.spec
-    (λ c κs. search needs)
-    (λ c κs. search needs)
-    (λ c κs. search needs)
-    (λ c κs. search needs)
-    (λ c κs. search needs)
+pub hop-of-spec : {M : Type 1} → fn.Statement.statement M
+hop-of-spec = fn.Tie.close (fn.Tie.spec (λ c κs. search needs) (λ c κs. search needs) (λ c κs. search needs) (λ c κs. search needs) (λ c κs. search needs)
     (λ c. cc))

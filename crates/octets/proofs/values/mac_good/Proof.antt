@@ -1,15 +1,9 @@
 -- `values::mac_good` meets its contract, by one law of `macGood` for each way out. Assumes nothing.
 use Rattle.octets.proofs.Macs.{mac-good-laws as laws}
-use Rattle.octets.proofs.values.mac_good.Statement.{statement}
-use Rattle.octets.proofs.values.mac_good.Tie as tie
+use Rattle.octets.proofs.values.mac_good as fn
 
-pub mac-good-spec : {M : Type 1} → statement M
+pub mac-good-spec : {M : Type 1} → fn.Statement.statement M
 mac-good-spec =
-    tie.close
-    (tie.spec
-    (λ c κs. search laws)
-    (λ c. search laws)
-    (λ c. search laws)
-    (λ c. search laws)
-    (λ c κs. search laws)
-    (λ c. search laws))
+    fn.Tie.close
+    (fn.Tie.spec
+    (λ c κs. search laws) (λ c. search laws) (λ c. search laws) (λ c. search laws) (λ c κs. search laws) (λ c. search laws))

@@ -1,13 +1,9 @@
 -- `values::opens` meets its contract, by its tests in their order. Assumes nothing.
-use Rattle.octets.proofs.OpenLaws.{opens-laws as laws}
-use Rattle.octets.proofs.values.opens.Statement.{statement}
-use Rattle.octets.proofs.values.opens.Tie as tie
+use Rattle.rules.specs.Fields.{lengthGood}
+use Rattle.rules.specs.Settings.{opens}
+use Rattle.octets.proofs.Cases.{test-laws as laws}
+use Rattle.octets.proofs.values.opens as fn
 
-pub opens-spec : {M : Type 1} → statement M
-opens-spec =
-    tie.close
-    (tie.spec
-    (λ c. search laws)
-    (λ c. search laws)
-    (λ c κs. search laws)
-    (λ c. search laws))
+pub opens-spec : {M : Type 1} → fn.Statement.statement M
+unfolding opens lengthGood
+opens-spec = fn.Tie.close (fn.Tie.spec (λ c. search laws) (λ c. search laws) (λ c κs. search laws) (λ c. search laws))

@@ -1,14 +1,6 @@
 -- `values::switch_good` meets its contract, by its tests in their order. Assumes nothing.
 use Rattle.octets.proofs.Macs.{switch-good-laws as laws}
-use Rattle.octets.proofs.values.switch_good.Statement.{statement}
-use Rattle.octets.proofs.values.switch_good.Tie as tie
+use Rattle.octets.proofs.values.switch_good as fn
 
-pub switch-good-spec : {M : Type 1} → statement M
-switch-good-spec =
-    tie.close
-    (tie.spec
-    (λ c κs. search laws)
-    (λ c κs. search laws)
-    (λ c. search laws)
-    (λ c κs. search laws)
-    (λ c. search laws))
+pub switch-good-spec : {M : Type 1} → fn.Statement.statement M
+switch-good-spec = fn.Tie.close (fn.Tie.spec (λ c κs. search laws) (λ c κs. search laws) (λ c. search laws) (λ c κs. search laws) (λ c. search laws))

@@ -1,21 +1,10 @@
 -- `preparing::admit` meets its contract, by one law for each way out. Assumes nothing.
 use Rattle.stores.proofs.PrepareLaws.{admit-laws as laws}
-use Rattle.stores.proofs.preparing.admit.Statement.{statement}
-use Rattle.stores.proofs.preparing.admit.Tie as tie
+use Rattle.stores.proofs.preparing.admit as fn
 
-pub admit-spec : {M : Type 1} → statement M
+pub admit-spec : {M : Type 1} → fn.Statement.statement M
 admit-spec =
-    tie.close
-    (tie.spec
-    (λ c. search laws)
-    (λ c. search laws)
-    (λ c. search laws)
-    (λ c. search laws)
-    (λ c. search laws)
-    (λ c. search laws)
-    (λ c. search laws)
-    (λ c κs. search laws)
-    (λ c. search laws)
-    (λ c. search laws)
-    (λ c. search laws)
-    (λ c. search laws))
+    fn.Tie.close
+    (fn.Tie.spec
+    (λ c. search laws) (λ c. search laws) (λ c. search laws) (λ c. search laws) (λ c. search laws) (λ c. search laws) (λ c. search laws)
+    (λ c κs. search laws) (λ c. search laws) (λ c. search laws) (λ c. search laws) (λ c. search laws))

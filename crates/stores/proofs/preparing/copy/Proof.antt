@@ -1,29 +1,22 @@
 -- `preparing::copy` meets its contract. The invariant: the first i words are written. Assumes nothing.
-use Prim.Native.Nat.{_-_}
+use mathlib.Core.Path.{_≡_}
+use Prim.Native.Nat.{_-_, _≤_}
 use lib.ListN.{length}
-use Rattle.stores.proofs.PrepareLaws.{Copying, copy-laws as laws}
-use Rattle.stores.proofs.preparing.copy.Statement.{statement}
-use Rattle.stores.proofs.preparing.copy.Tie as tie
+use lib.Seq.{paste}
+use Rattle.stores.proofs.PrepareLaws.{copy-laws as laws}
+use Rattle.stores.proofs.preparing.copy as fn
 
-abbrev Inv-loop : tie.InvT-loop
-Inv-loop store₀ w i₀ store i = Copying store₀ w i store
+abbrev Inv-loop : fn.Tie.InvT-loop
+Inv-loop store₀ w i₀ store i = (i ≤ length w) × (store ≡ paste store₀ 0 w i) × (length store ≡ length store₀)
 
-abbrev μ-loop : tie.MeasureT-loop
+abbrev μ-loop : fn.Tie.MeasureT-loop
 μ-loop store₀ w i₀ store i = length w - i
 
-pub copy-spec : {M : Type 1} → statement M
+pub copy-spec : {M : Type 1} → fn.Statement.statement M
 copy-spec =
-    tie.close
-    (tie.spec
+    fn.Tie.close
+    (fn.Tie.spec
     Inv-loop
     μ-loop
-    (λ c. search laws)
-    (λ c. search laws)
-    (λ c. search laws)
-    (λ c. search laws)
-    (λ c. search laws)
-    (λ c. search laws)
-    (λ c. search laws)
-    (λ c. search laws)
-    (λ c. search laws)
-    (λ c. search laws))
+    (λ c. search laws) (λ c. search laws) (λ c. search laws) (λ c. search laws) (λ c. search laws) (λ c. search laws) (λ c. search laws) (λ c. search laws)
+    (λ c. search laws) (λ c. search laws))

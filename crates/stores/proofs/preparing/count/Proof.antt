@@ -1,17 +1,11 @@
--- `preparing::count` meets its contract, by one law for each way out. Assumes nothing.
-use Rattle.stores.proofs.PrepareLaws.{count-laws as laws}
-use Rattle.stores.proofs.preparing.count.Statement.{statement}
-use Rattle.stores.proofs.preparing.count.Tie as tie
+-- `preparing::count` meets its contract, by its tests in their order. Assumes nothing.
+use Rattle.stores.specs.Extend.{roomIn, countBy}
+use Rattle.octets.proofs.Cases.{test-laws as laws}
+use Rattle.stores.proofs.preparing.count as fn
 
-pub count-spec : {M : Type 1} → statement M
+pub count-spec : {M : Type 1} → fn.Statement.statement M
+unfolding countBy roomIn
 count-spec =
-    tie.close
-    (tie.spec
-    (λ c. search laws)
-    (λ c. search laws)
-    (λ c. search laws)
-    (λ c. search laws)
-    (λ c. search laws)
-    (λ c. search laws)
-    (λ c. search laws)
-    (λ c. search laws))
+    fn.Tie.close
+    (fn.Tie.spec
+    (λ c. search laws) (λ c. search laws) (λ c. search laws) (λ c. search laws) (λ c. search laws) (λ c. search laws) (λ c. search laws) (λ c. search laws))

@@ -1,15 +1,6 @@
 -- `preparing::extend` meets its contract, by the tag. Assumes nothing.
 use Rattle.stores.proofs.PrepareLaws.{extend-laws as laws}
-use Rattle.stores.proofs.preparing.extend.Statement.{statement}
-use Rattle.stores.proofs.preparing.extend.Tie as tie
+use Rattle.stores.proofs.preparing.extend as fn
 
-pub extend-spec : {M : Type 1} → statement M
-extend-spec =
-    tie.close
-    (tie.spec
-    (λ c. search laws)
-    (λ c. search laws)
-    (λ c. search laws)
-    (λ c. search laws)
-    (λ c. search laws)
-    (λ c. search laws))
+pub extend-spec : {M : Type 1} → fn.Statement.statement M
+extend-spec = fn.Tie.close (fn.Tie.spec (λ c. search laws) (λ c. search laws) (λ c. search laws) (λ c. search laws) (λ c. search laws) (λ c. search laws))

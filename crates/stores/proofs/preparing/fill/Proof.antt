@@ -1,15 +1,9 @@
 -- `preparing::fill` meets its contract: hints change nothing of what the words stand for. Assumes nothing.
 use Rattle.stores.proofs.PrepareLaws.{fill-laws as laws}
-use Rattle.stores.proofs.preparing.fill.Statement.{statement}
-use Rattle.stores.proofs.preparing.fill.Tie as tie
+use Rattle.stores.proofs.preparing.fill as fn
 
-pub fill-spec : {M : Type 1} → statement M
+pub fill-spec : {M : Type 1} → fn.Statement.statement M
 fill-spec =
-    tie.close
-    (tie.spec
-    (λ c κs. search laws)
-    (λ c. search laws)
-    (λ c. search laws)
-    (λ c κs. search laws)
-    (λ c. search laws)
-    (λ c. search laws))
+    fn.Tie.close
+    (fn.Tie.spec
+    (λ c κs. search laws) (λ c. search laws) (λ c. search laws) (λ c κs. search laws) (λ c. search laws) (λ c. search laws))

@@ -2,35 +2,20 @@
 use Prim.Native.Nat.{_-_}
 use lib.ListN.{length}
 use Rattle.stores.proofs.PrepareLaws.{Filling, fill-from-laws as laws}
-use Rattle.stores.proofs.preparing.fill_from.Statement.{statement}
-use Rattle.stores.proofs.preparing.fill_from.Tie as tie
+use Rattle.stores.proofs.preparing.fill_from as fn
 
-abbrev Inv-loop : tie.InvT-loop
+abbrev Inv-loop : fn.Tie.InvT-loop
 Inv-loop s from w₀ at₀ w at = Filling s from w₀ w at
 
-abbrev μ-loop : tie.MeasureT-loop
+abbrev μ-loop : fn.Tie.MeasureT-loop
 μ-loop s from w₀ at₀ w at = length s - at
 
-pub fill-from-spec : {M : Type 1} → statement M
+pub fill-from-spec : {M : Type 1} → fn.Statement.statement M
 fill-from-spec =
-    tie.close
-    (tie.spec
+    fn.Tie.close
+    (fn.Tie.spec
     Inv-loop
     μ-loop
-    (λ c. search laws)
-    (λ c κs. search laws)
-    (λ c. search laws)
-    (λ c. search laws)
-    (λ c. search laws)
-    (λ c. search laws)
-    (λ c. search laws)
-    (λ c. search laws)
-    (λ c. search laws)
-    (λ c. search laws)
-    (λ c κs. search laws)
-    (λ c. search laws)
-    (λ c. search laws)
-    (λ c. search laws)
-    (λ c. search laws)
-    (λ c. search laws)
-    (λ c. search laws))
+    (λ c. search laws) (λ c κs. search laws) (λ c. search laws) (λ c. search laws) (λ c. search laws) (λ c. search laws) (λ c. search laws)
+    (λ c. search laws) (λ c. search laws) (λ c. search laws) (λ c κs. search laws) (λ c. search laws) (λ c. search laws) (λ c. search laws)
+    (λ c. search laws) (λ c. search laws) (λ c. search laws))

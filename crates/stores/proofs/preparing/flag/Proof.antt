@@ -1,17 +1,9 @@
 -- `preparing::flag` meets its contract, by one law for each way out. Assumes nothing.
 use Rattle.stores.proofs.PrepareLaws.{flag-laws as laws}
-use Rattle.stores.proofs.preparing.flag.Statement.{statement}
-use Rattle.stores.proofs.preparing.flag.Tie as tie
+use Rattle.stores.proofs.preparing.flag as fn
 
-pub flag-spec : {M : Type 1} → statement M
+pub flag-spec : {M : Type 1} → fn.Statement.statement M
 flag-spec =
-    tie.close
-    (tie.spec
-    (λ c. search laws)
-    (λ c. search laws)
-    (λ c. search laws)
-    (λ c. search laws)
-    (λ c. search laws)
-    (λ c. search laws)
-    (λ c. search laws)
-    (λ c. search laws))
+    fn.Tie.close
+    (fn.Tie.spec
+    (λ c. search laws) (λ c. search laws) (λ c. search laws) (λ c. search laws) (λ c. search laws) (λ c. search laws) (λ c. search laws) (λ c. search laws))

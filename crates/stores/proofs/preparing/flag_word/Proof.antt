@@ -1,17 +1,9 @@
 -- `preparing::flag_word` meets its contract, by one law for each way out. Assumes nothing.
 use Rattle.stores.proofs.PrepareLaws.{flag-word-laws as laws}
-use Rattle.stores.proofs.preparing.flag_word.Statement.{statement}
-use Rattle.stores.proofs.preparing.flag_word.Tie as tie
+use Rattle.stores.proofs.preparing.flag_word as fn
 
-pub flag-word-spec : {M : Type 1} → statement M
+pub flag-word-spec : {M : Type 1} → fn.Statement.statement M
 flag-word-spec =
-    tie.close
-    (tie.spec
-    (λ c. search laws)
-    (λ c. search laws)
-    (λ c. search laws)
-    (λ c. search laws)
-    (λ c. search laws)
-    (λ c. search laws)
-    (λ c. search laws)
-    (λ c. search laws))
+    fn.Tie.close
+    (fn.Tie.spec
+    (λ c. search laws) (λ c. search laws) (λ c. search laws) (λ c. search laws) (λ c. search laws) (λ c. search laws) (λ c. search laws) (λ c. search laws))

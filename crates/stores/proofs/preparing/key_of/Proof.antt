@@ -1,16 +1,9 @@
 -- `preparing::key_of` meets its contract: bits set side by side are a sum. Assumes nothing.
 use Rattle.stores.proofs.PrepareLaws.{value-of-laws as laws}
-use Rattle.stores.proofs.preparing.key_of.Statement.{statement}
-use Rattle.stores.proofs.preparing.key_of.Tie as tie
+use Rattle.stores.proofs.preparing.key_of as fn
 
-pub key-of-spec : {M : Type 1} → statement M
+pub key-of-spec : {M : Type 1} → fn.Statement.statement M
 key-of-spec =
-    tie.close
-    (tie.spec
-    (λ c. search laws)
-    (λ c. search laws)
-    (λ c. search laws)
-    (λ c. search laws)
-    (λ c. search laws)
-    (λ c. search laws)
-    (λ c. search laws))
+    fn.Tie.close
+    (fn.Tie.spec
+    (λ c. search laws) (λ c. search laws) (λ c. search laws) (λ c. search laws) (λ c. search laws) (λ c. search laws) (λ c. search laws))

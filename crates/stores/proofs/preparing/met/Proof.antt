@@ -1,15 +1,8 @@
 -- `preparing::met` meets its contract, by its tests in their order. Assumes nothing.
-use Rattle.stores.proofs.PrepareLaws.{met-laws as laws}
-use Rattle.stores.proofs.preparing.met.Statement.{statement}
-use Rattle.stores.proofs.preparing.met.Tie as tie
+use Rattle.stores.specs.Insert.{metAt}
+use Rattle.octets.proofs.Cases.{test-laws as laws}
+use Rattle.stores.proofs.preparing.met as fn
 
-pub met-spec : {M : Type 1} → statement M
-met-spec =
-    tie.close
-    (tie.spec
-    (λ c. search laws)
-    (λ c. search laws)
-    (λ c. search laws)
-    (λ c. search laws)
-    (λ c. search laws)
-    (λ c. search laws))
+pub met-spec : {M : Type 1} → fn.Statement.statement M
+unfolding metAt
+met-spec = fn.Tie.close (fn.Tie.spec (λ c. search laws) (λ c. search laws) (λ c. search laws) (λ c. search laws) (λ c. search laws) (λ c. search laws))

@@ -1,27 +1,18 @@
 -- `preparing::place_for` meets its contract. The invariant: the place is among the first i records. Assumes nothing.
 use Rattle.stores.proofs.PrepareLaws.{Placing, place-for-laws as laws}
-use Rattle.stores.proofs.preparing.place_for.Statement.{statement}
-use Rattle.stores.proofs.preparing.place_for.Tie as tie
+use Rattle.stores.proofs.preparing.place_for as fn
 
-abbrev Inv-loop : tie.InvT-loop
+abbrev Inv-loop : fn.Tie.InvT-loop
 Inv-loop w n rank i₀ i = Placing w n rank i
 
-abbrev μ-loop : tie.MeasureT-loop
+abbrev μ-loop : fn.Tie.MeasureT-loop
 μ-loop w n rank i₀ i = i
 
-pub place-for-spec : {M : Type 1} → statement M
+pub place-for-spec : {M : Type 1} → fn.Statement.statement M
 place-for-spec =
-    tie.close
-    (tie.spec
+    fn.Tie.close
+    (fn.Tie.spec
     Inv-loop
     μ-loop
-    (λ c. search laws)
-    (λ c. search laws)
-    (λ c. search laws)
-    (λ c. search laws)
-    (λ c. search laws)
-    (λ c. search laws)
-    (λ c. search laws)
-    (λ c. search laws)
-    (λ c. search laws)
-    (λ c. search laws))
+    (λ c. search laws) (λ c. search laws) (λ c. search laws) (λ c. search laws) (λ c. search laws) (λ c. search laws) (λ c. search laws) (λ c. search laws)
+    (λ c. search laws) (λ c. search laws))

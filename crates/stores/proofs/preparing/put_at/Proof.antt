@@ -1,24 +1,10 @@
 -- `preparing::put_at` meets its contract, by the words moved and the two written. Assumes nothing.
 use Rattle.stores.proofs.PrepareLaws.{put-at-laws as laws}
-use Rattle.stores.proofs.preparing.put_at.Statement.{statement}
-use Rattle.stores.proofs.preparing.put_at.Tie as tie
+use Rattle.stores.proofs.preparing.put_at as fn
 
-pub put-at-spec : {M : Type 1} → statement M
+pub put-at-spec : {M : Type 1} → fn.Statement.statement M
 put-at-spec =
-    tie.close
-    (tie.spec
-    (λ c. search laws)
-    (λ c. search laws)
-    (λ c. search laws)
-    (λ c. search laws)
-    (λ c κs. search laws)
-    (λ c. search laws)
-    (λ c. search laws)
-    (λ c. search laws)
-    (λ c. search laws)
-    (λ c. search laws)
-    (λ c. search laws)
-    (λ c. search laws)
-    (λ c. search laws)
-    (λ c. search laws)
-    (λ c. search laws))
+    fn.Tie.close
+    (fn.Tie.spec
+    (λ c. search laws) (λ c. search laws) (λ c. search laws) (λ c. search laws) (λ c κs. search laws) (λ c. search laws) (λ c. search laws)
+    (λ c. search laws) (λ c. search laws) (λ c. search laws) (λ c. search laws) (λ c. search laws) (λ c. search laws) (λ c. search laws) (λ c. search laws))

@@ -1,11 +1,6 @@
 -- `printing::letter` meets its contract, by the law of each case. Assumes nothing.
 use Rattle.text.proofs.PrintLaws.{letter-laws as laws}
-use Rattle.text.proofs.printing.letter.Statement.{statement}
-use Rattle.text.proofs.printing.letter.Tie as tie
+use Rattle.text.proofs.printing.letter as fn
 
-pub letter-spec : {M : Type 1} → statement M
-letter-spec =
-    tie.close
-    (tie.spec
-    (λ c. search laws)
-    (λ c. search laws))
+pub letter-spec : {M : Type 1} → fn.Statement.statement M
+letter-spec = fn.Tie.close (fn.Tie.spec (λ c. search laws) (λ c. search laws))
