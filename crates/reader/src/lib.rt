@@ -11,6 +11,9 @@ ghost use Rattle.stores.specs.Store.{Prepared};
 ghost use Rattle.handler.specs.Tasks.{Both};
 ghost use Rattle.reader.specs.Bursts.{storeIn, startRefusal, Started, burst, BurstDone, gatheredHandled, mark, MarkDone};
 
+// Octets of a frame, as a word of a reader counts them.
+const COUNT_MOST: u64 = 2048;
+
 // The early answer of a start, or 0.
 fn start_refusal(bad: bool, clock: usize, room: usize, beside_room: usize) -> u32
     ensures { λ r. ⌜ r ≡ startRefusal bad clock room «beside_room» ⌝ }
@@ -86,7 +89,7 @@ pub extern "C" fn trill_reader_burst(reader: &mut [u64], gathered: &mut [u8], oc
         return 2;
     }
     let count = reader[1];
-    if rules::FRAME_MOST < count {
+    if COUNT_MOST < count {
         reader[2] = 3;
         return 3;
     }
