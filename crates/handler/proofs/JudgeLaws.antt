@@ -19,7 +19,7 @@ use Rattle.octets.specs.Flags.{flagBy}
 use Rattle.octets.proofs.{Bits.join48-or, FlagLaws.flag-continues}
 use Rattle.handler.specs.Keys.{keyOf, mixOf, slotBy, markBy, markedBy, coversBy, keyMet, Marked, Kept, hopTaken, fieldTaken, withKey, keysWith, Taking}
 use Rattle.handler.specs.Keys.{Verdict}
-use Rattle.rules.proofs.FieldLaws.{IsField, field-read, fields-at-end, fields-at-cut, fields-at-on}
+use Rattle.rules.proofs.FieldLaws.{field-read, fields-at-end, fields-at-cut, fields-at-on}
 use Rattle.rules.specs.declared.{NextHop.NextHop, FieldRead.FieldRead, FieldRead.the-variants.Taken, FieldRead.the-variants.Cut}
 use Rattle.rules.proofs.{SettingsLaws.from-on, SettingsLaws.from-bad, Taken.taken, FirstLaws.continues-cut, FirstLaws.first, FirstLaws.settings-open}
 
@@ -209,7 +209,6 @@ pub record Rest (s : List ℕ) (whole : Option Settings) (met : List ℕ) (at : 
 -- what the loop keeps
 pub record Judging (s : List ℕ) (from : ℕ) (keys seen : List ℕ) (n at : ℕ) : Type 0 where
   pub kept : Kept keys seen n
-  pub within : at ≤ length s
   pub rest : (T : Settings) → T .hops ≡ [] → Rest s (settingsFrom T (fieldsAt s from)) (take n keys) at
 
 -- what the field at a place does to the first n keys
@@ -217,12 +216,11 @@ abbrev pub Step : List ℕ → ℕ → List ℕ → ℕ → ℕ → ℕ → Bool
 Step s at keys n tag next taken r keys′ seen′ =
     Taking (fieldTaken (take n keys) n tag (part s (at + 3) (next - (at + 3)))) (keysWith (take n keys) tag (part s (at + 3) (next - (at + 3)))) taken r keys′ seen′
 
-pub begins : (s : List ℕ) (from : ℕ) → from ≤ length s → Judging s from (replicate 64 0) (replicate 256 0) 0 from
+pub begins : (s : List ℕ) (from : ℕ) → Judging s from (replicate 64 0) (replicate 256 0) 0 from
 unfolding serialMet keyMet
-begins s from h =
+begins s from =
     record {
       kept = record { keys-long = refl; seen-long = refl; few = omega arith; marked = λ i below. absurd (omega arith) };
-      within = h;
       rest = λ T e. record { read = T; decides = refl; agree = rw e (record { count = refl; alike = λ r h. refl }) };
     }
 
@@ -241,14 +239,14 @@ module _ {s : List ℕ} {from : ℕ} {keys seen : List ℕ} {n at : ℕ} (j : Ju
         rw (← w .decides, fields-at-cut s at h (sym q ∙ c), from-bad (w .read) cut [] (continues-cut (w .read)))
 
     module _ {tag size next : ℕ} (taken : read ≡ Taken tag size next) where
-      its : IsField s at tag size next
-      its = field-read s at tag size next (sym q ∙ taken)
-
       abbrev v : List ℕ
       v = part s (at + 3) (next - (at + 3))
 
-      on : fieldsAt s at ≡ field tag v ∷ fieldsAt s next
-      on = let the-size : next - (at + 3) ≡ size = omega (arith, its) in rw the-size (fields-at-on s at tag size next h (sym q ∙ taken))
+      pub on : fieldsAt s at ≡ field tag v ∷ fieldsAt s next
+      on =
+          let f = sym q ∙ taken in
+          let the-size : next - (at + 3) ≡ size = omega (arith, field-read s at tag size next f) in
+          rw the-size (fields-at-on s at tag size next h f)
 
       judged-so : (T : Settings) (e : T .hops ≡ []) {b : Bool} → fieldTaken (take n keys) n tag v ≡ b → continues (j .rest T e .read) (field tag v) ≡ b
       judged-so T e g = continues-taken (j .rest T e .read) v (take n keys) n tag many (j .rest T e .agree) ∙ g
@@ -262,7 +260,6 @@ module _ {s : List ℕ} {from : ℕ} {keys seen : List ℕ} {n at : ℕ} (j : Ju
       goes-on t =
           record {
             kept = t .kept refl;
-            within = its .within;
             rest = λ T e.
                 let w = j .rest T e in
                 rw (t .now-met refl)

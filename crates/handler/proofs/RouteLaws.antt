@@ -1,5 +1,6 @@
 -- What a frame comes to as the code finds it: received, its area read by the edition, its task, and the task carried out. One law for each need,
 -- over what the calls before it ensure, for `search` to cite. Assumes nothing.
+use Rattle.handler.proofs.StageLaws.{frame-near, by-hop, ready, inner-held, area-held}
 use Rattle.rules.specs.Handling.{transit, alerted, untagged, toAllEgressRBridges, channelMessage, alertTo, alertOf, channelled, decapsulated, handledWith}
 use mathlib.Core.Path.{_≡_, refl, sym, ap, _∙_}
 use mathlib.Core.List.{List}
@@ -7,7 +8,7 @@ use mathlib.Core.Bool.{Bool, true, false, not, _&&_, _||_, cond}
 use Prim.Native.Nat.{ℕ, suc, _≤_, _<_}
 use native.Mathlib.Omega.{arith}
 use borrow.Author.{Needs.needs, Tests.lt-leb, Tests.le-leb, Tests.not-true, Tests.not-false}
-use Rattle.rules.proofs.{TestLaws.by-test, OptionLaws.area-number, FrameLaws.frame-read, FrameLaws.header-passed, FrameLaws.link-length}
+use Rattle.rules.proofs.{TestLaws.by-test, OptionLaws.area-number, FrameLaws.header-passed}
 use lib.Dec.{eqb}
 use lib.ListN.{length, take, drop, length-drop, length-take}
 use Rattle.rules.specs.{Octets.be16, Octets.be32, Settings.Ways, Options.WellFormed, Options.draftRead, Channel.bodyOf, Channel.channelRead}
@@ -33,7 +34,6 @@ use Rattle.handler.specs.declared.handling.Received.the-variants as R
 use Rattle.handler.specs.Tasks.{areaReadBy, ReadBy, stopsBy, alertBy, alertedBy, transitBy, wantedBy, askedBy, Answerable, Left, Ends, Comes, Role}
 use Rattle.handler.specs.Tasks.{Routes, Receives, Lent, Receiving}
 use Rattle.handler.specs.Shapes.{answerOf, judgedBy, Ready}
-use Rattle.handler.proofs.StageLaws.{by-hop, ready, inner-held, area-held}
 
 -- the area by the edition
 module _ (rfc7179 : Bool) (area : List ℕ) where
@@ -269,9 +269,6 @@ pub ruleset route-laws = (needs, ready, area-held, inner-held, route-place, part
 
 -- 12 to 18
 module _ (f : List ℕ) (h : Header) (is : readFrame f ≡ Trill h) (own : Own) where
-  pub frame-near : h .place ≤ 18
-  frame-near = omega (arith, frame-read f h is .its-place, link-length f)
-
   module _ (refusal : Refusal) (is-refusal : refusal ≡ refusalBy (headerRefusal (own .mac) f h)) where
     pub frame-refused : (n : ℕ) → refusal ≡ Refused n → (r : Answer) → r ≡ answerOf (A.dropped n) → Receives own f (R.Answered r)
     frame-refused n e r d =

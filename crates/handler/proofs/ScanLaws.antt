@@ -4,12 +4,13 @@
 use Rattle.rules.specs.{Handling.faulted, Handling.echoed, Settings.Ways, declared.Alert.Alert}
 use Rattle.handler.specs.declared.handling.{Task.Task, Task.the-variants.Forward, Task.the-variants.Error, Task.the-variants.Echo}
 use Rattle.handler.specs.{declared.way.Told.Told, Tasks.wantedBy, Tasks.Routes, Tasks.Forwardable, Shapes.Done}
+use Rattle.handler.proofs.{JudgeLaws.cut-off, JudgeLaws.flag-stops, JudgeLaws.Judging, Stages.if-laws, RouteLaws.received-lent}
+use Rattle.handler.proofs.StageLaws.{done-dropped}
 use Rattle.handler.specs.Keys.{fieldTaken, keysWith, hopTaken, withKey, Taking, Verdict, Scanned, JudgedBy}
 use mathlib.Core.Path.{_≡_, refl, sym, ap, _∙_}
 use mathlib.Core.List.{List, [], _∷_, foldl, foldl-append}
 use mathlib.Core.Bool.{true, not, Bool, false, true≢false, false≢true}
 use Prim.Native.Nat.{ℕ, _+_, _-_, _≤_, _<_}
-use native.Mathlib.Omega.{arith}
 use borrow.Author.Needs.{needs}
 use borrow.Author.Tests.{lt-ltb, le-ltb, ltb-true, ltb-false, eq-eqb, ne-eqb, eqb-true, not-true, not-false}
 use lib.Dec.{ltb, eqb}
@@ -19,15 +20,14 @@ use Rattle.rules.specs.Fields.{Field, field, cut, fieldAt, fieldsAt, fields}
 use Rattle.rules.specs.Settings.{Settings, newer, ruling, switchOf, hopOf, withField, opened, settingsRead, waysOf, opens, settingsOf}
 use Rattle.rules.specs.declared.{NextHop.NextHop, Ruling.Ruling, Ruling.the-variants.Found, Ruling.the-variants.Absent, FieldRead.FieldRead}
 use Rattle.rules.specs.declared.{FieldRead.the-variants.Taken, FieldRead.the-variants.Cut, Header.Header}
-use Rattle.rules.proofs.{TestLaws.by-test, FieldLaws.fields-at-end, FieldLaws.fields-at-cut, FieldLaws.fields-at-on, Taken.its, Taken.taken-first}
-use Rattle.rules.proofs.{Taken.taken-to, Taken.taken, SettingsLaws.settings-read, HandlingLaws.settings-bad, HandlingLaws.settings-good}
+use Rattle.rules.proofs.{TestLaws.by-test, FieldLaws.fields-at-end, FieldLaws.fields-at-cut, Taken.taken-first, Taken.taken-to, Taken.taken}
+use Rattle.rules.proofs.{SettingsLaws.settings-read, HandlingLaws.settings-bad, HandlingLaws.settings-good}
 use Rattle.rules.proofs.FirstLaws.{opened-field, first, switch-fold, settings-cut, settings-bad as not-opened}
 use Rattle.handler.specs.Shapes.{ownOf, ruledBy, noFlags, flaggedBy, FoldedFrom, droppedBy, onlyFor, waysBy}
 use Rattle.octets.specs.Flags.{flagTag, flagBy}
 use Rattle.handler.specs.declared.{judged.Flags.Flags, way.Own.Own, answers.Answer.Answer, handling.Received.Received}
 use Rattle.handler.specs.declared.{handling.Received.the-variants.Answered, handling.Received.the-variants.Trill, judged.Scan.Scan}
 use Rattle.handler.specs.declared.judged.Judged.{Judged}
-use Rattle.handler.proofs.{Stages.if-laws, JudgeLaws.Judging, RouteLaws.received-lent, StageLaws.done-dropped}
 use mathlib.Core.Option.{Option, none, some}
 use Rattle.rules.specs.Answer as A
 use Rattle.handler.specs.{Tasks.askedBy, Tasks.receivedBy, Tasks.Receiving, Tasks.Both, Calls.ToldOf}
@@ -73,28 +73,16 @@ module _ (flags : Flags) (tag : ℕ) (v : List ℕ) where
 
 pub ruleset flagged-laws = (needs, flagged-strip, flagged-edition)
 
--- what the loop keeps
+-- a fold over the fields, as far as the loop has come
 pub record Folding {A : Type 0} (step : A → Field → A) (start : A) (s : List ℕ) (from at : ℕ) (acc : A) : Type 0 where
-  pub within : at ≤ length s
   pub gives : foldl step acc (fieldsAt s at) ≡ foldl step start (fieldsAt s from)
 
-module _ {A : Type 0} {step : A → Field → A} {start : A} {s : List ℕ} {from : ℕ} where
-  pub fold-begin : from ≤ length s → Folding step start s from from start
-  fold-begin h = record { within = h; gives = refl }
+module _ {A : Type 0} {step : A → Field → A} {start : A} {s : List ℕ} {from at : ℕ} {acc : A} (w : Folding step start s from at acc) where
+  fold-end : length s ≤ at → FoldedFrom step start s from acc
+  fold-end h = ap (foldl step acc) (sym (fields-at-end s at h)) ∙ w .gives
 
-  module _ {at : ℕ} {acc : A} (w : Folding step start s from at acc) where
-    pub fold-end : length s ≤ at → FoldedFrom step start s from acc
-    fold-end h = ap (foldl step acc) (sym (fields-at-end s at h)) ∙ w .gives
-
-    pub fold-on : at < length s → {read : FieldRead} → read ≡ fieldAt s at → {tag size next : ℕ} → read ≡ Taken tag size next → {acc′ : A}
-        → acc′ ≡ step acc (field tag (part s (at + 3) (next - (at + 3)))) → Folding step start s from next acc′
-    fold-on h {read} f {tag} {size} {next} t a =
-        let i = its s at tag size next read t f in
-        let the-size : next - (at + 3) ≡ size = omega (arith, i) in
-        record {
-          within = i .within;
-          gives = rw (a, the-size) (ap (foldl step acc) (sym (fields-at-on s at tag size next h (sym f ∙ t))) ∙ w .gives);
-        }
+  fold-on : {f : Field} {next : ℕ} {acc′ : A} → fieldsAt s at ≡ f ∷ fieldsAt s next → acc′ ≡ step acc f → Folding step start s from next acc′
+  fold-on on a = record { gives = rw a (ap (foldl step acc) (sym on) ∙ w .gives) }
 
 -- the settings read, by the first field
 module _ (s : List ℕ) where
@@ -172,10 +160,10 @@ pub record Scanning (s : List ℕ) (from d : ℕ) (keys seen : List ℕ) (n : �
   pub ruled : Folding (ruledBy d) Absent s from at best
   pub flagged : Folding flaggedBy noFlags s from at flags
 
-pub scan-begin : (s : List ℕ) (from d : ℕ) → from ≤ length s → Scanning s from d (replicate 64 0) (replicate 256 0) 0 Absent noFlags from
-scan-begin s from d h = record { judging = J.begins s from h; ruled = fold-begin h; flagged = fold-begin h }
+pub scan-begin : (s : List ℕ) (from d : ℕ) → Scanning s from d (replicate 64 0) (replicate 256 0) 0 Absent noFlags from
+scan-begin s from d = record { judging = J.begins s from; ruled = record { gives = refl }; flagged = record { gives = refl } }
 
-bad-scanned : {s : List ℕ} {from d : ℕ} {r : Scan} → r .good ≡ false → Verdict s from false → Scanned s from d r
+pub bad-scanned : {s : List ℕ} {from d : ℕ} {r : Scan} → r .good ≡ false → Verdict s from false → Scanned s from d r
 bad-scanned b v = record { verdict = rw b v; ruled = λ t. absurd (false≢true (sym b ∙ t)); flagged = λ t. absurd (false≢true (sym b ∙ t)) }
 
 module _ (s : List ℕ) (from d : ℕ) (keys seen : List ℕ) (n : ℕ) (best : Ruling) (flags : Flags) (at : ℕ) (l : Scanning s from d keys seen n best flags at) where
@@ -183,9 +171,6 @@ module _ (s : List ℕ) (from d : ℕ) (keys seen : List ℕ) (n : ℕ) (best : 
   scan-end h = record { verdict = J.ends (l .judging) h; ruled = λ t. fold-end (l .ruled) h; flagged = λ t. fold-end (l .flagged) h }
 
   module _ (h : at < length s) (read : FieldRead) (q : read ≡ fieldAt s at) where
-    pub scan-cut : (r : Scan) → r .good ≡ false → read ≡ Cut → Scanned s from d r
-    scan-cut r b c = bad-scanned b (J.cut-off (l .judging) h q c)
-
     module _ (tag size next : ℕ) (t : read ≡ Taken tag size next) where
       abbrev v : List ℕ
       v = part s (at + 3) (next - (at + 3))
@@ -198,31 +183,30 @@ module _ (s : List ℕ) (from d : ℕ) (keys seen : List ℕ) (n : ℕ) (best : 
         pub scan-hop : (best′ : Ruling) → best′ ≡ newer d best (hopOf v) → not taken ≡ false → (m : ℕ) → m ≡ n + 1 → Scanning s from d keys′ seen′ m best′ flags next
         unfolding fieldTaken keysWith ruledBy flaggedBy
         scan-hop best′ e x m is =
+            let on = J.on (l .judging) h q t in
             rw is
             (record {
               judging = J.goes-on (l .judging) h q t (rw two (rw (not-false taken x) at k));
-              ruled = fold-on (l .ruled) h q t (cc);
-              flagged = fold-on (l .flagged) h q t (rw two);
+              ruled = fold-on (l .ruled) on (cc);
+              flagged = fold-on (l .flagged) on (rw two);
             })
 
       module _ (other : tag ≡ 2 → ⊥) (code : ℕ) (is : code ≡ flagBy tag v) where
-        pub scan-flag-bad : (r : Scan) → r .good ≡ false → (code ≡ 0 → ⊥) → Scanned s from d r
-        scan-flag-bad r b x = bad-scanned b (J.flag-stops (l .judging) h q t other is x)
-
         pub scan-flag : (flags′ : Flags) → flags′ ≡ flaggedBy flags (field tag v) → code ≡ 0 → Scanning s from d keys seen n best flags′ next
         unfolding ruledBy
         scan-flag flags′ e x =
+            let on = J.on (l .judging) h q t in
             record {
               judging = J.flag-on (l .judging) h q t other is x;
-              ruled = fold-on (l .ruled) h q t (rw (ne-eqb tag 2 other));
-              flagged = fold-on (l .flagged) h q t e;
+              ruled = fold-on (l .ruled) on (rw (ne-eqb tag 2 other));
+              flagged = fold-on (l .flagged) on e;
             }
 
         pub scan-tag : code ≡ 0 → flagTag tag ≡ true
         scan-tag x = flag-is tag v (sym is ∙ x)
 
 pub ruleset scan-laws =
-    (needs, taken, scan-begin, scan-end, scan-cut, scan-hop-bad, scan-hop, scan-flag-bad, scan-flag, scan-tag)
+    (needs, taken, scan-begin, scan-end, bad-scanned, cut-off, flag-stops, scan-hop-bad, scan-hop, scan-flag, scan-tag)
 
 -- the record unless it is withdrawn
 pub withdrawn-by : (r best c : Ruling) → best ≡ c → r ≡ unlessWithdrawn c → r ≡ unlessWithdrawn best

@@ -1,5 +1,8 @@
 -- What is forwarded and what is replied as the code writes it: what is ready gives what each call asks, and each way out is the answer and the
 -- buffer that the rules define. One law for each need, over what the calls before it ensure, for `search` to cite. Assumes nothing.
+use Rattle.rules.specs.Header.{readFrame, opLength, innerStart, areaOf, innerOf}
+use Rattle.rules.specs.declared.{FrameRead.the-variants.Trill, NextHop.NextHop, Header.Header, Ruling.Ruling, Ruling.the-variants.Found}
+use Rattle.rules.specs.declared.Ruling.the-variants.{Absent}
 use Rattle.handler.proofs.Stages.{parts, after, lent-rest, link-sized, rest-long}
 use mathlib.Core.Path.{_≡_, _∙_, refl, sym}
 use mathlib.Core.List.{List, _++_, []}
@@ -7,10 +10,9 @@ use Prim.Native.Nat.{ℕ, _+_, _≤_, _-_, _*_, _<_}
 use native.Mathlib.Omega.{arith}
 use borrow.Author.Needs.{needs}
 use lib.ListN.{length, length-append, length-take, take, drop, length-drop}
-use Rattle.rules.specs.{Octets.put, Octets.octet, Settings.Ways, Link.link, Header.opLength, Header.innerStart, Header.areaOf, Header.innerOf}
-use Rattle.rules.specs.{Options.WellFormed, Options.draftRead, Options.stripped, Extension.areaSent}
+use Rattle.rules.specs.{Octets.put, Octets.octet, Settings.Ways, Link.link, Options.WellFormed, Options.draftRead, Options.stripped}
+use Rattle.rules.specs.Extension.{areaSent}
 use Rattle.rules.specs.Channel.{errorBody, echoBody, errorReply, echoReply, replyRest, replyInner, bodyOf, returnPath, silenced}
-use Rattle.rules.specs.declared.{NextHop.NextHop, Header.Header, Ruling.Ruling, Ruling.the-variants.Found, Ruling.the-variants.Absent}
 use Rattle.rules.proofs.FrameLaws.{link-most, frame-read, link-length, length-link}
 use Rattle.rules.proofs.{ReplyLaws.echo-body-length, OctetLaws.put-none, OctetLaws.take-put, OctetLaws.length-part, OptionLaws.stripped-word}
 use Rattle.rules.proofs.OptionLaws.{stripped-shorter}
@@ -24,18 +26,18 @@ use Rattle.rules.specs.Answer as A
 use Rattle.rules.proofs.TestLaws.{by-test, and-no, and-yes, and-true}
 use Rattle.rules.proofs.HandlingLaws.{onward-long, onward-sent, faulted-silent, faulted-none, faulted-over, echoed-mode, echoed-none, echoed-over}
 
--- a frame that is ready
-module _ {f : List ℕ} {h : Header} (ready : Ready f h) where
-  pub ready-near : h .place ≤ 18
-  ready-near = omega (arith, frame-read f h (ready .read) .its-place, link-length f)
+-- a frame that was read
+module _ (f : List ℕ) (h : Header) (is : readFrame f ≡ Trill h) where
+  pub frame-near : h .place ≤ 18
+  frame-near = omega (arith, frame-read f h is .its-place, link-length f)
 
-  pub ready-from : 14 ≤ h .place
-  ready-from = frame-read f h (ready .read) .from
+  pub frame-from : 14 ≤ h .place
+  frame-from = frame-read f h is .from
 
-  pub ready-place : h .place ≤ length f
-  ready-place = omega (arith, frame-read f h (ready .read) .whole)
+  pub frame-place : h .place ≤ length f
+  frame-place = omega (arith, frame-read f h is .whole)
 
-pub ruleset ready = (ready-near, ready-from, ready-place)
+pub ruleset ready = (frame-near, frame-from, frame-place)
 
 -- the parts of a frame that the code holds
 module _ (f : List ℕ) (h : Header) (start : ℕ) (i : start ≡ innerStart h) where
@@ -109,7 +111,7 @@ module _ (S : Ways) (r : NextHop) (f : List ℕ) (h : Header) (out area : List �
     pub onward-fits : Ready f h → length area ≤ 124 → length out1 ≡ length out → 2048 ≤ length out → Fits area f h out1 at
     onward-fits ready few same roomy =
         record {
-          place-small = ready-near ready;
+          place-small = frame-near f h (ready .read);
           area-whole = ready .area-whole;
           hops-left = ready .hops-left;
           area-short = few;

@@ -87,14 +87,10 @@ module _ (S : Ways) (r : NextHop) (mac : ℕ) (own : mac ≡ S .mac) (d d1 d2 en
       rw (ne-eqb (r .vlan) 0 n, ← own)
       (copied-after d d1 d2 0 12 (octets48 (r .mac) ++ octets48 mac) (taggedOctets (r .vlan)) end p q e refl (rw (ne-eqb (r .vlan) 0 n) at room))
 
-module _ (S : Ways) (r : NextHop) where
-  pub link-plain : r .vlan ≡ 0 → 14 ≡ length (link S r)
-  link-plain z = sym (length-link S r ∙ rw z)
+pub link-so : (S : Ways) (r : NextHop) (k : ℕ) → k ≡ linkSize (r .vlan) → k ≡ length (link S r)
+link-so S r k e = e ∙ sym (length-link S r)
 
-  pub link-tagged : (r .vlan ≡ 0 → ⊥) → 18 ≡ length (link S r)
-  link-tagged n = sym (length-link S r ∙ rw (ne-eqb (r .vlan) 0 n))
-
-pub ruleset write-link-laws = (needs, macs-room, link-plain, plain-written, link-tagged, tagged-written)
+pub ruleset write-link-laws = (if-laws, macs-room, link-so, plain-written, tagged-written)
 
 -- a forwarded frame behind its link header
 module _ (f : List ℕ) (h : Header) (area : List ℕ) where

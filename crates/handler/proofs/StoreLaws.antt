@@ -17,7 +17,7 @@ use Rattle.handler.specs.declared.{handling.Received.the-variants.Answer
 use Rattle.handler.specs.{Shapes.droppedBy, Shapes.ownOf, Shapes.onlyFor, Shapes.waysBy}
 use Rattle.handler.specs.{Tasks.receivedBy, Tasks.Receiving, Tasks.Both}
 use Rattle.handler.proofs.TaskLaws.{both-of, kept, tells, replies-none, replies-so, replied, said-forwardable}
-use Rattle.stores.proofs.PlaceLaws.{step-past, step-up, step-stay, place-hinted, place-searched, for-past, for-other}
+use Rattle.stores.proofs.PlaceLaws.{good-whole, step-past, step-up, step-stay, place-hinted, place-searched, for-past, for-other}
 use Rattle.stores.specs.Store.{nicknameIn, countIn, destAt, hopOf, hopAt, lastAt, hintAt, placeIn, hopFor, waysIn, storeGood, handledIn, Whole}
 
 -- which words are good
@@ -46,15 +46,6 @@ module _ (w : List ℕ) where
       pub good-so : getD w 3 0 ≤ 64 → leb (4 + 2 * getD w 3 0) (length w) ≡ storeGood w
       unfolding storeGood
       good-so h = rw (le-leb 4 (length w) a, named, le-leb (getD w 3 0) 64 h)
-
-pub good-whole : (w : List ℕ) → storeGood w ≡ true → Whole w
-unfolding storeGood
-good-whole w e =
-    record {
-      named = omega (arith, leb-true (nicknameIn w) 0xFFBF (search parts));
-      few = leb-true (countIn w) 64 (search parts);
-      long = leb-true (4 + 2 * countIn w) (length w) (search parts);
-    }
 
 pub ruleset store-good-laws = (needs, good-short, good-nobody, good-above, good-many, good-so)
 

@@ -49,8 +49,6 @@ kept-empty = rw kept-nothing
 
 -- the loop's state
 pub record Stripping (area out₀ : List ℕ) (from : ℕ) (out : List ℕ) (at to : ℕ) : Type 0 where
-  pub start : 4 ≤ at
-  pub within : at ≤ length area
   pub floor : ℕ
   pub fuel : ℕ
   pub enough : length area < at + suc fuel
@@ -93,8 +91,6 @@ module _ (area out₀ : List ℕ) (from : ℕ) where
   strip-begin e h =
       let w = area-well area e in
       record {
-        start = omega arith;
-        within = h;
         floor = 0;
         fuel = length area;
         enough = omega arith;
@@ -154,8 +150,6 @@ module _ (area out₀ : List ℕ) (from : ℕ) where
             let here : octetsOf (keptOptions (s .left)) ≡ k ++ octetsOf (keptOptions (a .after)) =
             cc (a .first, gone-is, as-long, kept-first (optionIn area at) (a .after)) in
             record {
-              start = omega arith;
-              within = strip-next;
               floor = keyOf (be16 area at) + 1;
               fuel = s .fuel - 1;
               enough = omega (arith, its-step);

@@ -92,7 +92,6 @@ pub ruleset option-at-laws = (needs, at-reserved, at-past, at-below, at-equal, a
 
 -- a place in an area, with fuel enough for what is left
 pub record Walking (area : List ℕ) (c : Cursor) : Type 0 where
-  pub from : 4 ≤ c .at
   pub fuel : ℕ
   pub enough : length area < c .at + suc fuel
   pub rest : walkOf (c .hop) (c .egress) (optionsFrom (suc fuel) area (c .floor) (c .at)) ≡ walkOf false false (optionsOf area)
@@ -114,7 +113,7 @@ walk-none hop egress = rw (or-no hop, or-no egress)
 
 pub walk-begin : (area : List ℕ) → Walking area (record { at = 4; floor = 0; hop = false; egress = false })
 unfolding optionsOf
-walk-begin area = record { from = omega arith; fuel = length area; enough = omega arith; rest = refl }
+walk-begin area = record { fuel = length area; enough = omega arith; rest = refl }
 
 -- by what is read, of one option and of all
 by-read : {X : Type 0} (o : O.OptionRead) → ((m q : ℕ) → o ≡ Fault m q → X) → ((key size next : ℕ) → o ≡ Taken key size next → X) → X
@@ -149,7 +148,6 @@ module _ (area : List ℕ) (c : Cursor) (w : Walking area c) where
           rw (← read-same (ap (readBy c) (sym f) ∙ sym r ∙ e)) (
             omega arith,
             record {
-              from = omega arith;
               fuel = w .fuel - 1;
               enough = omega arith;
               rest =

@@ -12,7 +12,8 @@ use Rattle.rules.proofs.{OctetLaws.put-none, FrameLaws.length-link, FrameLaws.l
 use Rattle.handler.specs.declared.{judged.Judged.Judged, way.Told.Told, way.WayOut.WayOut}
 use Rattle.handler.specs.{Shapes.linkSize, Shapes.waysBy, Shapes.onlyFor, Shapes.WayDone, Keys.JudgedBy}
 use Rattle.stores.specs.Store.{storeGood, waysIn, wayOutIn, Whole}
-use Rattle.handler.proofs.{StoreLaws.good-whole, ScanLaws.settings-none, ScanLaws.settings-some}
+use Rattle.stores.proofs.PlaceLaws.{good-whole}
+use Rattle.handler.proofs.ScanLaws.{settings-none, settings-some}
 
 -- T-11, by what is told of one destination
 module _ (t : Told) (out : List ℕ) where
