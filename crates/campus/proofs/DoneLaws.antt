@@ -1,4 +1,4 @@
--- From what was read to the run, and from the run to the outcome, by the laws of descriptions, runs and the demand. Assumes nothing.
+-- From what was read to the run, and from the run to the outcome, by the laws of descriptions, runs and the demand.
 use mathlib.Core.Path.{_≡_, refl, sym, ap, _∙_}
 use mathlib.Core.List.{List, [], _∷_, append-nil, List·Memᴰ, List·Memᴰ·not-nil, List·Memᴰ·cases-cons}
 use mathlib.Core.Logic.{inl, inr}
@@ -11,33 +11,32 @@ use borrow.Author.Needs.{needs}
 use borrow.Author.Tests.{ne-eqb, le-leb, leb-true}
 use lib.Dec.{eqb, leb}
 use lib.ListN.{length, take, drop, replicate, length-take, length-drop, length-replicate}
-use Rattle.rules.specs.Octets.{be16, part}
-use Rattle.rules.specs.Settings.{Settings, Ways, waysOf}
-use Rattle.rules.specs.Campus.{Described, switchNamed, original, runFrom, handlingsMost, plainRun, clockOf, someEdition2, traceNeeded, accepted, described}
-use Rattle.rules.specs.Campus.{refusal, campus, traceAfter}
-use Rattle.rules.specs.Demand.{repliesIn, singleRun}
-use Rattle.rules.proofs.TestLaws.{by-test}
-use Rattle.rules.proofs.OctetLaws.{put-none, put-front}
-use Rattle.rules.proofs.DescriptionLaws.{Accepted, accepted-good}
-use Rattle.rules.proofs.OutcomeLaws.{campus-short, campus-refused, campus-needed, campus-accepted}
-use Rattle.rules.proofs.DemandLaws.{plain-run, plain-most, plain-room, demand}
-use Rattle.rules.proofs.AlikeLaws.{Both, Same, run-alike}
-use Rattle.rules.proofs.RunLaws.{named-nickname, few-replies, named-member}
-use Rattle.rules.proofs.SingleLaws.{Draft, edition-1-all, single, one-reply}
-use Rattle.rules.proofs.StepLaws.{hop-most}
+use Rattle.rules.specs as rules
+use rules.{Octets.be16, Octets.part, Demand.repliesIn, Demand.singleRun}
+use rules.Settings.{Settings, Ways, waysOf}
+use rules.Campus.{Described, switchNamed, original, runFrom, handlingsMost, plainRun, clockOf, someEdition2, traceNeeded, accepted, described}
+use rules.Campus.{refusal, campus, traceAfter}
+use Rattle.rules.proofs as ruleLaws
+use ruleLaws.{TestLaws.by-test, OctetLaws.put-none, OctetLaws.put-front, RunLaws.named-nickname, RunLaws.few-replies, RunLaws.named-member}
+use ruleLaws.{StepLaws.hop-most}
+use ruleLaws.DescriptionLaws.{Accepted, accepted-good}
+use ruleLaws.OutcomeLaws.{campus-short, campus-refused, campus-needed, campus-accepted}
+use ruleLaws.DemandLaws.{plain-run, plain-most, plain-room, demand}
+use ruleLaws.AlikeLaws.{Both, Same, run-alike}
+use ruleLaws.SingleLaws.{Draft, edition-1-all, single, one-reply}
 use Rattle.octets.specs.Copy.{putFitting}
 use Rattle.octets.proofs.Ends.{put-fits}
-use Rattle.campus.specs.declared.switches.Named.{Named}
-use Rattle.campus.specs.declared.switches.Named.the-variants.{At, Nowhere}
-use Rattle.campus.specs.declared.reading.Reading.{Reading}
-use Rattle.campus.specs.Places.{between, clockAt, clockFrom, entryValue, describedBy}
-use Rattle.campus.specs.Stores.{settingsAt, switchesIn, numberIn, Placed, SoundAt, Sound, wordsFor, Accepts, ReadDone}
-use Rattle.campus.specs.Steps.{neededBy, Ran, runOf, RunReady, EntryReady, statesOf}
-use Rattle.campus.specs.Queue.{LoopReady}
-use Rattle.campus.specs.Done.{CampusDone}
-use Rattle.campus.proofs.StoresLaws.{lent, stores-sound, named-none, named-some, named-same, edition-same}
-use Rattle.campus.proofs.RunLaws.{nickname-is, nickname-small, trace-none}
-use Rattle.campus.proofs.ReadLaws.{between-there}
+use Rattle.campus.specs
+use specs.declared.switches.Named.{Named}
+use specs.declared.switches.Named.the-variants.{At, Nowhere}
+use specs.declared.reading.Reading.{Reading}
+use specs.Places.{between, clockAt, clockFrom, entryValue, describedBy}
+use specs.Stores.{settingsAt, switchesIn, numberIn, Placed, SoundAt, Sound, wordsFor, Accepts, ReadDone}
+use specs.Steps.{neededBy, Ran, runOf, RunReady, EntryReady, statesOf}
+use specs.{Queue.LoopReady, Done.CampusDone}
+use Rattle.campus.proofs
+use proofs.StoresLaws.{lent, stores-sound, named-none, named-some, named-same, edition-same}
+use proofs.{RunLaws.nickname-is, RunLaws.nickname-small, RunLaws.trace-none, ReadLaws.between-there}
 
 -- the clock's octets
 module _ (s : List ℕ) (clock : ℕ) where

@@ -1,5 +1,5 @@
 -- The replies that wait in their slots: what one more reply, and the first taken out, leave; and what is next. By the laws of buffers, and by induction
--- on the replies. One law for each need, for `search` to cite. Assumes nothing.
+-- on the replies. One law for each need, for `search` to cite.
 use mathlib.Core.Path.{_≡_, refl, sym, ap, _∙_}
 use mathlib.Core.List.{List, [], _∷_, _++_, append-assoc, append-nil}
 use mathlib.Core.Bool.{Bool, true, false, _&&_}
@@ -15,20 +15,18 @@ use lib.Seq.{length-take-le, take-append-le, drop-append-le, take-append-seam, d
 use Rattle.rules.specs.Octets.{be16, put}
 use Rattle.rules.specs.Campus.{switchNamed, Kind, Waiting, writesReply, inCampus, staying, firstWaiting}
 use Rattle.rules.proofs.OctetLaws.{length-put, put-put, take-put}
-use Rattle.rules.proofs.NextLaws.{stays-none, stays-in, stays-left}
-use Rattle.rules.proofs.TestLaws.{by-test}
+use Rattle.rules.proofs.{NextLaws.stays-none, NextLaws.stays-in, NextLaws.stays-left, TestLaws.by-test}
 use Rattle.octets.specs.Copy.{putFitting}
 use Rattle.octets.proofs.Ends.{put-fits}
 use Rattle.handler.specs.declared.answers.Answer.{Answer}
-use Rattle.campus.specs.declared.switches.Named.{Named}
-use Rattle.campus.specs.declared.switches.Named.the-variants.{At, Nowhere}
-use Rattle.campus.specs.declared.running.At.{At as Place}
-use Rattle.campus.specs.declared.running.Onward.{Onward}
-use Rattle.campus.specs.declared.running.Onward.the-variants.{To, Ends}
-use Rattle.campus.specs.Stores.{settingsAt, switchesIn, numberIn, Sound}
-use Rattle.campus.specs.Steps.{kindBy}
-use Rattle.campus.specs.Queue.{waitingBy, slotOctets, Free, Slot, Held, Queue, Waits, repliesBy, WaitReady, sentTo, onwardBy, NextReady, Leads}
-use Rattle.campus.specs.Queue.{OnwardReady, Onwarded}
+use Rattle.campus.specs
+use specs.declared.switches.Named.{Named}
+use specs.declared.switches.Named.the-variants.{At, Nowhere}
+use specs.declared.running.{At.At as Place, Onward.Onward}
+use specs.declared.running.Onward.the-variants.{To, Ends}
+use specs.{Stores.settingsAt, Stores.switchesIn, Stores.numberIn, Stores.Sound, Steps.kindBy}
+use specs.Queue.{waitingBy, slotOctets, Free, Slot, Held, Queue, Waits, repliesBy, WaitReady, sentTo, onwardBy, NextReady, Leads}
+use specs.Queue.{OnwardReady, Onwarded}
 use Rattle.campus.proofs.StoresLaws.{lent, named-none, named-some}
 
 -- a part of a buffer written at a place: before it, and there

@@ -1,5 +1,5 @@
 -- Reading a description. One field more, judged and taken into the stores: by the tests of `fieldRefusal`, and the laws of stores. Then the loop: the words
--- stand for the switches read so far, and the rest of the fields decides as the whole does. One law for each way out and each need. Assumes nothing.
+-- stand for the switches read so far, and the rest of the fields decides as the whole does. One law for each way out and each need.
 use mathlib.Core.Path.{_≡_, refl, sym, ap, _∙_}
 use mathlib.Core.List.{List, [], _∷_, _++_}
 use mathlib.Core.Bool.{Bool, true, false, not, _||_, false≢true, Bool·not-not}
@@ -10,27 +10,27 @@ use borrow.Author.Needs.{needs}
 use borrow.Author.Tests.{ne-eqb, eqb-true, eqb-false, lt-ltb, le-leb, not-true, not-false, lt-leb, le-ltb, ltb-true, leb-true, leb-false}
 use lib.Dec.{eqb, ltb, leb}
 use lib.ListN.{length, getD, set, take, drop, length-set, length-drop, length-append}
-use Rattle.rules.specs.Octets.{if_then_else_, be16, part}
-use Rattle.rules.specs.Fields.{field, lengthGood, Field, cut, fieldAt, fieldsFrom, fields}
-use Rattle.rules.specs.Settings.{Settings, switchOf, opens, switchGood, hopOf, serialMet, withField}
-use Rattle.rules.specs.Campus.{switchNamed, known, placeGood, valueGood, nicknameNew, roomGood, serialNew, entryKnown, fieldRefusal, withNext, Described}
-use Rattle.rules.specs.Campus.{onLatest, refused, describedFrom, described, fileMost}
-use Rattle.rules.specs.declared.FieldRead.{FieldRead}
-use Rattle.rules.specs.declared.FieldRead.the-variants.{Taken, Cut}
-use Rattle.rules.proofs.TestLaws.{by-test, and-yes}
-use Rattle.rules.proofs.FrameLaws.{none-given}
-use Rattle.rules.proofs.OctetLaws.{length-part}
+use Rattle.rules.specs as rules
+use rules.Octets.{if_then_else_, be16, part}
+use rules.Fields.{field, lengthGood, Field, cut, fieldAt, fieldsFrom, fields}
+use rules.Settings.{Settings, switchOf, opens, switchGood, hopOf, serialMet, withField}
+use rules.Campus.{switchNamed, known, placeGood, valueGood, nicknameNew, roomGood, serialNew, entryKnown, fieldRefusal, withNext, Described}
+use rules.Campus.{onLatest, refused, describedFrom, described, fileMost}
+use rules.declared.FieldRead.{FieldRead}
+use rules.declared.FieldRead.the-variants.{Taken, Cut}
+use Rattle.rules.proofs.{TestLaws.by-test, TestLaws.and-yes, FrameLaws.none-given, OctetLaws.length-part, Taken.taken}
 use Rattle.rules.proofs.FieldLaws.{IsField, field-read, fields-end, fields-cut, fields-on}
 use Rattle.rules.proofs.DescriptionLaws.{described-end, described-none, described-on, described-refused}
-use Rattle.rules.proofs.Taken.{taken}
 use Rattle.octets.specs.Flags.{flagTag, flagValue, flagBy}
 use Rattle.stores.specs.Extend.{opensIn, withSwitch}
 use Rattle.stores.proofs.ExtendLaws.{recordBy, record-judged, flag-judged, extended-long, switch-long}
-use Rattle.campus.specs.Places.{placeBy, countedBy, between, clockAt, entryValue, codeAfter, clockedBy}
-use Rattle.campus.specs.Stores.{knownIn, endOf, spanOf, Kept, Stores, PartOpens, PartExtends, soFar, OfSettings, Took, wordsFor, ReadDone}
-use Rattle.campus.specs.declared.reading.Reading.{Reading}
-use Rattle.campus.proofs.StoresLaws.{end-is, part-long, stores-opened, latest-ample, stores-extended, known-is, span-none, span-more, span-most}
-use Rattle.campus.proofs.StoresLaws.{stores-sound}
+use Rattle.campus.specs
+use specs.Places.{placeBy, countedBy, between, clockAt, entryValue, codeAfter, clockedBy}
+use specs.Stores.{knownIn, endOf, spanOf, Kept, Stores, PartOpens, PartExtends, soFar, OfSettings, Took, wordsFor, ReadDone}
+use specs.declared.reading.Reading.{Reading}
+use Rattle.campus.proofs
+use proofs.StoresLaws.{end-is, part-long, stores-opened, latest-ample, stores-extended, known-is, span-none, span-more, span-most}
+use proofs.StoresLaws.{stores-sound}
 
 -- the number of switches, and the place of the clock
 module _ (n tag : ℕ) where

@@ -1,5 +1,5 @@
 -- The run as the code makes it. One handling: what its entry says, and what it leaves in the buffers. Then the loop: the states so far are traced, and the
--- run from here, with the replies that wait, is the rest of the whole. One law for each need, for `search` to cite. Assumes nothing.
+-- run from here, with the replies that wait, is the rest of the whole. One law for each need, for `search` to cite.
 use mathlib.Core.Path.{_≡_, refl, sym, ap, _∙_}
 use mathlib.Core.List.{List, [], _∷_, _++_, append-assoc, append-nil}
 use mathlib.Core.Bool.{Bool, false}
@@ -10,40 +10,33 @@ use borrow.Author.Needs.{needs}
 use borrow.Author.Tests.{eqb-true, eqb-false}
 use lib.Dec.{eqb}
 use lib.ListN.{length, getD, take, drop, length-take, replicate, length-append, length-replicate}
-use Rattle.rules.specs.Octets.{octet, be16, put}
-use Rattle.rules.specs.Settings.{Settings, waysOf}
-use Rattle.rules.specs.Link.{linkLength, linkEthertype, ethertypeTrill}
-use Rattle.rules.specs.Header.{hopCount, readFrame}
-use Rattle.rules.specs.Handling.{handling}
-use Rattle.rules.specs.Campus.{hopReceived, egressReceived, kindOctet, entryOctets, Kind, State, Waiting, repliesMade, staying, Next, over, next, sentOn}
-use Rattle.rules.specs.Campus.{nextAfter, runFrom, traceOctets}
-use Rattle.rules.specs.declared.Header.{Header}
-use Rattle.rules.specs.declared.FrameRead.{FrameRead}
-use Rattle.rules.specs.declared.FrameRead.the-variants.{Trill, Unreadable}
-use Rattle.rules.specs.Answer.{Handled}
-use Rattle.rules.specs.Demand.{repliesIn}
-use Rattle.rules.proofs.TestLaws.{by-test}
-use Rattle.rules.proofs.HandlingLaws.{frame-handled, handling-unread, unread-number}
-use Rattle.rules.proofs.FrameLaws.{frame-read, length-tagged, length-plain, read-trill, read-other}
-use Rattle.rules.proofs.StepLaws.{hop-read, egress-read, reply-short}
-use Rattle.rules.proofs.HandledLaws.{Bounded, handling-bounded}
-use Rattle.rules.proofs.OctetLaws.{length-put, put-put, put-none, take-put}
-use Rattle.rules.proofs.RunLaws.{run-step, rest, no-replies, replies-on, length-trace}
+use Rattle.rules.specs as rules
+use rules.{Octets.octet, Octets.be16, Octets.put, Settings.Settings, Settings.waysOf, Link.linkLength, Link.linkEthertype, Link.ethertypeTrill}
+use rules.{Header.hopCount, Header.readFrame, Handling.handling, Answer.Handled, Demand.repliesIn}
+use rules.Campus.{hopReceived, egressReceived, kindOctet, entryOctets, Kind, State, Waiting, repliesMade, staying, Next, over, next, sentOn}
+use rules.Campus.{nextAfter, runFrom, traceOctets}
+use rules.declared.{Header.Header, FrameRead.FrameRead}
+use rules.declared.FrameRead.the-variants.{Trill, Unreadable}
+use Rattle.rules.proofs as ruleLaws
+use ruleLaws.{TestLaws.by-test, StepLaws.hop-read, StepLaws.egress-read, StepLaws.reply-short, HandledLaws.Bounded, HandledLaws.handling-bounded}
+use ruleLaws.HandlingLaws.{frame-handled, handling-unread, unread-number}
+use ruleLaws.FrameLaws.{frame-read, length-tagged, length-plain, read-trill, read-other}
+use ruleLaws.OctetLaws.{length-put, put-put, put-none, take-put}
+use ruleLaws.RunLaws.{run-step, rest, no-replies, replies-on, length-trace}
 use Rattle.octets.specs.Copy.{putFitting}
 use Rattle.octets.proofs.Ends.{put-fits}
 use Rattle.stores.specs.Store.{handledIn}
 use Rattle.handler.specs.declared.answers.Answer.{Answer}
 use Rattle.handler.specs.Tasks.{Both}
 use Rattle.stores.proofs.PlaceLaws.{good-whole}
-use Rattle.campus.specs.declared.received.HopEgress.{HopEgress}
-use Rattle.campus.specs.declared.running.At.{At}
-use Rattle.campus.specs.Stores.{storeAt, settingsAt, SoundAt, switchesIn}
-use Rattle.campus.specs.Steps.{Readable, AnsweredBy, receivedOf, kindBy, entryBy, handledBy, StepReady, stateAt, Stepped, Ran, runOf}
-use Rattle.campus.specs.declared.running.Onward.{Onward}
-use Rattle.campus.specs.declared.running.Onward.the-variants.{To, Ends}
-use Rattle.campus.specs.Queue.{repliesBy, Free, Queue, Holds, Onwards, onwardBy, OnwardReady, Onwarded, TurnReady, Turned, LoopReady}
-use Rattle.campus.proofs.StoresLaws.{lent, name-here}
-use Rattle.campus.proofs.QueueLaws.{copied-begins}
+use Rattle.campus.specs
+use specs.declared.received.HopEgress.{HopEgress}
+use specs.declared.running.{At.At, Onward.Onward}
+use specs.Stores.{storeAt, settingsAt, SoundAt, switchesIn}
+use specs.Steps.{Readable, AnsweredBy, receivedOf, kindBy, entryBy, handledBy, StepReady, stateAt, Stepped, Ran, runOf}
+use specs.declared.running.Onward.the-variants.{To, Ends}
+use specs.Queue.{repliesBy, Free, Queue, Holds, Onwards, onwardBy, OnwardReady, Onwarded, TurnReady, Turned, LoopReady}
+use Rattle.campus.proofs.{StoresLaws.lent, StoresLaws.name-here, QueueLaws.copied-begins}
 
 -- a tag at the end of the link header
 module _ (f : List ℕ) (high : ℕ) (is-high : high ≡ octet f 12) where

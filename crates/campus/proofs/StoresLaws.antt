@@ -1,5 +1,5 @@
 -- The stores of a description's switches, one behind the other in a row of words: how the code looks through them, what one more store or field leaves,
--- what they say, and what is found by nickname. By computation, and induction on the switches. Assumes nothing.
+-- what they say, and what is found by nickname. By computation, and induction on the switches.
 use mathlib.Core.Path.{_≡_, refl, sym, ap, _∙_, fun-ext}
 use mathlib.Core.List.{List, [], _++_, append-nil, _∷_}
 use mathlib.Core.Bool.{Bool, true, false, _||_}
@@ -13,20 +13,18 @@ use borrow.Rule.Slice.PartMut.{putMid, postOf}
 use lib.ListN.{length, getD, take, drop, length-drop, drop-of-length-le, set, length-append, List·getD-append}
 use lib.Seq.{take-all, getD-drop, getD-set-same, getD-set-other, getD-take, drop-at, length-take-le}
 use lib.Dec.{eqb, ltb}
-use Rattle.rules.specs.Campus.{someEdition2, switchNamed, known}
-use Rattle.rules.specs.Fields.{field, lengthGood}
+use Rattle.rules.specs.{Campus.someEdition2, Campus.switchNamed, Campus.known, Fields.field, Fields.lengthGood}
 use Rattle.rules.specs.Settings.{Settings, Ways, switchOf, withField, opens, switchGood, nicknameValid, macGood, nextHop, waysOf}
-use Rattle.rules.proofs.TestLaws.{by-test, and-true}
-use Rattle.rules.proofs.AlikeLaws.{Both}
+use Rattle.rules.proofs.{TestLaws.by-test, TestLaws.and-true, AlikeLaws.Both}
 use Rattle.stores.specs.Extend.{Opens, Extends, withSwitch, extending, extended}
 use Rattle.stores.specs.Store.{unlessWithdrawn, Stands}
-use Rattle.stores.proofs.LookupLaws.{next-hop}
+use Rattle.stores.proofs.{LookupLaws.next-hop, PlaceLaws.good-whole}
 use Rattle.stores.proofs.ExtendLaws.{Ample, extended-stands, switch-stands, says, is-good, stands-too}
-use Rattle.stores.proofs.PlaceLaws.{good-whole}
-use Rattle.campus.specs.declared.switches.Named.the-variants.{At, Nowhere}
-use Rattle.campus.specs.Stores.{storeAt, switchesIn, numberIn, endOf, Placed, Sound, Kept, PartOpens, PartExtends, settingsIn, settingsAt, foundBy}
-use Rattle.campus.specs.Stores.{spanOf, Store, Stores, SoundAt}
-use Rattle.campus.specs.declared.switches.Named.{Named}
+use Rattle.campus.specs
+use specs.declared.switches.Named.the-variants.{At, Nowhere}
+use specs.Stores.{storeAt, switchesIn, numberIn, endOf, Placed, Sound, Kept, PartOpens, PartExtends, settingsIn, settingsAt, foundBy}
+use specs.Stores.{spanOf, Store, Stores, SoundAt}
+use specs.declared.switches.Named.{Named}
 
 -- looking for a nickname, from the latest back
 pub record Seeking (w starts : List ℕ) (n nickname i : ℕ) : Type 0 where

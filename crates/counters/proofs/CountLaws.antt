@@ -1,5 +1,5 @@
 -- The scan of the counters, one more answer counted, and one law for each way out of the counted call. By the tests in their order and by
--- induction over the counters. Assumes nothing.
+-- induction over the counters.
 use mathlib.Core.Path.{_≡_, refl, sym, _∙_}
 use mathlib.Core.List.{List, [], _∷_}
 use mathlib.Core.Bool.{Bool, true, false, _||_}
@@ -14,16 +14,14 @@ use mir.Val.{Fits}
 use mir.Syntax.{w64}
 use lib.ListN.{length, getD, set, drop}
 use lib.Seq.{drop-cons, drop-length}
-use Rattle.rules.specs.Answer.{dropped}
-use Rattle.rules.specs.Handling.{handled}
+use Rattle.rules.specs.{Answer.dropped, Handling.handled}
 use Rattle.rules.proofs.TestLaws.{by-test, or-false, or-no, or-assoc}
-use Rattle.rules.proofs.OctetLaws.{put-none}
-use Rattle.rules.proofs.HandledLaws.{handled-bounded}
-use Rattle.handler.specs.Shapes.{answerOf}
-use Rattle.handler.specs.Tasks.{Both}
+use Rattle.rules.proofs.{OctetLaws.put-none, HandledLaws.handled-bounded}
+use Rattle.handler.specs.{Shapes.answerOf, Tasks.Both}
 use Rattle.handler.specs.declared.answers.Answer.{Answer}
-use Rattle.counters.specs.Counting.{greatest, made, Words, Above, someGreatest, full, oneMore, Call, uncounted, counted, CallDone}
-use Rattle.counters.specs.declared.Counters.{Counters}
+use Rattle.counters.specs
+use specs.Counting.{greatest, made, Words, Above, someGreatest, full, oneMore, Call, uncounted, counted, CallDone}
+use specs.declared.Counters.{Counters}
 
 -- the scan: what was found so far and what the counters from the i-th on hold make up the whole
 pub record Scanning (counts : List ℕ) (total : ℕ) (found : Bool) (i : ℕ) : Type 0 where

@@ -1,5 +1,5 @@
 -- The history theorem: from zero, the sum of the answer counters is the number of handlings, each counter that of its own answer, and the total
--- their number. By induction over the calls, from any counters. Assumes nothing.
+-- their number. By induction over the calls, from any counters.
 use mathlib.Core.Path.{_≡_, refl, sym, _∙_}
 use mathlib.Core.List.{List, [], _∷_}
 use mathlib.Core.Bool.{true≢false}
@@ -10,12 +10,12 @@ use lib.Dec.{eqb}
 use lib.ListN.{length, getD, set, length-set, getD-replicate}
 use lib.Seq.{getD-set-same, getD-set-other}
 use Rattle.rules.specs.Answer.{given}
-use Rattle.rules.proofs.TestLaws.{by-test}
-use Rattle.rules.proofs.HandledLaws.{handled-bounded}
+use Rattle.rules.proofs.{TestLaws.by-test, HandledLaws.handled-bounded}
 use Rattle.counters.proofs.CountLaws.{counted-full, counted-open}
-use Rattle.counters.specs.Counting.{full, oneMore, Call, uncounted}
-use Rattle.counters.specs.History.{zeroed, countersAfter, answers, handlings, occurrences, sum, Tallied}
-use Rattle.counters.specs.declared.Counters.{Counters}
+use Rattle.counters.specs
+use specs.Counting.{full, oneMore, Call, uncounted}
+use specs.History.{zeroed, countersAfter, answers, handlings, occurrences, sum, Tallied}
+use specs.declared.Counters.{Counters}
 
 -- every answer's number has a counter, and none is 4
 small : (x : Call) → uncounted x .number < 64

@@ -1,5 +1,5 @@
 -- The counters of a record in memory, lent where they are: the array's cell is taken out of the struct's, and put back at other counters. By the laws of a
--- struct's cell. Assumes nothing.
+-- struct's cell.
 use mathlib.Core.Path.{refl}
 use Prim.Native.Nat.{ℕ, zero, suc, _+_, _<_, _^_}
 use native.Mathlib.Omega.{arith}

@@ -1,4 +1,4 @@
--- The part of a frame that an answer names, by whether its range lies within the frame. Assumes nothing.
+-- The part of a frame that an answer names, by whether its range lies within the frame.
 use mathlib.Core.Path.{_≡_}
 use mathlib.Core.List.{List, []}
 use Prim.Native.Nat.{ℕ, _+_, _-_, _<_, _≤_}
@@ -6,8 +6,8 @@ use native.Mathlib.Omega.{arith}
 use borrow.Author.Needs.{needs}
 use borrow.Author.Tests.{le-leb, lt-leb}
 use lib.ListN.{length, take, drop}
-use Rattle.rules.specs.Handling as Hn
 use Rattle.rules.specs.Handling.{partOf}
+use Rattle.rules.specs.Handling as Hn
 
 module _ (f : List ℕ) (start size : ℕ) where
   pub part-outside : length f < start → [] ≡ partOf f start size

@@ -1,15 +1,18 @@
 -- Laws of channel messages over what the code finds, one for each outcome: of the inner tag, of the echo body, of the whole message and of the
--- silence kept. Assumes nothing.
-use mathlib.Core.{Path._≡_, List.List, Bool.Bool, Bool.true, Bool.false, Bool.not}
+-- silence kept.
+use mathlib.Core.Path.{_≡_}
+use mathlib.Core.List.{List}
+use mathlib.Core.Bool.{Bool, true, false, not}
 use Prim.Native.Nat.{ℕ, _-_, _/_, _%_, _≤_, _<_}
 use borrow.Author.Needs.{needs}
 use borrow.Author.Tests.{lt-ltb, le-ltb, ne-eqb, not-true, not-false}
 use lib.Bits.{bitAnd, and-mask}
 use lib.Dec.{ltb, eqb}
 use lib.ListN.{length, take, drop}
-use Rattle.rules.specs.{Octets.octet, Octets.be16, Handling.untagged, Channel.echoRead, Channel.channelRead, Channel.silenced}
-use Rattle.rules.specs.declared.ChannelRead.{ChannelRead}
-use Rattle.rules.specs.declared.ChannelRead.the-variants.{Fault, BadErr, ErrorHeard, BadEcho, EchoHeard, EchoRequest}
+use Rattle.rules.specs as rules
+use rules.{Octets.octet, Octets.be16, Handling.untagged, Channel.echoRead, Channel.channelRead, Channel.silenced}
+use rules.declared.ChannelRead.{ChannelRead}
+use rules.declared.ChannelRead.the-variants.{Fault, BadErr, ErrorHeard, BadEcho, EchoHeard, EchoRequest}
 use Rattle.handler.specs.Shapes.{foreignBy, quenchedBy}
 use Rattle.handler.proofs.Stages.{lent-rest}
 

@@ -1,10 +1,10 @@
--- The extended flags word: the tests of a switch are those of the rules in their order. Assumes nothing.
+-- The extended flags word: the tests of a switch are those of the rules in their order.
 use mathlib.Core.Path.{_≡_}
 use mathlib.Core.Bool.{Bool, true, false, not, _&&_, _||_}
 use Prim.Native.Nat.{ℕ}
 use borrow.Author.Needs.{needs}
-use Rattle.rules.specs.Extension as E
 use Rattle.rules.proofs.TestLaws.{and-yes, and-no}
+use Rattle.rules.specs.Extension as E
 
 -- three tests in their order, as `flag_unsummarized` and `summary_bare` make them
 module _ (A A′ B B′ C C′ : Bool) (a a′ : Bool) (is-a : a ≡ A) (is-a′ : a′ ≡ A′) (x : Bool) (tx : x ≡ (a && not a′)) where

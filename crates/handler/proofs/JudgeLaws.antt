@@ -1,27 +1,36 @@
 -- The keys met, the filter in front of them, and what the loop over the settings fields keeps, from the first field to the verdict: the records
 -- read so far and the keys met agree, and the rest of the fields decides as the whole does. By induction on the keys, by cases on tests, and by one
--- law of fields and of settings for each step. Assumes nothing.
+-- law of fields and of settings for each step.
 use Rattle.handler.proofs.Stages.{by-equal}
-use mathlib.Core.{Path._≡_, Path.refl, Path.sym, Path._∙_, List.List, List.[], List._∷_, List._++_, Option.Option}
+use mathlib.Core.Path.{_≡_, refl, sym, _∙_}
+use mathlib.Core.List.{List, [], _∷_, _++_}
+use mathlib.Core.Option.{Option}
 use mathlib.Core.Bool.{Bool, true, false, not, _&&_, _||_, or-assoc, true≢false, false≢true}
 use Prim.Native.Nat.{ℕ, zero, suc, _+_, _*_, _%_, _<_, _≤_, _-_}
-use native.Mathlib.{Omega.arith, Numerals.add-one}
+use native.Mathlib.Omega.{arith}
+use native.Mathlib.Numerals.{add-one}
 use borrow.Author.Needs.{needs}
-use borrow.Author.Tests.{eq-eqb, ne-eqb, lt-ltb, le-leb, not-true, not-false, lt-leb}
-use lib.{Bits.bitOr, Dec.eqb}
+use borrow.Author.Tests.{eq-eqb, ne-eqb, lt-ltb, not-true, not-false}
+use lib.Bits.{bitOr}
+use lib.Dec.{eqb}
 use lib.ListN.{length, getD, take, set, length-set, replicate, length-append}
 use lib.Seq.{slice, slice-cons, slice-empty, getD-set-same, getD-set-other, take-suc-set, length-take-le}
-use Rattle.rules.specs.{Octets.be16, Octets.be32, Octets.part, Campus.known}
-use Rattle.rules.specs.Fields.{hopSize, field, cut, fieldAt, fieldsAt, lengthGood}
-use Rattle.rules.specs.Settings.{hopGood, hopOf, Settings, serialMet, withField, opens, opened, continues, settingsFrom, settingsOf}
-use Rattle.rules.proofs.TestLaws.{and-no, or-no, or-yes, by-test}
+use Rattle.rules.specs as rules
+use rules.{Octets.be16, Octets.be32, Octets.part, Campus.known}
+use rules.Fields.{hopSize, field, cut, fieldAt, fieldsAt, lengthGood}
+use rules.Settings.{hopGood, hopOf, Settings, serialMet, withField, opens, opened, continues, settingsFrom, settingsOf}
+use Rattle.rules.proofs as ruleLaws
+use ruleLaws.TestLaws.{and-no, or-no, or-yes, by-test}
 use Rattle.octets.specs.Flags.{flagBy}
 use Rattle.octets.proofs.{Bits.join48-or, FlagLaws.flag-continues}
-use Rattle.handler.specs.Keys.{keyOf, mixOf, slotBy, markBy, markedBy, coversBy, keyMet, Marked, Kept, hopTaken, fieldTaken, withKey, keysWith, Taking}
-use Rattle.handler.specs.Keys.{Verdict}
-use Rattle.rules.proofs.FieldLaws.{field-read, fields-at-end, fields-at-cut, fields-at-on}
-use Rattle.rules.specs.declared.{NextHop.NextHop, FieldRead.FieldRead, FieldRead.the-variants.Taken, FieldRead.the-variants.Cut}
-use Rattle.rules.proofs.{SettingsLaws.from-on, SettingsLaws.from-bad, Taken.taken, FirstLaws.continues-cut, FirstLaws.first, FirstLaws.settings-open}
+use Rattle.handler.specs
+use specs.Keys.{keyOf, mixOf, slotBy, markBy, markedBy, coversBy, keyMet, Marked, Kept, hopTaken, fieldTaken, withKey, keysWith, Taking}
+use specs.Keys.{Verdict}
+use ruleLaws.FieldLaws.{field-read, fields-at-end, fields-at-cut, fields-at-on}
+use rules.declared.{NextHop.NextHop, FieldRead.FieldRead}
+use rules.declared.FieldRead.the-variants.{Taken, Cut}
+use ruleLaws.{SettingsLaws.from-on, SettingsLaws.from-bad, Taken.taken}
+use ruleLaws.FirstLaws.{continues-cut, first, settings-open}
 
 -- the scan: what it has found, or finds from place i on, is whether the key is met
 module _ (key : ℕ) (keys : List ℕ) (n i : ℕ) (found : Bool) (was : (found || keyMet key (slice i n keys)) ≡ keyMet key (take n keys)) where

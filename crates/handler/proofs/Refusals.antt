@@ -1,13 +1,14 @@
--- A refusal and its number. By whether it is 0. Assumes nothing.
+-- A refusal and its number. By whether it is 0.
 use Prim.Native.Nat.{ℕ}
 use mathlib.Core.Path.{_≡_}
-use mathlib.Core.Bool.{true, false}
+use mathlib.Core.Bool.{false}
 use borrow.Author.Tests.{eqb-true, eqb-false}
 use native.Mathlib.Omega.{arith}
 use lib.Dec.{eqb}
 use Rattle.rules.proofs.{TestLaws.by-test, HeaderLaws.header-refusal-laws}
-use Rattle.handler.specs.declared.answers.Refusal.the-variants.{Refused, Passed}
-use Rattle.handler.specs.Shapes.{refusalBy}
+use Rattle.handler.specs
+use specs.declared.answers.Refusal.the-variants.{Refused, Passed}
+use specs.Shapes.{refusalBy}
 
 module _ (m : ℕ) where
   pub refused-so : (n : ℕ) → n ≡ m → eqb n 0 ≡ false → Refused n ≡ refusalBy m

@@ -1,39 +1,47 @@
 -- What a frame comes to as the code finds it: received, its area read by the edition, its task, and the task carried out. One law for each need,
--- over what the calls before it ensure, for `search` to cite. Assumes nothing.
-use Rattle.handler.proofs.StageLaws.{frame-near, by-hop, ready, inner-held, area-held}
-use Rattle.rules.specs.Handling.{transit, alerted, untagged, toAllEgressRBridges, channelMessage, alertTo, alertOf, channelled, decapsulated, handledWith}
+-- over what the calls before it ensure, for `search` to cite.
+use Rattle.handler.proofs
+use proofs.StageLaws.{frame-near, by-hop, ready, inner-held, area-held}
+use Rattle.rules.specs as rules
+use rules.Handling.{transit, alerted, untagged, toAllEgressRBridges, channelMessage, alertTo, alertOf, channelled, decapsulated, handledWith}
 use mathlib.Core.Path.{_≡_, refl, sym, ap, _∙_}
 use mathlib.Core.List.{List}
 use mathlib.Core.Bool.{Bool, true, false, not, _&&_, _||_, cond}
 use Prim.Native.Nat.{ℕ, suc, _≤_, _<_}
 use native.Mathlib.Omega.{arith}
-use borrow.Author.{Needs.needs, Tests.lt-leb, Tests.le-leb, Tests.not-true, Tests.not-false}
-use Rattle.rules.proofs.{TestLaws.by-test, OptionLaws.area-number, FrameLaws.header-passed}
+use borrow.Author.Needs.{needs}
+use borrow.Author.Tests.{lt-leb, le-leb, not-true, not-false}
+use Rattle.rules.proofs as ruleLaws
+use ruleLaws.{TestLaws.by-test, OptionLaws.area-number, FrameLaws.header-passed}
 use lib.Dec.{eqb}
 use lib.ListN.{length, take, drop, length-drop, length-take}
-use Rattle.rules.specs.{Octets.be16, Octets.be32, Settings.Ways, Options.WellFormed, Options.draftRead, Channel.bodyOf, Channel.channelRead}
-use Rattle.rules.specs.Header.{innerStart, areaOf, innerOf, readFrame, headerRefusal, weAreEgress}
+use rules.{Octets.be16, Octets.be32, Settings.Ways, Options.WellFormed, Options.draftRead, Channel.bodyOf, Channel.channelRead}
+use rules.Header.{innerStart, areaOf, innerOf, readFrame, headerRefusal, weAreEgress}
+use rules.Extension.{flagsWord, criticalAlert, nonCriticalAlert, flagUnsummarized, summaryBare, extensionRead, extensionStops, areaRead}
+use rules.Extension.{areaStops}
+use rules.declared.{NextHop.NextHop, Header.Header, FrameRead.FrameRead, ChannelRead.ChannelRead, Alert.Alert}
+use rules.declared.FrameRead.the-variants.{Trill, Unreadable}
+use rules.declared.Ruling.the-variants.{Absent}
+use rules.declared.ChannelRead.the-variants.{Fault, BadErr, ErrorHeard, BadEcho, EchoHeard, EchoRequest}
+use rules.declared.Alert.the-variants.{NoAlert, AlertFault, AlertErr, AlertRequest}
+use ruleLaws.HandlingLaws.{echo-ranged, channel-echo, inner-short, inner-untagged, inner-any, inner-delivered, inner-up, inner-channel}
+use ruleLaws.HandlingLaws.{routed-faulty, routed-stopped, routed-egress, routed-transit, handling-unread, handling-refused, handling-routed}
+use ruleLaws.HandlingLaws.{clock-bad, room-short, beside-short, frame-long, frame-handled}
+use Rattle.handler.specs
+use specs.declared.answers.{Refusal.Refusal, Answer.Answer}
+use specs.declared.answers.Refusal.the-variants.{Refused, Passed}
+use specs.Shapes.{refusalBy, answerOf, judgedBy, Ready}
+use proofs.Refusals.{refused-is, passed-is}
+use specs.declared.way.Own.{Own}
+use specs.declared.options.{Cursor.Cursor, AreaRead.AreaRead}
+use specs.declared.options.AreaRead.the-variants.{Read, Faulty}
+use specs.declared.handling.{Task.Task, Received.Received}
+use specs.declared.handling.Task.the-variants.{Answered, Forward, Error, Echo}
+use specs.Tasks.{areaReadBy, ReadBy, stopsBy, alertBy, alertedBy, transitBy, wantedBy, askedBy, Answerable, Left, Ends, Comes, Role}
+use specs.Tasks.{Routes, Receives, Lent, Receiving}
 use Rattle.rules.specs.Options as O
-use Rattle.rules.specs.Extension.{flagsWord, criticalAlert, nonCriticalAlert, flagUnsummarized, summaryBare, extensionRead, extensionStops, areaRead, areaStops}
 use Rattle.rules.specs.Answer as A
-use Rattle.rules.specs.declared.{NextHop.NextHop, Header.Header, FrameRead.FrameRead, FrameRead.the-variants.Trill, FrameRead.the-variants.Unreadable}
-use Rattle.rules.specs.declared.{Ruling.the-variants.Absent, ChannelRead.ChannelRead, Alert.Alert}
-use Rattle.rules.specs.declared.ChannelRead.the-variants.{Fault, BadErr, ErrorHeard, BadEcho, EchoHeard, EchoRequest}
-use Rattle.rules.specs.declared.Alert.the-variants.{NoAlert, AlertFault, AlertErr, AlertRequest}
-use Rattle.rules.proofs.HandlingLaws.{echo-ranged, channel-echo, inner-short, inner-untagged, inner-any, inner-delivered, inner-up, inner-channel}
-use Rattle.rules.proofs.HandlingLaws.{routed-faulty, routed-stopped, routed-egress, routed-transit, handling-unread, handling-refused, handling-routed}
-use Rattle.rules.proofs.HandlingLaws.{clock-bad, room-short, beside-short, frame-long, frame-handled}
-use Rattle.handler.specs.declared.answers.{Refusal.Refusal, Refusal.the-variants.Refused, Refusal.the-variants.Passed}
-use Rattle.handler.specs.Shapes.{refusalBy}
-use Rattle.handler.proofs.Refusals.{refused-is, passed-is}
-use Rattle.handler.specs.declared.{answers.Answer.Answer, way.Own.Own, options.Cursor.Cursor, options.AreaRead.AreaRead}
-use Rattle.handler.specs.declared.{options.AreaRead.the-variants.Read, options.AreaRead.the-variants.Faulty, handling.Task.Task}
-use Rattle.handler.specs.declared.handling.Received.{Received}
-use Rattle.handler.specs.declared.handling.Task.the-variants.{Answered, Forward, Error, Echo}
 use Rattle.handler.specs.declared.handling.Received.the-variants as R
-use Rattle.handler.specs.Tasks.{areaReadBy, ReadBy, stopsBy, alertBy, alertedBy, transitBy, wantedBy, askedBy, Answerable, Left, Ends, Comes, Role}
-use Rattle.handler.specs.Tasks.{Routes, Receives, Lent, Receiving}
-use Rattle.handler.specs.Shapes.{answerOf, judgedBy, Ready}
 
 -- the area by the edition
 module _ (rfc7179 : Bool) (area : List ℕ) where

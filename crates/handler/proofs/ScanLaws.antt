@@ -1,12 +1,18 @@
 -- One pass over settings octets that judges them and finds the record that rules for a destination: what the loop keeps is what judging keeps and what
 -- two folds over the fields keep, and what the folds say of the settings read. Then the whole call on settings octets. By one law of fields for each
--- step, and by induction on the fields. Assumes nothing.
-use Rattle.rules.specs.{Handling.faulted, Handling.echoed, Settings.Ways, declared.Alert.Alert}
-use Rattle.handler.specs.declared.handling.{Task.Task, Task.the-variants.Forward, Task.the-variants.Error, Task.the-variants.Echo}
-use Rattle.handler.specs.{declared.way.Told.Told, Tasks.wantedBy, Tasks.Routes, Tasks.Forwardable, Shapes.Done}
-use Rattle.handler.proofs.{JudgeLaws.cut-off, JudgeLaws.flag-stops, JudgeLaws.Judging, Stages.if-laws, RouteLaws.received-lent}
-use Rattle.handler.proofs.StageLaws.{done-dropped}
-use Rattle.handler.specs.Keys.{fieldTaken, keysWith, hopTaken, withKey, Taking, Verdict, Scanned, JudgedBy}
+-- step, and by induction on the fields.
+use Rattle.rules.specs.Handling.{faulted, echoed, routed, handled}
+use Rattle.rules.specs.Settings.{Ways, Settings, newer, ruling, switchOf, hopOf, withField, opened, settingsRead, waysOf, opens, settingsOf}
+use Rattle.rules.specs.declared.{Alert.Alert, NextHop.NextHop, Ruling.Ruling, FieldRead.FieldRead, Header.Header}
+use Rattle.handler.specs
+use specs.declared.handling.{Task.Task, Received.Received}
+use specs.declared.handling.Task.the-variants.{Forward, Error, Echo}
+use specs.declared.way.{Told.Told, Own.Own}
+use specs.Tasks.{wantedBy, Routes, Forwardable, askedBy, receivedBy, Receiving, Both}
+use specs.Shapes.{Done, ownOf, ruledBy, noFlags, flaggedBy, FoldedFrom, droppedBy, onlyFor, waysBy}
+use Rattle.handler.proofs
+use proofs.{JudgeLaws.cut-off, JudgeLaws.flag-stops, JudgeLaws.Judging, Stages.if-laws, RouteLaws.received-lent, StageLaws.done-dropped}
+use specs.Keys.{fieldTaken, keysWith, hopTaken, withKey, Taking, Verdict, Scanned, JudgedBy}
 use mathlib.Core.Path.{_≡_, refl, sym, ap, _∙_}
 use mathlib.Core.List.{List, [], _∷_, foldl, foldl-append}
 use mathlib.Core.Bool.{true, not, Bool, false, true≢false, false≢true}
@@ -15,27 +21,26 @@ use borrow.Author.Needs.{needs}
 use borrow.Author.Tests.{lt-ltb, le-ltb, ltb-true, ltb-false, eq-eqb, ne-eqb, eqb-true, not-true, not-false}
 use lib.Dec.{ltb, eqb}
 use lib.ListN.{length, take, replicate}
-use Rattle.rules.specs.{Octets.octet, Octets.be16, Octets.be48, Octets.part, Campus.known, Handling.routed, Handling.handled}
+use Rattle.rules.specs.Octets.{octet, be16, be48, part}
+use Rattle.rules.specs.Campus.{known}
 use Rattle.rules.specs.Fields.{Field, field, cut, fieldAt, fieldsAt, fields}
-use Rattle.rules.specs.Settings.{Settings, newer, ruling, switchOf, hopOf, withField, opened, settingsRead, waysOf, opens, settingsOf}
-use Rattle.rules.specs.declared.{NextHop.NextHop, Ruling.Ruling, Ruling.the-variants.Found, Ruling.the-variants.Absent, FieldRead.FieldRead}
-use Rattle.rules.specs.declared.{FieldRead.the-variants.Taken, FieldRead.the-variants.Cut, Header.Header}
+use Rattle.rules.specs.declared.Ruling.the-variants.{Found, Absent}
+use Rattle.rules.specs.declared.FieldRead.the-variants.{Taken, Cut}
 use Rattle.rules.proofs.{TestLaws.by-test, FieldLaws.fields-at-end, FieldLaws.fields-at-cut, Taken.taken-first, Taken.taken-to, Taken.taken}
 use Rattle.rules.proofs.{SettingsLaws.settings-read, HandlingLaws.settings-bad, HandlingLaws.settings-good}
 use Rattle.rules.proofs.FirstLaws.{opened-field, first, switch-fold, settings-cut, settings-bad as not-opened}
-use Rattle.handler.specs.Shapes.{ownOf, ruledBy, noFlags, flaggedBy, FoldedFrom, droppedBy, onlyFor, waysBy}
 use Rattle.octets.specs.Flags.{flagTag, flagBy}
-use Rattle.handler.specs.declared.{judged.Flags.Flags, way.Own.Own, answers.Answer.Answer, handling.Received.Received}
-use Rattle.handler.specs.declared.{handling.Received.the-variants.Answered, handling.Received.the-variants.Trill, judged.Scan.Scan}
-use Rattle.handler.specs.declared.judged.Judged.{Judged}
+use specs.declared.judged.{Flags.Flags, Scan.Scan, Judged.Judged}
+use specs.declared.answers.Answer.{Answer}
+use specs.declared.handling.Received.the-variants.{Answered, Trill}
 use mathlib.Core.Option.{Option, none, some}
-use Rattle.rules.specs.Answer as A
-use Rattle.handler.specs.{Tasks.askedBy, Tasks.receivedBy, Tasks.Receiving, Tasks.Both, Calls.ToldOf}
+use specs.Calls.{ToldOf}
 use Rattle.octets.proofs.FlagLaws.{flag-is}
 use Rattle.stores.specs.Store.{unlessWithdrawn}
-use Rattle.handler.proofs.JudgeLaws as J
 use Rattle.stores.proofs.LookupLaws.{next-hop}
-use Rattle.handler.proofs.TaskLaws.{both-of, kept, tells, task-laws, back-error, back-echo, replies-none, replies-so, replied, said-forwardable}
+use proofs.TaskLaws.{both-of, kept, tells, task-laws, back-error, back-echo, replies-none, replies-so, replied, said-forwardable}
+use Rattle.rules.specs.Answer as A
+use Rattle.handler.proofs.JudgeLaws as J
 
 -- the record that rules once one more is seen, as the code finds it: `w` is the destination of the record in `v`
 module _ (d : ℕ) (best : Ruling) (v : List ℕ) (w : ℕ) (is : w ≡ be16 v 0) where

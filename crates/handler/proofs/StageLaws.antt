@@ -1,8 +1,10 @@
 -- What is forwarded and what is replied as the code writes it: what is ready gives what each call asks, and each way out is the answer and the
--- buffer that the rules define. One law for each need, over what the calls before it ensure, for `search` to cite. Assumes nothing.
-use Rattle.rules.specs.Header.{readFrame, opLength, innerStart, areaOf, innerOf}
-use Rattle.rules.specs.declared.{FrameRead.the-variants.Trill, NextHop.NextHop, Header.Header, Ruling.Ruling, Ruling.the-variants.Found}
-use Rattle.rules.specs.declared.Ruling.the-variants.{Absent}
+-- buffer that the rules define. One law for each need, over what the calls before it ensure, for `search` to cite.
+use Rattle.rules.specs as rules
+use rules.Header.{readFrame, opLength, innerStart, areaOf, innerOf}
+use rules.declared.FrameRead.the-variants.{Trill}
+use rules.declared.{NextHop.NextHop, Header.Header, Ruling.Ruling}
+use rules.declared.Ruling.the-variants.{Found, Absent}
 use Rattle.handler.proofs.Stages.{parts, after, lent-rest, link-sized, rest-long}
 use mathlib.Core.Path.{_≡_, _∙_, refl, sym}
 use mathlib.Core.List.{List, _++_, []}
@@ -10,21 +12,24 @@ use Prim.Native.Nat.{ℕ, _+_, _≤_, _-_, _*_, _<_}
 use native.Mathlib.Omega.{arith}
 use borrow.Author.Needs.{needs}
 use lib.ListN.{length, length-append, length-take, take, drop, length-drop}
-use Rattle.rules.specs.{Octets.put, Octets.octet, Settings.Ways, Link.link, Options.WellFormed, Options.draftRead, Options.stripped}
-use Rattle.rules.specs.Extension.{areaSent}
-use Rattle.rules.specs.Channel.{errorBody, echoBody, errorReply, echoReply, replyRest, replyInner, bodyOf, returnPath, silenced}
-use Rattle.rules.proofs.FrameLaws.{link-most, frame-read, link-length, length-link}
-use Rattle.rules.proofs.{ReplyLaws.echo-body-length, OctetLaws.put-none, OctetLaws.take-put, OctetLaws.length-part, OptionLaws.stripped-word}
-use Rattle.rules.proofs.OptionLaws.{stripped-shorter}
-use Rattle.handler.specs.declared.{way.Own.Own, answers.Answer.Answer}
-use Rattle.handler.specs.Shapes.{ownOf, replyOctets, Replied, answerOf, wroteBy, linkSize, restWith, Fits, Ready, Done}
+use rules.{Octets.put, Octets.octet, Settings.Ways, Link.link, Options.WellFormed, Options.draftRead, Options.stripped, Extension.areaSent}
+use rules.Channel.{errorBody, echoBody, errorReply, echoReply, replyRest, replyInner, bodyOf, returnPath, silenced}
+use Rattle.rules.proofs as ruleLaws
+use ruleLaws.FrameLaws.{link-most, frame-read, link-length, length-link}
+use ruleLaws.{ReplyLaws.echo-body-length, OptionLaws.stripped-word, OptionLaws.stripped-shorter}
+use ruleLaws.OctetLaws.{put-none, take-put, length-part}
+use Rattle.handler.specs
+use specs.declared.way.Own.{Own}
+use specs.declared.answers.Answer.{Answer}
+use specs.Shapes.{ownOf, replyOctets, Replied, answerOf, wroteBy, linkSize, restWith, Fits, Ready, Done}
 use mathlib.Core.Bool.{Bool, true, false, not, _&&_}
 use borrow.Author.Tests.{lt-leb, le-leb, leb-true, leb-false, not-true}
-use lib.{Dec.leb, Seq.drop-drop, Seq.length-take-le}
-use Rattle.rules.specs.Handling.{forwarded, forwardedRest, onward, faulted, echoed}
+use lib.Dec.{leb}
+use lib.Seq.{drop-drop, length-take-le}
+use rules.Handling.{forwarded, forwardedRest, onward, faulted, echoed}
+use ruleLaws.TestLaws.{by-test, and-no, and-yes, and-true}
+use ruleLaws.HandlingLaws.{onward-long, onward-sent, faulted-silent, faulted-none, faulted-over, echoed-mode, echoed-none, echoed-over}
 use Rattle.rules.specs.Answer as A
-use Rattle.rules.proofs.TestLaws.{by-test, and-no, and-yes, and-true}
-use Rattle.rules.proofs.HandlingLaws.{onward-long, onward-sent, faulted-silent, faulted-none, faulted-over, echoed-mode, echoed-none, echoed-over}
 
 -- a frame that was read
 module _ (f : List ℕ) (h : Header) (is : readFrame f ≡ Trill h) where

@@ -1,22 +1,27 @@
 -- A buffer written in stages: what fits is written, and writes to places side by side are one write. So a link header, a forwarded frame behind
--- it (its header and the rest in one, or another area before the inner frame), and the two replies. By laws of parts and of `put`. Assumes nothing.
-use Rattle.rules.specs.{Link.outerTag, Link.link, Settings.Ways, Header.opLength, Header.innerStart, Header.areaOf, Header.innerOf, Channel.echoBody}
+-- it (its header and the rest in one, or another area before the inner frame), and the two replies. By laws of parts and of `put`.
+use Rattle.rules.specs as rules
+use rules.{Link.outerTag, Link.link, Settings.Ways, Channel.echoBody}
+use rules.Header.{opLength, innerStart, areaOf, innerOf}
 use mathlib.Core.Bool.{Bool, true, _&&_}
 use Rattle.rules.proofs.{TestLaws.and-true, TestLaws.by-test, FrameLaws.length-link, ReplyLaws.echo-body-length}
-use borrow.Author.{Tests.eqb-true, Tests.eqb-false, Tests.eq-eqb, Tests.ne-eqb, Needs.needs}
-use Rattle.rules.specs.Octets.{if_then_else_, put, octets16, octets48, octet, part}
+use borrow.Author.Tests.{eqb-true, eqb-false, eq-eqb, ne-eqb}
+use borrow.Author.Needs.{needs}
+use rules.Octets.{if_then_else_, put, octets16, octets48, octet, part}
 use mathlib.Core.Path.{_≡_, ap, _∙_, refl, sym}
 use mathlib.Core.List.{List, _++_, append-assoc, [], _∷_}
 use Prim.Native.Nat.{ℕ, _+_, _-_, _≤_, _*_, _/_, _<_, suc, _%_}
 use native.Mathlib.Omega.{arith}
 use lib.ListN.{length, take, drop, length-drop, length-append, getD, length-take}
-use lib.{Seq.take-all, Dec.eqb}
+use lib.Seq.{take-all}
+use lib.Dec.{eqb}
 use Rattle.rules.proofs.OctetLaws.{put-put, length-put, length-part, drop-part}
-use Rattle.handler.specs.Shapes.{linkSize, taggedOctets, Fits, headerOctets, sentBy, restWith, timesBy, replyOctets}
+use Rattle.handler.specs
+use specs.Shapes.{linkSize, taggedOctets, Fits, headerOctets, sentBy, restWith, timesBy, replyOctets}
 use Rattle.octets.specs.Copy.{putFitting}
 use Rattle.octets.proofs.Ends.{put-fits}
-use Rattle.rules.specs.declared.{NextHop.NextHop, Header.Header}
-use Rattle.handler.specs.declared.way.Own.{Own}
+use rules.declared.{NextHop.NextHop, Header.Header}
+use specs.declared.way.Own.{Own}
 
 -- what is lent from a place on is what is left from there on
 pub lent-rest : (s : List ℕ) (n : ℕ) → take (length s - n) (drop n s) ≡ drop n s

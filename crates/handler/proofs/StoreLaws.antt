@@ -1,24 +1,30 @@
--- A store as the code reads it: one law for each way out, over what the tests and calls before it say. By computation. Assumes nothing.
-use Rattle.handler.proofs.{Stages.parts, RouteLaws.received-lent, StageLaws.done-dropped}
+-- A store as the code reads it: one law for each way out, over what the tests and calls before it say. By computation.
+use Rattle.handler.proofs
+use proofs.{RouteLaws.received-lent, StageLaws.done-dropped}
 use Prim.Native.Nat.{ℕ, _+_, _*_, _/_, _%_, _^_, _≤_, _<_}
-use mathlib.Core.Path.{_≡_, refl, sym, ap, _∙_}
-use mathlib.Core.{List.List, Bool.Bool, Bool.true, Bool.false, Bool.not}
+use mathlib.Core.Path.{_≡_, refl, sym, _∙_}
+use mathlib.Core.List.{List}
+use mathlib.Core.Bool.{Bool, true, false, not}
 use native.Mathlib.Omega.{arith}
 use borrow.Author.Needs.{needs}
-use borrow.Author.Tests.{lt-ltb, le-ltb, le-leb, lt-leb, eq-eqb, ne-eqb, leb-true, not-true, not-false}
+use borrow.Author.Tests.{lt-ltb, le-ltb, le-leb, lt-leb, eq-eqb, ne-eqb, not-true, not-false}
 use lib.Dec.{leb, eqb}
 use lib.ListN.{length, getD}
-use Rattle.rules.specs.{Settings.Ways, Settings.nicknameValid, Handling.routed}
-use Rattle.rules.specs.declared.{Header.Header, NextHop.NextHop, Ruling.Ruling, Ruling.the-variants.Found, Ruling.the-variants.Absent}
+use Rattle.rules.specs as rules
+use rules.{Settings.nicknameValid, Handling.routed}
+use rules.declared.{Header.Header, NextHop.NextHop, Ruling.Ruling}
+use rules.declared.Ruling.the-variants.{Found, Absent}
 use Rattle.rules.proofs.TestLaws.{and-no}
-use Rattle.rules.specs.Answer as A
-use Rattle.handler.specs.declared.{answers.Answer.Answer, way.Own.Own, handling.Received.Received}
-use Rattle.handler.specs.declared.{handling.Received.the-variants.Answered, handling.Received.the-variants.Trill}
-use Rattle.handler.specs.{Shapes.droppedBy, Shapes.ownOf, Shapes.onlyFor, Shapes.waysBy}
-use Rattle.handler.specs.{Tasks.receivedBy, Tasks.Receiving, Tasks.Both}
-use Rattle.handler.proofs.TaskLaws.{both-of, kept, tells, replies-none, replies-so, replied, said-forwardable}
+use Rattle.handler.specs
+use specs.declared.answers.Answer.{Answer}
+use specs.declared.way.Own.{Own}
+use specs.declared.handling.Received.{Received}
+use specs.declared.handling.Received.the-variants.{Answered, Trill}
+use specs.{Shapes.droppedBy, Shapes.ownOf, Shapes.onlyFor, Shapes.waysBy, Tasks.receivedBy, Tasks.Receiving, Tasks.Both}
+use proofs.TaskLaws.{both-of, kept, tells, replies-none, replies-so, replied, said-forwardable}
 use Rattle.stores.proofs.PlaceLaws.{good-whole, step-past, step-up, step-stay, place-hinted, place-searched, for-past, for-other}
 use Rattle.stores.specs.Store.{nicknameIn, countIn, destAt, hopOf, hopAt, lastAt, hintAt, placeIn, hopFor, waysIn, storeGood, handledIn, Whole}
+use Rattle.rules.specs.Answer as A
 
 -- which words are good
 module _ (w : List ℕ) where

@@ -1,15 +1,17 @@
--- The stripping loop over lists: what was written, and what is kept of the options from a place on, is what is kept in all. Assumes nothing.
+-- The stripping loop over lists: what was written, and what is kept of the options from a place on, is what is kept in all.
 use mathlib.Core.Path.{_≡_, refl, sym, ap, _∙_}
 use mathlib.Core.List.{List, [], _∷_, _++_, append-assoc, append-nil}
 use mathlib.Core.Bool.{Bool, true, false}
 use Prim.Native.Nat.{ℕ, suc, _+_, _-_, _≤_, _<_}
-use native.Mathlib.{Omega.arith, Nat.add-zero}
+use native.Mathlib.Omega.{arith}
+use native.Mathlib.Nat.{add-zero}
 use borrow.Author.Needs.{needs}
 use lib.ListN.{length, take, getD, length-append}
 use lib.Seq.{length-take-le}
-use Rattle.rules.specs.Octets.{be16, part, put}
-use Rattle.rules.specs.Options.{TlvOption, options, keyOf, lengthOf, optionSize, optionsFrom, optionsOf, strippable, keptOptions, octetsOf, WellFormed}
-use Rattle.rules.specs.Options.{draftRead, stripped}
+use Rattle.rules.specs as rules
+use rules.Octets.{be16, part, put}
+use rules.Options.{TlvOption, options, keyOf, lengthOf, optionSize, optionsFrom, optionsOf, strippable, keptOptions, octetsOf, WellFormed}
+use rules.Options.{draftRead, stripped}
 use Rattle.rules.proofs.TestLaws.{by-test}
 use Rattle.rules.proofs.OctetLaws.{put-none, put-put, length-put, length-part}
 use Rattle.rules.proofs.OptionLaws.{Walked, ended, took, walked, options-end, kept-nothing, kept-not, kept-too, area-well, stripped-is, stripped-shorter}

@@ -1,29 +1,35 @@
 -- A task carried out: the answer without what is replied to an alert, the reply to one, and both together as the rules have them. One law for
--- each need, over what the calls before it ensure, for `search` to cite. Assumes nothing.
-use Rattle.rules.specs.Handling.{forwardedRest, forwarded, onward, faulted, echoed, routed}
-use Rattle.rules.specs.{Extension.areaSent, Octets.if_then_else_, Settings.Ways, Header.innerOf, Link.link}
-use Rattle.rules.specs.Channel.{replyInner, bodyOf, replyMode, silenced, returnPath, errorReply, echoReply, replyRest, errorBody, echoBody}
+-- each need, over what the calls before it ensure, for `search` to cite.
+use Rattle.rules.specs as rules
+use rules.Handling.{forwardedRest, forwarded, onward, faulted, echoed, routed}
+use rules.{Extension.areaSent, Octets.if_then_else_, Settings.Ways, Header.innerOf, Link.link}
+use rules.Channel.{replyInner, bodyOf, replyMode, silenced, returnPath, errorReply, echoReply, replyRest, errorBody, echoBody}
 use Rattle.handler.proofs.{Stages.by-equal, StageLaws.by-hop, StageLaws.back, StageLaws.done-dropped}
 use mathlib.Core.Path.{_≡_, refl, sym, ap, _∙_}
 use mathlib.Core.List.{List, [], _++_}
 use mathlib.Core.Bool.{Bool, true, false, not, true≢false}
 use Prim.Native.Nat.{ℕ, _+_, _≤_}
 use native.Mathlib.Omega.{arith}
-use borrow.Author.{Needs.needs, Tests.ne-eqb, Tests.not-true}
+use borrow.Author.Needs.{needs}
+use borrow.Author.Tests.{ne-eqb, not-true}
 use lib.Dec.{ltb, eqb}
 use lib.ListN.{length, length-append}
-use Rattle.rules.specs.Answer as A
-use Rattle.rules.specs.declared.{NextHop.NextHop, Header.Header, Ruling.Ruling, Ruling.the-variants.Found, Ruling.the-variants.Absent, Alert.Alert}
-use Rattle.rules.specs.declared.Alert.the-variants.{NoAlert, AlertFault, AlertErr, AlertRequest}
+use rules.declared.{NextHop.NextHop, Header.Header, Ruling.Ruling, Alert.Alert}
+use rules.declared.Ruling.the-variants.{Found, Absent}
+use rules.declared.Alert.the-variants.{NoAlert, AlertFault, AlertErr, AlertRequest}
 use Rattle.rules.proofs.{TestLaws.by-test, OctetLaws.put-none, FrameLaws.link-length, FrameLaws.link-written}
 use Rattle.rules.proofs.HandlingLaws.{faulted-silent, faulted-none, faulted-over, echoed-mode, echoed-none, echoed-over}
-use Rattle.handler.specs.declared.answers.{Refusal.Refusal, Refusal.the-variants.Refused, Refusal.the-variants.Passed}
-use Rattle.handler.specs.declared.{answers.Answer.Answer, way.Own.Own, way.Told.Told, handling.Task.Task}
-use Rattle.handler.specs.declared.handling.Task.the-variants.{Answered, Forward, Error, Echo}
-use Rattle.handler.specs.Tasks.{answerBy, alertRefusal, alertQuiet, transitQuiet, alertedBy, transitBy, transitAt, doneAt, asksBack, Forwardable}
-use Rattle.handler.specs.Tasks.{Routes, FaultTold, EchoAnswered, AlertAnswered, Both}
-use Rattle.handler.specs.Calls.{Replies}
-use Rattle.handler.specs.Shapes.{answerOf, repliedBy, besideBy, viaOf, neighbourOf, ownOf, onlyFor, waysBy, Ready, Replied, Done}
+use Rattle.handler.specs
+use specs.declared.answers.{Refusal.Refusal, Answer.Answer}
+use specs.declared.answers.Refusal.the-variants.{Refused, Passed}
+use specs.declared.way.{Own.Own, Told.Told}
+use specs.declared.handling.Task.{Task}
+use specs.declared.handling.Task.the-variants.{Answered, Forward, Error, Echo}
+use specs.Tasks.{answerBy, alertRefusal, alertQuiet, transitQuiet, alertedBy, transitBy, transitAt, doneAt, asksBack, Forwardable}
+use specs.Tasks.{Routes, FaultTold, EchoAnswered, AlertAnswered, Both}
+use specs.Calls.{Replies}
+use specs.Shapes.{answerOf, repliedBy, besideBy, viaOf, neighbourOf, ownOf, onlyFor, waysBy, Replied, Done}
+use Rattle.rules.specs.Answer as A
 
 -- an answer that writes nothing, from its numbers
 pub kept : (a : Answer) (out : List ℕ) → (a .written ≡ 0) × (a .beside ≡ 0) → Done (answerBy a) a out out

@@ -1,4 +1,4 @@
--- The table of option treatments agrees with the flag definitions: one test computed over all 512 keys, and from it each entry. Assumes nothing.
+-- The table of option treatments agrees with the flag definitions: one test computed over all 512 keys, and from it each entry.
 use Rattle.handler.proofs.Stages.{parts, by-equal}
 use mathlib.Core.{Path._≡_, Path.refl, Path.sym, Path._∙_, List.List}
 use mathlib.Core.Bool.{Bool, true, false, not, _&&_, _||_, false≢true}

@@ -1,23 +1,27 @@
 -- The options of an area as the code reads them: one option by its ways out, the walk (what is found from a place on, with what was met
--- before, is what is found in all), and the whole area by its summary tests. Assumes nothing.
+-- before, is what is found in all), and the whole area by its summary tests.
 use Rattle.handler.proofs.Stages.{parts}
 use mathlib.Core.Path.{_≡_, refl, sym, ap, _∙_}
 use mathlib.Core.List.{List, []}
 use mathlib.Core.Bool.{Bool, true, false, not, _&&_, _||_}
 use Prim.Native.Nat.{ℕ, suc, _+_, _-_, _≤_, _<_}
 use native.Mathlib.Omega.{arith}
-use borrow.Author.{Needs.needs, Tests.eqb-true, Tests.ne-eqb}
+use borrow.Author.Needs.{needs}
+use borrow.Author.Tests.{eqb-true, ne-eqb}
 use lib.ListN.{length, getD}
-use Rattle.rules.specs.Octets.{if_then_else_, be16, part}
-use Rattle.rules.specs.Options as O
-use Rattle.rules.specs.Options.{Taken, Fault, TlvOption, Options, options, fault, keyOf, lengthOf, optionSize, optionFirst, optionAt, optionsFrom, optionsOf}
-use Rattle.rules.specs.Options.{some-key, ie, hopByHopCritical, ingressToEgressCritical, chbh, cite, summarized, draftRead, draftStops}
+use Rattle.rules.specs as rules
+use rules.Octets.{if_then_else_, be16, part}
+use rules.Options.{Taken, Fault, TlvOption, Options, options, fault, keyOf, lengthOf, optionSize, optionFirst, optionAt, optionsFrom, optionsOf}
+use rules.Options.{some-key, ie, hopByHopCritical, ingressToEgressCritical, chbh, cite, summarized, draftRead, draftStops}
 use Rattle.rules.proofs.TestLaws.{and-no, and-yes, or-no, or-assoc}
-use Rattle.rules.proofs.OptionLaws.{option-reserved, option-past, option-below, option-equal, option-taken, option-read, options-end, options-fault, options-on}
-use Rattle.handler.specs.declared.{options.Cursor.Cursor, options.AreaRead.AreaRead, options.AreaRead.the-variants.Read}
-use Rattle.handler.specs.declared.options.AreaRead.the-variants.{Faulty}
-use Rattle.handler.specs.Shapes.{readBy, ended, foundBy, walkOf, judgedBy}
-use Rattle.handler.specs.Treatment.{Treats, transitDiscards, egressDiscards}
+use Rattle.rules.proofs.OptionLaws.{option-reserved, option-past, option-below, option-equal, option-taken, option-read, options-end, options-fault}
+use Rattle.rules.proofs.OptionLaws.{options-on}
+use Rattle.handler.specs
+use specs.declared.options.{Cursor.Cursor, AreaRead.AreaRead}
+use specs.declared.options.AreaRead.the-variants.{Read, Faulty}
+use specs.Shapes.{readBy, ended, foundBy, walkOf, judgedBy}
+use specs.Treatment.{Treats, transitDiscards, egressDiscards}
+use Rattle.rules.specs.Options as O
 
 -- what the table says of an option met
 module _ (seen : Bool) (entry : ℕ) {discards : Bool} (none-yet : seen ≡ false) (is : discards ≡ transitDiscards entry) where

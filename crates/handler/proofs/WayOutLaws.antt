@@ -1,19 +1,27 @@
 -- The way out that a caller asks for (T-11): by what is told of one destination, by settings octets, and by a store. By cases of the record
--- that rules. Assumes nothing.
-use mathlib.Core.{Path._≡_, Path.refl, Path.sym, Path._∙_, List.List, Bool.Bool, Bool.true, Bool.false, Bool.not}
+-- that rules.
+use mathlib.Core.Path.{_≡_, refl, sym, _∙_}
+use mathlib.Core.List.{List}
+use mathlib.Core.Bool.{Bool, true, false, not}
 use Prim.Native.Nat.{ℕ, _≤_, _<_}
 use native.Mathlib.Omega.{arith}
-use borrow.Author.{Needs.needs, Tests.lt-ltb, Tests.le-ltb, Tests.not-true, Tests.not-false}
+use borrow.Author.Needs.{needs}
+use borrow.Author.Tests.{lt-ltb, le-ltb, not-true, not-false}
 use lib.ListN.{length}
-use Rattle.rules.specs.{Octets.put, Settings.Ways, Settings.waysOf, Settings.settingsRead, Link.link, WayOut.wayOutBy, WayOut.wayOut}
-use Rattle.rules.specs.WayOut as W
-use Rattle.rules.specs.declared.{NextHop.NextHop, Ruling.the-variants.Found, Ruling.the-variants.Absent}
+use Rattle.rules.specs as rules
+use rules.{Octets.put, Link.link, WayOut.wayOutBy, WayOut.wayOut}
+use rules.Settings.{Ways, waysOf, settingsRead}
+use rules.declared.NextHop.{NextHop}
+use rules.declared.Ruling.the-variants.{Found, Absent}
 use Rattle.rules.proofs.{OctetLaws.put-none, FrameLaws.length-link, FrameLaws.link-most}
-use Rattle.handler.specs.declared.{judged.Judged.Judged, way.Told.Told, way.WayOut.WayOut}
-use Rattle.handler.specs.{Shapes.linkSize, Shapes.waysBy, Shapes.onlyFor, Shapes.WayDone, Keys.JudgedBy}
+use Rattle.handler.specs
+use specs.declared.judged.Judged.{Judged}
+use specs.declared.way.{Told.Told, WayOut.WayOut}
+use specs.{Shapes.linkSize, Shapes.waysBy, Shapes.onlyFor, Shapes.WayDone, Keys.JudgedBy}
 use Rattle.stores.specs.Store.{storeGood, waysIn, wayOutIn, Whole}
 use Rattle.stores.proofs.PlaceLaws.{good-whole}
 use Rattle.handler.proofs.ScanLaws.{settings-none, settings-some}
+use Rattle.rules.specs.WayOut as W
 
 -- T-11, by what is told of one destination
 module _ (t : Told) (out : List ℕ) where

@@ -1,4 +1,4 @@
--- Shifts and masks as sums, quotients and remainders: one law for `|`, `or-add`, and its uses. Assumes nothing.
+-- Shifts and masks as sums, quotients and remainders: one law for `|`, `or-add`, and its uses.
 use mathlib.Core.Path.{_≡_, sym, ap, _∙_}
 use Prim.Native.Nat.{ℕ, _+_, _*_, _/_, _%_, _^_, _<_}
 use native.Mathlib.Nat.{add-zero}

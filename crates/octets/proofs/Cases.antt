@@ -1,4 +1,4 @@
--- A function that tests as its definition does, and the codes of refusals. By cases on the tests. Assumes nothing.
+-- A function that tests as its definition does, and the codes of refusals. By cases on the tests.
 use Prim.Native.Nat.{ℕ}
 use mathlib.Core.Path.{_≡_, refl}
 use mathlib.Core.Bool.{Bool, true, false, not, cond, _&&_}

@@ -1,4 +1,4 @@
--- Reading at and past the end of an octet string, and copying what fits. Assumes nothing.
+-- Reading at and past the end of an octet string, and copying what fits.
 use mathlib.Core.Path.{_≡_, sym, _∙_}
 use mathlib.Core.List.{List, [], _∷_}
 use Prim.Native.Nat.{ℕ, _+_, _-_, _*_, _/_, _%_, _≤_, _<_}
@@ -10,9 +10,9 @@ use mir.Val.{Fits}
 use lib.Seq.{paste, paste-zero, paste-suc, take-length}
 use lib.ListN.{length, getD, set, List·getD-eq-default}
 use Rattle.rules.proofs.TestLaws.{tests}
-use Rattle.rules.specs.Octets as O
 use Rattle.rules.specs.Octets.{octet, be16, be32, be48, octets48, put}
 use Rattle.octets.specs.Copy.{putFitting}
+use Rattle.rules.specs.Octets as O
 
 -- what is read past the end is 0
 pub octet-past : (s : List ℕ) (n : ℕ) → length s ≤ n → 0 ≡ octet s n

@@ -1,5 +1,5 @@
 -- The value of a strip flag or an edition as the code judges it, one law for each way out, and that such a flag goes with settings by its length and
--- its value alone. By cases of the tag and of the tests. Assumes nothing.
+-- its value alone. By cases of the tag and of the tests.
 use mathlib.Core.Path.{_≡_}
 use mathlib.Core.List.{List}
 use mathlib.Core.Bool.{true, not, _&&_, Bool·not-not}
@@ -9,9 +9,7 @@ use borrow.Author.Needs.{needs}
 use borrow.Author.Tests.{not-false}
 use lib.Dec.{leb, eqb}
 use lib.ListN.{length}
-use Rattle.rules.specs.Octets.{octet}
-use Rattle.rules.specs.Fields.{field, lengthGood}
-use Rattle.rules.specs.Settings.{Settings, continues}
+use Rattle.rules.specs.{Octets.octet, Fields.field, Fields.lengthGood, Settings.Settings, Settings.continues}
 use Rattle.rules.proofs.TestLaws.{and-no, and-yes, by-equal, tests}
 use Rattle.rules.proofs.FrameLaws.{none-given}
 use Rattle.octets.specs.Flags.{flagTag, flagValue, flagBy}

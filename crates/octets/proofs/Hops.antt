@@ -1,4 +1,4 @@
--- Whether a record is good, one law for each way out, by the tests in their order. Assumes nothing.
+-- Whether a record is good, one law for each way out, by the tests in their order.
 use mathlib.Core.Path.{_≡_}
 use mathlib.Core.List.{List}
 use mathlib.Core.Bool.{Bool, true, false, not}

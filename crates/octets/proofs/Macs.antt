@@ -1,5 +1,5 @@
 -- The tests of a nickname, a MAC, a neighbour and a switch as the code makes them. Of a MAC the first 16 bits, h, have the group bit, and they
--- decide unless they are 0. By arithmetic. Assumes nothing.
+-- decide unless they are 0. By arithmetic.
 use mathlib.Core.Path.{_≡_, sym, _∙_}
 use mathlib.Core.List.{List}
 use mathlib.Core.Bool.{Bool, true, false, not, _||_}

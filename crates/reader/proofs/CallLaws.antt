@@ -1,4 +1,4 @@
--- One law for each way out of the reader's calls that the tests alone do not decide. By the tests in their order. Assumes nothing.
+-- One law for each way out of the reader's calls that the tests alone do not decide. By the tests in their order.
 use mathlib.Core.Path.{_≡_, refl, sym, ap, _∙_}
 use mathlib.Core.List.{List, [], _∷_, _++_, append-nil}
 use mathlib.Core.Bool.{Bool, true, false, not}
@@ -14,19 +14,15 @@ use lib.ListN.{length, getD, set, take, drop, length-drop}
 use borrow.Rule.Slice.PartMut.{putMid, postOf, post-is}
 use lib.Seq.{drop-at, drop-length, take-all, take-length, length-take-le, sets-eq}
 use Rattle.rules.specs.Octets.{if_then_else_, be48, octets48, put}
-use Rattle.rules.specs.Settings.{Settings, settingsOf}
-use Rattle.rules.specs.Answer.{Handled, dropped}
-use Rattle.rules.proofs.TestLaws.{tests}
-use Rattle.rules.proofs.OctetLaws.{put-none}
+use Rattle.rules.specs.{Settings.Settings, Settings.settingsOf, Answer.Handled, Answer.dropped}
+use Rattle.rules.proofs.{TestLaws.tests, OctetLaws.put-none}
 use Rattle.octets.specs.Copy.{putFitting}
 use Rattle.octets.proofs.Ends.{six-octets, put-fits}
-use Rattle.handler.specs.Shapes.{answerOf}
-use Rattle.handler.specs.Tasks.{Both}
-use Rattle.stores.specs.Store as St
+use Rattle.handler.specs.{Shapes.answerOf, Tasks.Both}
 use Rattle.stores.specs.Store.{storeWords, preparing, Prepared, handledIn}
 use Rattle.handler.specs.declared.answers.Answer.{Answer}
-use Rattle.reader.specs.Bursts.{settingsBad, startRefusal, Started, Burst, saying, burst, BurstDone, gatheredHandled}
-use Rattle.reader.specs.Bursts.{Mark, marking, mark, MarkDone}
+use Rattle.reader.specs.Bursts.{settingsBad, startRefusal, Started, Burst, saying, burst, BurstDone, gatheredHandled, Mark, marking, mark, MarkDone}
+use Rattle.stores.specs.Store as St
 
 -- a start
 module _ (bad : Bool) (clock room besideRoom : ℕ) where

@@ -1,5 +1,5 @@
 -- The claim on a reader's life, for every cut. By induction over the bursts: the words and the gathering buffer hold the octets so far, or the early
--- answer. Assumes nothing.
+-- answer.
 use mathlib.Core.Path.{_≡_, refl, sym, _∙_}
 use mathlib.Core.List.{List, [], _∷_, _++_, append-assoc, append-nil}
 use mathlib.Core.Bool.{Bool, true, false, true≢false}
@@ -9,15 +9,13 @@ use native.Mathlib.Omega.{arith}
 use borrow.Author.Tests.{eqb-true, not-false}
 use lib.ListN.{length, getD, set, take, drop, replicate, length-append, length-set, length-drop}
 use lib.Seq.{take-at, getD-set-same, getD-set-other, drop-set-lt, getD-take}
-use Rattle.rules.specs.Octets.{be48, octets48, put}
+use Rattle.rules.specs.{Octets.be48, Octets.octets48, Octets.put, Handling.handled}
 use Rattle.rules.specs.Settings.{Settings, waysOf, settingsOf}
-use Rattle.rules.specs.Handling.{handled}
-use Rattle.rules.proofs.TestLaws.{by-order, by-equal, tests}
-use Rattle.rules.proofs.HandlingLaws.{settings-good, frame-long}
-use Rattle.rules.proofs.OctetLaws.{length-put}
+use Rattle.rules.proofs.{TestLaws.by-order, TestLaws.by-equal, TestLaws.tests, HandlingLaws.settings-good, HandlingLaws.frame-long, OctetLaws.length-put}
 use Rattle.stores.specs.Store.{storeWords, preparing, handledIn}
-use Rattle.reader.specs.Bursts.{settingsBad, startRefusal, Started, Burst, burst, gatheredHandled, Mark, mark}
-use Rattle.reader.specs.Life.{joined, Fed, fed, earlyAt, said, answerOfWhole, Later, later-burst, later-mark, laters, Life, fedIn, markIn, Claim}
+use Rattle.reader.specs
+use specs.Bursts.{settingsBad, startRefusal, Started, Burst, burst, gatheredHandled, Mark, mark}
+use specs.Life.{joined, Fed, fed, earlyAt, said, answerOfWhole, Later, later-burst, later-mark, laters, Life, fedIn, markIn, Claim}
 use Rattle.reader.proofs.CallLaws.{prepared-bad, burst-ended, burst-early, burst-over, burst-on, mark-ended, mark-early, mark-whole}
 
 -- the early answer

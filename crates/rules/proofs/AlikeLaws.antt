@@ -1,18 +1,17 @@
 -- Runs over switches that say the same to a handling have the same entries: nickname for nickname one way to every destination. By induction on
--- the handlings. Assumes nothing.
+-- the handlings.
 use mathlib.Core.Path.{_≡_, refl, sym, ap}
 use mathlib.Core.List.{List, [], _∷_}
 use mathlib.Core.Option.{Option, none, some}
 use Prim.Native.Nat.{ℕ, zero, suc}
 use lib.ListN.{length}
-use Rattle.rules.specs
 use specs.Settings.{Settings, Ways, waysOf}
 use specs.Handling.{handling}
-use specs.Campus.{switchNamed, Kind, State, Waiting, inCampus, over, next, nextAfter, runFrom, entryOctets}
-use specs.Campus.{traceOctets}
-use Rattle.rules.proofs
+use specs.Campus.{switchNamed, Kind, State, Waiting, inCampus, over, next, nextAfter, runFrom, entryOctets, traceOctets}
 use proofs.NextLaws.{next-alike}
 use proofs.RunLaws.{state, rest, run-none, run-nowhere, run-step}
+use Rattle.rules.specs
+use Rattle.rules.proofs
 
 -- two switches found, or none
 abbrev pub Both : Option Settings → Option Settings → Type 0

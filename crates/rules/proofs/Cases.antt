@@ -1,4 +1,4 @@
--- C1 to C12, one claim over the table of specs/Cases.antt, by computation. Assumes nothing.
+-- C1 to C12, one claim over the table of specs/Cases.antt, by computation.
 use mathlib.Core.Path.{_≡_, refl}
 use Rattle.rules.specs.Cases.{cases, computedIn, expectedIn}
 

@@ -1,4 +1,4 @@
--- Demand 3: a call that answers as `campus` says meets it, from the laws of descriptions, of runs and of the outcome. Assumes nothing.
+-- Demand 3: a call that answers as `campus` says meets it, from the laws of descriptions, of runs and of the outcome.
 use mathlib.Core.Path.{_≡_, _∙_}
 use mathlib.Core.List.{List, [], List·Memᴰ}
 use mathlib.Core.Bool.{false}
@@ -6,13 +6,11 @@ use mathlib.Core.Option.{some}
 use Prim.Native.Nat.{ℕ, _+_, _*_, _<_, _≤_, min}
 use native.Mathlib.Omega.{arith}
 use lib.ListN.{length}
-use Rattle.rules.specs
 use specs.Octets.{put}
 use specs.Settings.{Settings}
 use specs.Campus.{Described, switchNamed, accepted, described, State, clockOf, original, runFrom, handlingsMost, plainRun, hopReceived, traceOctets}
 use specs.Campus.{someEdition2, traceNeeded, campus, traceAfter}
 use specs.Demand.{repliesIn, repliesMost, handlingsBound, singleRun, Demand}
-use Rattle.rules.proofs
 use proofs.TestLaws.{apart, by-test}
 use proofs.OctetLaws.{put-front}
 use proofs.StepLaws.{hop-read, hop-unread, hop-most}
@@ -20,6 +18,8 @@ use proofs.RunLaws.{named, run-some, run-whole, Run, runs, run-most, Stands, eve
 use proofs.SingleLaws.{Draft, edition-1-all, single, single-count, one-reply}
 use proofs.DescriptionLaws.{nickname-fits, Accepted, accepted-good}
 use proofs.OutcomeLaws.{campus-accepted}
+use Rattle.rules.specs
+use Rattle.rules.proofs
 
 pub plain-run : (d : Described) (S : Settings) → d .entry ≡ some S
     → plainRun d ≡ runFrom handlingsMost 1 (d .switches) (clockOf d) (S .nickname) original (d .frame) []

@@ -1,5 +1,5 @@
 -- What is known of an accepted description: 1 to 16 good switches, an entry switch among them, a clock of six octets, a frame that fits.
--- By an invariant of reading its fields, and induction on them. Assumes nothing.
+-- By an invariant of reading its fields, and induction on them.
 use mathlib.Core.Path.{_≡_, refl}
 use mathlib.Core.Logic.{inl, inr}
 use mathlib.Core.List.{List, [], _∷_, List·Memᴰ, List·Memᴰ·head, List·Memᴰ·tail, List·Memᴰ·not-nil, List·Memᴰ·append-cases, List·Memᴰ·eq-of-singleton}
@@ -10,7 +10,6 @@ use native.Mathlib.Omega.{arith}
 use borrow.Author.Tests.{ltb-true, leb-true, eqb-true, eqb-false, not-true, not-false}
 use lib.Dec.{eqb}
 use lib.ListN.{length, drop, length-append, length-drop}
-use Rattle.rules.specs
 use specs.Octets.{be16}
 use specs.Fields.{Field, field, cut, fields, lengthGood}
 use specs.Settings.{Settings, hopGood, switchGood, switchOf, hopOf, hopsMost, withField, withHop}
@@ -18,9 +17,10 @@ use specs.Handling.{frameMost}
 use specs.Campus.{Described, nothingYet, switchNamed, known, placeGood, valueGood, switchesMost, latestHops, roomGood, fieldRefusal, onLatest, withNext}
 use specs.Campus.{Description, refused, accepted, describedFrom, described, clockOf}
 use specs.declared.NextHop.{NextHop}
-use Rattle.rules.proofs
 use proofs.TestLaws.{tests, apart, by-test, either, IfNone, by-option, and-left, and-right, each-of}
 use proofs.RunLaws.{named-member}
+use Rattle.rules.specs
+use Rattle.rules.proofs
 
 -- a field that is not refused, as far as the invariant needs it
 record Admitted (d : Described) (tag : ℕ) (v : List ℕ) : Type 0 where

@@ -1,5 +1,5 @@
 -- Laws of fields: one for each outcome of reading a field, what is known of a field that was taken, the fields from a place on by what
--- stands there, that more fuel changes none of them, and the lengths that tags have. By the tests, and by induction on the fuel. Assumes nothing.
+-- stands there, that more fuel changes none of them, and the lengths that tags have. By the tests, and by induction on the fuel.
 use mathlib.Core.Path.{_≡_, refl, sym, _∙_}
 use mathlib.Core.List.{List, [], _∷_}
 use mathlib.Core.Bool.{Bool, false}
@@ -11,12 +11,12 @@ use lib.Dec.{leb, eqb}
 use mir.Syntax.{w8}
 use mir.Val.{Fits}
 use lib.ListN.{length, getD}
-use Rattle.rules.specs
 use specs.Octets.{octet, be16, part}
 use specs.Fields.{field, cut, fieldAt, fieldsFrom, fieldsAt, hopSize, lengthGood}
 use specs.declared.FieldRead.{FieldRead}
 use specs.declared.FieldRead.the-variants.{Taken, Cut}
 use Rattle.rules.proofs.TestLaws.{tests, by-order, either}
+use Rattle.rules.specs
 
 -- reading a field as the code does: `size` is the length that it says
 module _ (s : List ℕ) (at : ℕ) where

@@ -1,5 +1,5 @@
 -- Settings octets by their first field: bad where it is cut or does not open a switch, else decided by the fields behind it, and no later field
--- changes the switch. By computation, and by induction on the fields. Assumes nothing.
+-- changes the switch. By computation, and by induction on the fields.
 use mathlib.Core.Path.{_≡_, refl, _∙_}
 use mathlib.Core.List.{List, [], _∷_, foldl}
 use mathlib.Core.Bool.{true, false}
@@ -7,15 +7,15 @@ use mathlib.Core.Option.{none}
 use Prim.Native.Nat.{ℕ, _-_}
 use native.Mathlib.Omega.{arith}
 use lib.ListN.{length}
-use Rattle.rules.specs
 use specs.Octets.{part}
 use specs.Fields.{Field, field, cut, fieldAt, fieldsAt, fields}
 use specs.Settings.{Settings, switchOf, withField, opens, opened, continues, settingsFrom, settingsOf}
 use specs.Campus.{known}
 use specs.declared.FieldRead.the-variants.{Taken, Cut}
-use Rattle.rules.proofs
 use proofs.TestLaws.{by-order, either}
 use proofs.FieldLaws.{field-read, fields-at-end, fields-at-cut, fields-at-on}
+use Rattle.rules.specs
+use Rattle.rules.proofs
 
 pub continues-cut : (T : Settings) → continues T cut ≡ false
 unfolding continues

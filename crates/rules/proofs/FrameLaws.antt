@@ -1,6 +1,6 @@
 -- Reading back what is written, whatever the link header's length: a frame of a link header, a TRILL header and a rest reads as these,
 -- so a forwarded frame keeps egress, ingress and inner frame, and its hop count is one less. By computation and laws of parts.
--- Assumes nothing.
+--
 use mathlib.Core.Path.{_≡_, refl, sym, _∙_}
 use mathlib.Core.List.{List, _++_}
 use mathlib.Core.Bool.{Bool, true, false, not, _&&_, cond}

@@ -1,5 +1,5 @@
 -- How a handling came out, for any frame: 50 with what was forwarded, 53 or 54 with the reply, or another number and nothing written; so every
--- answer's number is under 64 and it writes at most 2,048 octets. By the tests in their order, and by lengths. Assumes nothing.
+-- answer's number is under 64 and it writes at most 2,048 octets. By the tests in their order, and by lengths.
 use mathlib.Core.Path.{_≡_, refl}
 use mathlib.Core.List.{List, []}
 use mathlib.Core.Bool.{Bool, true, false, not, _&&_, _||_, true≢false}

@@ -1,5 +1,5 @@
 -- One law for each outcome of a handling's stages, how long what is written is, and which numbers refuse a frame. By the tests in their
--- order. Assumes nothing.
+-- order.
 use mathlib.Core.Path.{_≡_}
 use mathlib.Core.List.{List}
 use mathlib.Core.Bool.{true, false, _||_}

@@ -1,4 +1,4 @@
--- One law for each answer that the headers decide, over what the code finds, in the order of the tests. Assumes nothing.
+-- One law for each answer that the headers decide, over what the code finds, in the order of the tests.
 use mathlib.Core.Path.{_≡_, sym}
 use mathlib.Core.List.{List}
 use mathlib.Core.Bool.{Bool, true, false, not}
@@ -9,11 +9,11 @@ use borrow.Author.Tests.{ne-eqb}
 use lib.Bits.{bitAnd, and-mask}
 use lib.Dec.{eqb}
 use lib.ListN.{length}
-use Rattle.rules.specs
 use specs.Octets.{be16, be32, be48}
 use specs.Header.{version, multi, hopCount, innerStart, headerRefusal, weAreEgress}
 use specs.declared.Header.{Header}
 use Rattle.rules.proofs.TestLaws.{tests, by-equal}
+use Rattle.rules.specs
 
 -- a MAC by its first 16 bits and its last 32
 module _ (mac : ℕ) (f : List ℕ) (high : ℕ) (is : high ≡ be16 f 0) where

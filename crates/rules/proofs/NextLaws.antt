@@ -1,14 +1,14 @@
--- What is handled next, by the answer and by the replies that wait: one law for each outcome, by the tests. Assumes nothing.
+-- What is handled next, by the answer and by the replies that wait: one law for each outcome, by the tests.
 use mathlib.Core.Path.{_≡_, refl, ap, _∙_}
 use mathlib.Core.List.{List, [], _∷_}
 use mathlib.Core.Bool.{true, false}
 use Prim.Native.Nat.{ℕ}
 use lib.ListN.{length}
-use Rattle.rules.specs
 use specs.Settings.{Settings}
 use specs.Answer.{Handled}
 use specs.Campus.{Kind, reply, Waiting, writesReply, repliesMade, inCampus, staying, waitingAfter, over, next, sentOn, firstWaiting, nextAfter}
 use Rattle.rules.proofs.TestLaws.{tests}
+use Rattle.rules.specs
 
 -- the replies that a handling makes
 module _ (a : Handled) where

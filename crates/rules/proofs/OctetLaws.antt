@@ -1,5 +1,5 @@
 -- Laws of octet strings: what is written reads back, reading across a seam, and buffers after one write or two. By computation and append laws.
--- Assumes nothing.
+--
 use mathlib.Core.Path.{_≡_}
 use mathlib.Core.List.{List, [], _++_, append-assoc, append-nil}
 use Prim.Native.Nat.{ℕ, _+_, _<_, _≤_}

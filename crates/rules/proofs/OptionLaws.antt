@@ -1,6 +1,6 @@
 -- Laws of the options area. One law for each outcome of a reading; then what a walk finds lays out the area again, so that a
 -- stripped area is read as the options kept: it is well formed, has the same summary bits, and stripping it changes nothing.
--- Assumes nothing.
+--
 use mathlib.Core.Path.{_≡_, refl, sym, ap, _∙_}
 use mathlib.Core.Logic.{_↔_}
 use mathlib.Core.List.{List, [], _∷_, _++_, append-assoc, append-nil}
@@ -12,14 +12,14 @@ use borrow.Author.Tests.{ltb-false, leb-true, leb-false, eqb-true, eqb-false}
 use lib.Dec.{ltb, eqb}
 use lib.ListN.{length, take, drop, take-append-drop, length-append, length-take, length-drop, drop-of-length-le}
 use lib.Seq.{drop-append-seam, take-at, drop-at, take-all, length-take-le}
-use Rattle.rules.specs
 use specs.Octets.{octet, be16, part}
 use specs.Options.{chbh, cite, keyOf, lengthOf, ie, nc, optionSize, optionAt, TlvOption, Options, options, fault, optionFirst, optionsFrom, optionsOf}
 use specs.Options.{hopByHopCritical, ingressToEgressCritical, some-key, summarized, draftRead, strippable, keptOptions, octetsOf, stripped, OptionRead, Taken}
 use specs.Options.{Fault, AreaRead, WellFormed, Faulty, Laid, none, one, WellFormedArea}
-use Rattle.rules.proofs
 use proofs.TestLaws.{tests, apart, by-test, by-order, either, and-left, and-right, and-no}
 use proofs.OctetLaws.{octet-part, be16-before, be16-at, be16-part, drop-part, length-part}
+use Rattle.rules.specs
+use Rattle.rules.proofs
 
 -- what is known of an option that was taken
 pub record Read (area : List ℕ) (floor at key size next : ℕ) : Type 0 where

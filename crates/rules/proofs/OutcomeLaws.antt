@@ -1,4 +1,4 @@
--- The outcome of a call on a description, by the room lent and by what the description says: one law for each, by the tests. Assumes nothing.
+-- The outcome of a call on a description, by the room lent and by what the description says: one law for each, by the tests.
 use mathlib.Core.Path.{_≡_}
 use mathlib.Core.List.{List}
 use Prim.Native.Nat.{ℕ, _<_, _≤_}

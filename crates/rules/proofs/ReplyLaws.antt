@@ -1,5 +1,5 @@
 -- Laws of the two replies: they read back behind any link header, with hop count 63, and nothing answers one: an error is heard as an
--- error, an echo reply as an echo reply. By computation on the octets written. Assumes nothing.
+-- error, an echo reply as an echo reply. By computation on the octets written.
 use mathlib.Core.Path.{_≡_, refl}
 use mathlib.Core.List.{List, [], _++_}
 use mathlib.Core.Bool.{true}

@@ -1,6 +1,6 @@
 -- Laws of the plain run, whatever the editions: it has at most 65h + 1 handlings, so it ends; at most h replies arise and nothing answers one; every
 -- frame fits, and at most 63 replies wait, of 576 octets each at most. By induction on a run as it goes: a handling costs one, an original of
--- hop count x has 65x + 1 to spend, a reply x + 1, and each reply that waits 64. Assumes nothing.
+-- hop count x has 65x + 1 to spend, a reply x + 1, and each reply that waits 64.
 use mathlib.Core.Path.{_≡_, refl, ap, _∙_}
 use mathlib.Core.List.{List, [], _∷_, _++_, List·Memᴰ, List·Memᴰ·head, List·Memᴰ·tail, List·Memᴰ·not-nil}
 use mathlib.Core.Option.{none, some}
@@ -10,18 +10,18 @@ use native.Mathlib.Omega.{arith}
 use borrow.Author.Tests.{eqb-true}
 use lib.Dec.{eqb}
 use lib.ListN.{length, length-append}
-use Rattle.rules.specs
 use specs.Settings.{Settings, waysOf}
 use specs.Answer.{Handled}
 use specs.Handling.{handling, frameMost, besideLeast}
 use specs.Campus.{switchNamed, Kind, reply, State, Waiting, repliesMade, inCampus, staying, waitingAfter, Next, over, next, sentOn, firstWaiting, nextAfter}
 use specs.Campus.{runFrom, handlingsMost, hopReceived, entryOctets, traceOctets}
 use specs.Demand.{repliesIn}
-use Rattle.rules.proofs
 use proofs.TestLaws.{apart, by-test, by-option, and-left, each-of}
 use proofs.NextLaws.{next-on, next-waiting}
 use proofs.HandledLaws.{Bounded, handling-bounded}
 use proofs.StepLaws.{hop-most, IsReply, Forwarded, Made, nothing, one, does, does-forward, does-make}
+use Rattle.rules.specs
+use Rattle.rules.proofs
 
 -- a switch found by its nickname is one of the campus, and has it
 pub named : (switches : List Settings) (n : ℕ) (S : Settings) → switchNamed switches n ≡ some S → List·Memᴰ S switches × (S .nickname ≡ n)

@@ -1,13 +1,13 @@
--- Settings that are not bad are what their fields say, by induction on the fields. Assumes nothing.
+-- Settings that are not bad are what their fields say, by induction on the fields.
 use mathlib.Core.Path.{_≡_, refl, sym, _∙_}
 use mathlib.Core.List.{List, [], _∷_, foldl}
 use mathlib.Core.Bool.{true, false}
 use mathlib.Core.Option.{none, some}
 use Prim.Native.Nat.{ℕ}
-use Rattle.rules.specs
 use specs.Fields.{Field, fields}
 use specs.Settings.{Settings, withField, opens, continues, opened, settingsFrom, settingsOf, settingsRead}
 use Rattle.rules.proofs.TestLaws.{apart, by-test}
+use Rattle.rules.specs
 
 module _ (S : Settings) (f : Field) (fs : List Field) where
   pub from-on : continues S f ≡ true → settingsFrom S (f ∷ fs) ≡ settingsFrom (withField S f) fs

@@ -1,6 +1,6 @@
 -- A campus without an edition 2 switch: the plain run is the run that document 01 writes out, in which no reply waits, so it has at most 64 handlings
 -- and the smaller of the number of switches and the hop count, and at most one reply arises. By induction on the handlings looked at: the switches
--- before one that replies differ. Assumes nothing.
+-- before one that replies differ.
 use mathlib.Core.Path.{_≡_, ap, _∙_}
 use mathlib.Core.List.{List, [], _∷_, List·Memᴰ, List·Memᴰ·not-nil}
 use mathlib.Core.Bool.{true, false}
@@ -8,19 +8,19 @@ use mathlib.Core.Option.{Option, some}
 use Prim.Native.Nat.{ℕ, zero, suc, _+_, _<_, _≤_, min}
 use native.Mathlib.Omega.{arith}
 use lib.ListN.{length}
-use Rattle.rules.specs
 use specs.Settings.{Settings, waysOf}
 use specs.Answer.{Handled}
 use specs.Handling.{handling}
 use specs.Campus.{switchNamed, Kind, reply, State, repliesMade, staying, over, next, sentOn, firstWaiting, nextAfter, runFrom, hopReceived, egressReceived}
 use specs.Campus.{someEdition2}
 use specs.Demand.{repliesIn, kindAfter, singleRun}
-use Rattle.rules.proofs
 use proofs.TestLaws.{by-option, or-false, each-of}
 use proofs.NextLaws.{made-reply}
 use proofs.StepLaws.{hop-most, ours, towards, Forwarded, Answered, Does, does, does-make}
 use proofs.WalkLaws.{Arrives, here, on, arrives-le}
 use proofs.RunLaws.{named-member, run-none, run-over, run-on, made-few, runs, reply-most}
+use Rattle.rules.specs
+use Rattle.rules.proofs
 
 -- a switch of edition 1
 pub record Draft (S : Settings) : Type 0 where

@@ -1,6 +1,6 @@
 -- What one handling does to a frame on its way, whatever the edition: forwarding takes one from its hop count and keeps egress and inner frame, a
 -- reply has hop count 63 and nothing replies to it, and the neighbour named is that of the record which rules for the written frame's egress; in
--- edition 1 only the egress replies, and nothing stands beside what is forwarded. By reading back what is written. Assumes nothing.
+-- edition 1 only the egress replies, and nothing stands beside what is forwarded. By reading back what is written.
 use mathlib.Core.Path.{_≡_, refl, sym, ap, _∙_}
 use mathlib.Core.List.{List, [], _∷_, _++_, List·Memᴰ, List·Memᴰ·not-nil, List·Memᴰ·eq-of-singleton}
 use mathlib.Core.Logic.{_⊎_, inl, inr}

@@ -1,14 +1,14 @@
--- Where a field that the code took lies, as the code's indices, parts and measures ask it. By what is known of a field that was read. Assumes nothing.
+-- Where a field that the code took lies, as the code's indices, parts and measures ask it. By what is known of a field that was read.
 use mathlib.Core.Path.{_≡_, sym, _∙_}
 use mathlib.Core.List.{List}
 use Prim.Native.Nat.{ℕ, _+_, _-_, _≤_, _<_}
 use native.Mathlib.Omega.{arith}
 use lib.ListN.{length}
-use Rattle.rules.specs
 use specs.Fields.{fieldAt}
 use specs.declared.FieldRead.{FieldRead}
 use specs.declared.FieldRead.the-variants.{Taken}
 use Rattle.rules.proofs.FieldLaws.{IsField, field-read}
+use Rattle.rules.specs
 
 module _ (s : List ℕ) (at tag size next : ℕ) (read : FieldRead) (t : read ≡ Taken tag size next) (e : read ≡ fieldAt s at) where
   pub its : IsField s at tag size next

@@ -1,5 +1,5 @@
 -- Laws of tests: cases on one, what holds either way of it or down a chain of them, what a conjunction or a disjunction says of its parts, and what
--- holds of each member of a list or each number below another. By cases. Assumes nothing.
+-- holds of each member of a list or each number below another. By cases.
 use mathlib.Core.Path.{_≡_, refl}
 use mathlib.Core.Bool.{Bool, true, false, _&&_, _||_, cond}
 use mathlib.Core.List.{List, _∷_, List·Memᴰ, List·Memᴰ·head, List·Memᴰ·tail}

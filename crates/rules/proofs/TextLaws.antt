@@ -1,18 +1,18 @@
 -- Laws of the text printed: its numbers, what is printed of each description, and that it has 73,741 octets at most. By the tests, and
--- by induction on the fields and on the run. Assumes nothing.
+-- by induction on the fields and on the run.
 use mathlib.Core.Path.{_≡_, refl}
 use mathlib.Core.List.{List, [], _∷_, _++_, List·Memᴰ, List·Memᴰ·head, List·Memᴰ·tail}
 use Prim.Native.Nat.{ℕ, zero, suc, _+_, _-_, _*_, _/_, _%_, _^_, _<_, _≤_}
 use native.Mathlib.Omega.{arith}
 use lib.Dec.{ltb}
 use lib.ListN.{length, length-append}
-use Rattle.rules.specs
 use specs.Campus.{Described, refused, accepted, described, State, plainRun}
 use specs.Text.{ascii, lineFeed, decimalFrom, decimal, entryText, entriesText, printed}
-use Rattle.rules.proofs
 use proofs.TestLaws.{tests, by-test}
 use proofs.DescriptionLaws.{described-told, accepted-good}
 use proofs.DemandLaws.{plain-most, plain-numbers}
+use Rattle.rules.specs
+use Rattle.rules.proofs
 
 -- a number's digits
 last-digit : (fuel n : ℕ) → 0 < fuel → n < 10 → decimalFrom fuel n ≡ (48 + n) ∷ []

@@ -1,5 +1,5 @@
 -- A walk over members of a list that moves by a function until a test first holds has no more places than the list has: each place has
--- its own distance to the end, and a function takes no more values than it has places (pigeonhole). Assumes nothing.
+-- its own distance to the end, and a function takes no more values than it has places (pigeonhole).
 use mathlib.Core.Path.{_≡_, sym, _∙_, ap}
 use mathlib.Core.List.{List, List·Memᴰ, List·Memᴰ·head, List·Memᴰ·tail}
 use mathlib.Core.Bool.{Bool, true, false, cond}

@@ -1,5 +1,5 @@
 -- A store opened and extended field by field stands for settings with these fields, and refuses what does not go with them. By the laws of
--- insertion, and word by word. Assumes nothing.
+-- insertion, and word by word.
 use Prim.Native.Nat.{ℕ, suc, _+_, _*_, _/_, _%_, _≤_, _<_}
 use mathlib.Core.Path.{_≡_, refl, _∙_, fun-ext}
 use mathlib.Core.List.{List, [], _∷_}
@@ -9,23 +9,22 @@ use borrow.Author.Tests.{ltb-true, ltb-false, leb-true, eqb-true, not-false}
 use lib.Dec.{ltb, leb, eqb}
 use lib.ListN.{length, getD, set, length-set}
 use lib.Seq.{getD-set-same, getD-set-other}
-use Rattle.rules.specs.Octets.{if_then_else_, octet, put}
-use Rattle.rules.specs.Link.{ethertypeTrill}
-use Rattle.rules.specs.Fields.{field, lengthGood}
-use Rattle.rules.specs.declared.NextHop.{NextHop}
-use Rattle.rules.specs.Settings as S
-use Rattle.rules.specs.Settings.{Settings, hopGood, hopOf, serialMet, withField, continues, nicknameValid, waysOf}
+use Rattle.rules.specs as rules
+use rules.{Octets.if_then_else_, Octets.octet, Octets.put, Link.ethertypeTrill, Fields.field, Fields.lengthGood}
+use rules.declared.NextHop.{NextHop}
+use rules.Settings.{Settings, hopGood, hopOf, serialMet, withField, continues, nicknameValid, waysOf}
 use Rattle.rules.proofs.TestLaws.{and-true, and-yes, by-order, by-equal, tests}
-use Rattle.rules.proofs.OctetLaws.{length-put}
-use Rattle.rules.proofs.FrameLaws.{none-given}
-use Rattle.stores.specs.Store.{countIn, hopsFrom, placeIn, hopFor, waysIn, storeGood, StandsFor, Stands}
-use Rattle.stores.specs.Insert.{storeKey, storeValue, placeFor, insertedIn, With}
-use Rattle.stores.specs.Extend.{withSwitch, roomIn, recordCode, flagCode, metBy, extending, withRecord, withFlag, extended}
+use Rattle.rules.proofs.{OctetLaws.length-put, FrameLaws.none-given}
+use Rattle.stores.specs
+use specs.Store.{countIn, hopsFrom, placeIn, hopFor, waysIn, storeGood, StandsFor, Stands}
+use specs.Insert.{storeKey, storeValue, placeFor, insertedIn, With}
+use specs.Extend.{withSwitch, roomIn, recordCode, flagCode, metBy, extending, withRecord, withFlag, extended}
 use Rattle.octets.specs.Flags.{flagTag, flagValue, flagBy}
-use Rattle.octets.proofs.FlagLaws.{flag-continues}
-use Rattle.octets.proofs.Cases.{coded}
-use Rattle.stores.proofs.InsertLaws.{fitting, with-record, met-is, stands-more, stands-same}
-use Rattle.stores.proofs.LookupLaws.{serves}
+use Rattle.octets.proofs.{FlagLaws.flag-continues, Cases.coded}
+use Rattle.stores.proofs
+use proofs.InsertLaws.{fitting, with-record, met-is, stands-more, stands-same}
+use proofs.LookupLaws.{serves}
+use Rattle.rules.specs.Settings as S
 
 -- words for a switch, and for one more record as long as one is allowed
 pub record Ample (w : List ℕ) : Type 0 where

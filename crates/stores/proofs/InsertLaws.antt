@@ -1,5 +1,5 @@
 -- A record put in its place among records that stand for settings' records: they then stand for those with the record behind them.
--- By position, and by `row-slide`, which takes the record from its place to the end. Assumes nothing.
+-- By position, and by `row-slide`, which takes the record from its place to the end.
 use Prim.Native.Nat.{ℕ, zero, suc, _+_, _-_, _*_, _/_, _%_, _≤_, _<_}
 use mathlib.Core.Path.{_≡_, refl, sym, ap, _∙_}
 use mathlib.Core.List.{List, [], _∷_, _++_}
@@ -14,10 +14,11 @@ use Rattle.rules.specs.Octets.{part, put}
 use Rattle.rules.proofs.OctetLaws.{length-put, length-part}
 use Rattle.rules.proofs.TestLaws.{by-test, and-true, or-yes, or-no, or-assoc, by-order, by-equal, tests}
 use Rattle.rules.specs.declared.NextHop.{NextHop}
-use Rattle.rules.specs.Settings as S
-use Rattle.stores.specs.Store.{keyAt, valueAt, rankAt, hopOf, hopAt, hopsFrom, Ordered, StandsFor}
-use Rattle.stores.specs.Insert.{storeKey, storeValue, placeFor, metAt, metIn, putIn, insertedIn, PlaceFor, Shifted, PutIn, With}
+use Rattle.stores.specs
+use specs.Store.{keyAt, valueAt, rankAt, hopOf, hopAt, hopsFrom, Ordered, StandsFor}
+use specs.Insert.{storeKey, storeValue, placeFor, metAt, metIn, putIn, insertedIn, PlaceFor, Shifted, PutIn, With}
 use Rattle.stores.proofs.RulingLaws.{row-slide, hops-split, hops-at, fold-append}
+use Rattle.rules.specs.Settings as S
 
 -- the fields of a record are in range, as those read from octets are
 pub record Fitting (r : NextHop) : Type 0 where

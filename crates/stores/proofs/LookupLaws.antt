@@ -1,4 +1,4 @@
--- Records in order give each destination the record that rules for it, whatever the hints. By what each step of the search keeps. Assumes nothing.
+-- Records in order give each destination the record that rules for it, whatever the hints. By what each step of the search keeps.
 use Prim.Native.Nat.{ℕ, suc, _+_, _-_, _%_, _≤_, _<_}
 use mathlib.Core.Path.{_≡_, refl, _∙_}
 use mathlib.Core.List.{List}

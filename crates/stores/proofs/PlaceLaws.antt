@@ -1,4 +1,4 @@
--- What a good store has, where a search or a hint leads, and that there is no record for others: one law for each test of the definitions. By computation. Assumes nothing.
+-- What a good store has, where a search or a hint leads, and that there is no record for others: one law for each test of the definitions. By computation.
 use Prim.Native.Nat.{ℕ, _+_, _*_, _≤_, _<_}
 use mathlib.Core.Path.{_≡_}
 use mathlib.Core.List.{List}

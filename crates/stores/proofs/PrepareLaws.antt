@@ -1,5 +1,5 @@
 -- Settings octets into a store as the code does it: one law for each need of the loops, of one more field, and of the whole. By position, and by the
--- laws of insertion, of fields and of settings for each step. Assumes nothing.
+-- laws of insertion, of fields and of settings for each step.
 use Prim.Native.Nat.{ℕ, zero, suc, _+_, _-_, _*_, _/_, _%_, _≤_, _<_}
 use mathlib.Core.Path.{_≡_, refl, sym, ap, _∙_}
 use mathlib.Core.List.{List, [], _∷_, _++_}
@@ -13,30 +13,31 @@ use lib.Dec.{ltb, eqb}
 use lib.ListN.{length, getD, set, drop, length-set, List·getD-append}
 use lib.Bits.{bitOr}
 use lib.Seq.{getD-set-same, getD-set-other, sets-eq, paste, paste-zero, drop-at}
-use Rattle.octets.proofs.Bits.{or-add}
-use Rattle.octets.proofs.Ends.{fill-on, fill-end}
-use Rattle.rules.specs.Octets.{if_then_else_, put, octet, be16, be32, be48, part}
-use Rattle.rules.specs.Fields.{Field, field, cut, fieldAt, fieldsAt, fields, hopSize, lengthGood}
-use Rattle.rules.specs.Settings.{Settings, hopGood, withField, continues, settingsFrom, settingsOf, opens, opened, switchOf, waysOf, nicknameValid, macGood}
-use Rattle.rules.specs.Settings.{hopOf, switchGood}
-use Rattle.rules.specs.Campus.{known}
-use Rattle.rules.specs.declared.FieldRead.{FieldRead}
-use Rattle.rules.specs.declared.FieldRead.the-variants.{Taken, Cut}
-use Rattle.rules.proofs.TestLaws.{by-test, and-true, by-equal, tests}
-use Rattle.rules.proofs.OctetLaws.{put-front, length-put}
-use Rattle.rules.proofs.FieldLaws.{IsField, field-read, fields-at-end, fields-at-cut, fields-at-on}
-use Rattle.rules.proofs.SettingsLaws.{from-on, from-bad, from-read}
-use Rattle.rules.proofs.HandlingLaws.{settings-good}
-use Rattle.stores.specs.Store.{countIn, handledIn, Stands, Roomy, Filled, Fills, Hinted, preparing, Prepared}
-use Rattle.stores.specs.Insert.{storeKey, storeValue, placeFor, metAt, metIn, putIn, insertedIn, Shifted}
-use Rattle.stores.specs.Extend.{withSwitch, opensIn, Opens, roomIn, countBy, metBy, addedTo, recordCode, flagCode, flagWord, FlagIn, extending, extended}
-use Rattle.stores.specs.Extend.{withRecord, Extends}
+use Rattle.octets.proofs.{Bits.or-add, Ends.fill-on, Ends.fill-end}
+use Rattle.rules.specs as rules
+use rules.Octets.{if_then_else_, put, octet, be16, be32, be48, part}
+use rules.Fields.{Field, field, cut, fieldAt, fieldsAt, fields, hopSize, lengthGood}
+use rules.Settings.{Settings, hopGood, withField, continues, settingsFrom, settingsOf, opens, opened, switchOf, waysOf, nicknameValid, macGood}
+use rules.Settings.{hopOf, switchGood}
+use rules.Campus.{known}
+use rules.declared.FieldRead.{FieldRead}
+use rules.declared.FieldRead.the-variants.{Taken, Cut}
+use Rattle.rules.proofs as ruleLaws
+use ruleLaws.TestLaws.{by-test, and-true, by-equal, tests}
+use ruleLaws.{OctetLaws.put-front, OctetLaws.length-put, HandlingLaws.settings-good, Taken.taken, Taken.taken-first}
+use ruleLaws.FieldLaws.{IsField, field-read, fields-at-end, fields-at-cut, fields-at-on}
+use ruleLaws.SettingsLaws.{from-on, from-bad, from-read}
+use Rattle.stores.specs
+use specs.Store.{countIn, handledIn, Stands, Roomy, Filled, Fills, Hinted, preparing, Prepared}
+use specs.Insert.{storeKey, storeValue, placeFor, metAt, metIn, putIn, insertedIn, Shifted}
+use specs.Extend.{withSwitch, opensIn, Opens, roomIn, countBy, metBy, addedTo, recordCode, flagCode, flagWord, FlagIn, extending}
+use specs.Extend.{extended, withRecord, Extends}
 use Rattle.octets.specs.Flags.{flagTag, flagValue, flagBy}
-use Rattle.rules.proofs.Taken.{taken, taken-first}
-use Rattle.rules.proofs.FirstLaws.{continues-cut, opened-field, first, settings-open, settings-bad, settings-cut, switch-fold}
-use Rattle.stores.proofs.InsertLaws.{placed, put-at-is, inserted-long}
-use Rattle.stores.proofs.ExtendLaws.{Ample, record-long, extending-continues, extended-stands, extended-long, extended-few, switch-stands, switch-counts}
-use Rattle.stores.proofs.ExtendLaws.{switch-long, says, room-parts, is-good, stands-too}
+use ruleLaws.FirstLaws.{continues-cut, opened-field, first, settings-open, settings-bad, settings-cut, switch-fold}
+use Rattle.stores.proofs
+use proofs.InsertLaws.{placed, put-at-is, inserted-long}
+use proofs.ExtendLaws.{Ample, record-long, extending-continues, extended-stands, extended-long, extended-few, switch-stands}
+use proofs.ExtendLaws.{switch-counts, switch-long, says, room-parts, is-good, stands-too}
 
 -- the place for a rank, from behind
 pub record Placing (w : List ℕ) (n rank i : ℕ) : Type 0 where

@@ -1,5 +1,5 @@
 -- The record that rules among records in a row: those of other destinations count for nothing, the last of a rising row rules, and the order
--- in which two that differ are seen is no matter. By induction on the row. Assumes nothing.
+-- in which two that differ are seen is no matter. By induction on the row.
 use Prim.Native.Nat.{ℕ, zero, suc, _+_, _-_, _≤_, _<_}
 use mathlib.Core.Path.{_≡_, refl, sym, ap, _∙_}
 use mathlib.Core.List.{List, [], _∷_, _++_, foldl}
@@ -7,11 +7,10 @@ use native.Mathlib.Omega.{arith}
 use native.Mathlib.Nat.{zero-add, add-zero}
 use borrow.Author.Tests.{ne-eqb}
 use Rattle.rules.proofs.TestLaws.{by-order, by-equal, tests}
-use Rattle.rules.specs.declared.NextHop.{NextHop}
-use Rattle.rules.specs.declared.Ruling.{Ruling}
+use Rattle.rules.specs.declared.{NextHop.NextHop, Ruling.Ruling}
 use Rattle.rules.specs.declared.Ruling.the-variants.{Found, Absent}
-use Rattle.rules.specs.Settings as S
 use Rattle.stores.specs.Store.{hopAt, hopsFrom}
+use Rattle.rules.specs.Settings as S
 
 module _ (d : ℕ) where
   pub newer-other : (best : Ruling) (r : NextHop) → (r .destination ≡ d → ⊥) → S.newer d best r ≡ best

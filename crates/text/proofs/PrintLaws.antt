@@ -1,5 +1,5 @@
 -- The text as the code makes it, digit by digit, piece by piece and line by line. By computation and the laws of buffers; one law for each
--- need, for `search` to cite. Assumes nothing.
+-- need, for `search` to cite.
 use mathlib.Core.Path.{_≡_, refl, sym, _∙_}
 use mathlib.Core.List.{List, [], _∷_, _++_, append-assoc, append-nil}
 use Prim.Native.Nat.{ℕ, suc, _+_, _-_, _*_, _/_, _%_, _<_, _≤_}

@@ -1,5 +1,5 @@
 -- The text as the code makes it is what the rules print: entry by entry, and by the outcome. By computation, and induction on the run.
--- Assumes nothing.
+--
 use mathlib.Core.Path.{_≡_, refl, sym, _∙_}
 use mathlib.Core.List.{List, [], _∷_, _++_, append-assoc}
 use Prim.Native.Nat.{ℕ, _*_, _/_, _%_, _<_, _≤_}
@@ -9,19 +9,16 @@ use borrow.Author.Tests.{lt-leb, le-leb, leb-true, leb-false}
 use lib.Dec.{leb}
 use lib.ListN.{length, take, drop, replicate, length-replicate}
 use lib.Seq.{length-take-le}
-use Rattle.rules.specs.Octets.{put}
-use Rattle.rules.proofs.TestLaws.{by-test}
-use Rattle.rules.specs.Campus.{Described, someEdition2, traceNeeded, Description, refused, accepted, described, State, plainRun}
-use Rattle.rules.specs.Campus.{Kind, original, reply, hopReceived, egressReceived, kindOctet, entryOctets, traceOctets}
-use Rattle.rules.specs.Text.{blank, lineFeed, hex2, hex4, decimal, kindLetter, entryText, entriesText, printed}
-use Rattle.rules.proofs.OctetLaws.{length-put, take-put}
-use Rattle.rules.proofs.DescriptionLaws.{accepted-good}
-use Rattle.rules.proofs.OutcomeLaws.{campus-refused, campus-needed}
-use Rattle.rules.proofs.DemandLaws.{plain-most, plain-room}
+use Rattle.rules.specs as rules
+use rules.Octets.{put}
+use Rattle.rules.proofs.{TestLaws.by-test, OctetLaws.length-put, OctetLaws.take-put, DescriptionLaws.accepted-good, OutcomeLaws.campus-refused}
+use Rattle.rules.proofs.{OutcomeLaws.campus-needed, DemandLaws.plain-most, DemandLaws.plain-room}
+use rules.Campus.{Described, someEdition2, traceNeeded, Description, refused, accepted, described, State, plainRun, Kind, original, reply}
+use rules.Campus.{hopReceived, egressReceived, kindOctet, entryOctets, traceOctets}
+use rules.Text.{blank, lineFeed, hex2, hex4, decimal, kindLetter, entryText, entriesText, printed}
 use Rattle.rules.proofs.TextLaws.{refused-ranged, printed-refused, printed-accepted, printed-most}
-use Rattle.text.specs.Print.{PutAt, letterOf, lineOf, linesOf, textOf, Printable, Written}
+use Rattle.text.specs.Print.{PutAt, letterOf, lineOf, linesOf, textOf, Printable, Written, TextDone, TextWhole}
 use Rattle.campus.specs.Done.{CampusDone}
-use Rattle.text.specs.Print.{TextDone, TextWhole}
 use Rattle.text.proofs.PrintLaws.{text-refused, text-handled}
 use Rattle.octets.specs.Copy.{putFitting}
 use Rattle.octets.proofs.Ends.{put-fits, put-not}

@@ -1,4 +1,4 @@
--- `counters::full` meets its contract, by one law for each way out. Assumes nothing.
+-- `counters::full` meets its contract, by one law for each way out.
 use Rattle.counters.proofs.CountLaws.{full-laws as laws}
 use Rattle.counters.proofs.full as fn
 

@@ -1,4 +1,4 @@
--- `counters::some_greatest` meets its contract. The invariant: what was found so far and the counters not yet seen make up the whole. Assumes nothing.
+-- `counters::some_greatest` meets its contract. The invariant: what was found so far and the counters not yet seen make up the whole.
 use Prim.Native.Nat.{_-_}
 use Rattle.counters.proofs.CountLaws.{Scanning, some-greatest-laws as laws}
 use Rattle.counters.proofs.some_greatest as fn
@@ -10,9 +10,7 @@ abbrev μ-loop : fn.Tie.MeasureT-loop
 μ-loop counts total found₀ i₀ found i = 64 - i
 
 pub some-greatest-spec : {M : Type 1} → fn.Statement.statement M
-some-greatest-spec =
-    fn.Tie.close
-    (fn.Tie.spec
+some-greatest-spec = fn.Tie.close (fn.Tie.spec
     Inv-loop
     μ-loop
     (λ c. search laws) (λ c. search laws) (λ c. search laws) (λ c. search laws) (λ c. search laws) (λ c. search laws) (λ c. search laws))

@@ -1,4 +1,4 @@
--- `echo_in` meets its contract, by what is told of the ingress. Assumes nothing.
+-- `echo_in` meets its contract, by what is told of the ingress.
 use Rattle.handler.proofs.TaskLaws.{back-laws as laws}
 use Rattle.handler.proofs.echo_in as fn
 

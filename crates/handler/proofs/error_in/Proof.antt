@@ -1,4 +1,4 @@
--- `error_in` meets its contract, by what is told of the ingress. Assumes nothing.
+-- `error_in` meets its contract, by what is told of the ingress.
 use Rattle.handler.proofs.TaskLaws.{back-laws as laws}
 use Rattle.handler.proofs.error_in as fn
 

@@ -3,8 +3,6 @@ use Rattle.handler.proofs.StoreLaws.{handle-prepared-laws as laws}
 use Rattle.handler.proofs.handle_prepared as fn
 
 pub handle-prepared-spec : {M : Type 1} → fn.Statement.statement M
-handle-prepared-spec =
-    fn.Tie.close
-    (fn.Tie.spec
+handle-prepared-spec = fn.Tie.close (fn.Tie.spec
     (λ c κs. search laws) (λ c κs. search laws) (λ c. search laws) (λ c κs. search laws) (λ c κs. search laws) (λ c. search laws) (λ c. search laws)
     (λ c κs. search laws) (λ c. search laws) (λ c. search laws) (λ c. search laws) (λ c. search laws))

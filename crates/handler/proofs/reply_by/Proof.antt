@@ -1,4 +1,4 @@
--- `reply_by` meets its contract, by whether the alert asks for a reply. Assumes nothing.
+-- `reply_by` meets its contract, by whether the alert asks for a reply.
 use Rattle.handler.proofs.ScanLaws.{reply-by-laws as laws}
 use Rattle.handler.proofs.reply_by as fn
 

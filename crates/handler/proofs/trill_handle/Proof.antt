@@ -3,8 +3,6 @@ use Rattle.handler.proofs.ScanLaws.{trill-handle-laws as laws}
 use Rattle.handler.proofs.trill_handle as fn
 
 pub trill-handle-spec : {M : Type 1} → fn.Statement.statement M
-trill-handle-spec =
-    fn.Tie.close
-    (fn.Tie.spec
+trill-handle-spec = fn.Tie.close (fn.Tie.spec
     (λ c κs. search laws) (λ c κs. search laws) (λ c κs. search laws) (λ c κs. search laws) (λ c κs. search laws) (λ c. search laws) (λ c. search laws)
     (λ c. search laws) (λ c κs. search laws) (λ c. search laws) (λ c. search laws) (λ c. search laws) (λ c. search laws))

@@ -3,7 +3,5 @@ use Rattle.handler.proofs.WayOutLaws.{trill-way-out-laws as laws}
 use Rattle.handler.proofs.trill_way_out as fn
 
 pub trill-way-out-spec : {M : Type 1} → fn.Statement.statement M
-trill-way-out-spec =
-    fn.Tie.close
-    (fn.Tie.spec
+trill-way-out-spec = fn.Tie.close (fn.Tie.spec
     (λ c κs. search laws) (λ c κs. search laws) (λ c κs. search laws) (λ c. search laws) (λ c κs. search laws) (λ c. search laws) (λ c. search laws))

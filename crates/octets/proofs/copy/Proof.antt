@@ -1,4 +1,4 @@
--- `octets::copy` meets its contract, by arithmetic. Assumes nothing.
+-- `octets::copy` meets its contract, by arithmetic.
 use Rattle.octets.proofs.Ends.{copy-laws as laws}
 use Rattle.octets.proofs.copy as fn
 

@@ -1,4 +1,4 @@
--- `octets::fill` meets its contract. The invariant: `out` has the first i octets of `s` in it from `at` on. Assumes nothing.
+-- `octets::fill` meets its contract. The invariant: `out` has the first i octets of `s` in it from `at` on.
 use mathlib.Core.Path.{_≡_}
 use Prim.Native.Nat.{_-_, _≤_}
 use lib.ListN.{length}
@@ -13,9 +13,7 @@ abbrev μ-loop : fn.Tie.MeasureT-loop
 μ-loop out₀ at s i₀ out i = length s - i
 
 pub fill-spec : {M : Type 1} → fn.Statement.statement M
-fill-spec =
-    fn.Tie.close
-    (fn.Tie.spec
+fill-spec = fn.Tie.close (fn.Tie.spec
     Inv-loop
     μ-loop
     (λ c. search laws) (λ c. search laws) (λ c. search laws) (λ c. search laws) (λ c. search laws) (λ c. search laws) (λ c. search laws) (λ c. search laws)

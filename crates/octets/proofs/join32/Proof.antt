@@ -1,4 +1,4 @@
--- `octets::join32` meets its contract, by `|` of disjoint bits as a sum. Assumes nothing.
+-- `octets::join32` meets its contract, by `|` of disjoint bits as a sum.
 use borrow.Author.Needs.{needs}
 use Rattle.octets.proofs.Bits.{join32-or}
 use Rattle.octets.proofs.join32 as fn

@@ -1,4 +1,4 @@
--- `octets::join48` meets its contract, by `|` of disjoint bits as a sum. Assumes nothing.
+-- `octets::join48` meets its contract, by `|` of disjoint bits as a sum.
 use borrow.Author.Needs.{needs}
 use Rattle.octets.proofs.Bits.{join48-or}
 use Rattle.octets.proofs.join48 as fn

@@ -1,4 +1,4 @@
--- `octets::octet` meets its contract, by reading at and past the end. Assumes nothing.
+-- `octets::octet` meets its contract, by reading at and past the end.
 use Rattle.octets.proofs.Ends.{octet-laws as laws}
 use Rattle.octets.proofs.octet as fn
 

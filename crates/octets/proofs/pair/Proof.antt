@@ -1,4 +1,4 @@
--- `octets::pair` meets its contract, by `|` of disjoint bits as a sum. Assumes nothing.
+-- `octets::pair` meets its contract, by `|` of disjoint bits as a sum.
 use borrow.Author.Needs.{needs}
 use Rattle.octets.proofs.Bits.{pair-or}
 use Rattle.octets.proofs.pair as fn

@@ -1,4 +1,4 @@
--- `reader::begin` meets its contract: four words set are four words in front. Assumes nothing.
+-- `reader::begin` meets its contract: four words set are four words in front.
 use Rattle.reader.proofs.CallLaws.{begin-laws as laws}
 use Rattle.reader.proofs.begin as fn
 

@@ -1,4 +1,4 @@
--- `reader::held` meets its contract, by the length of what is taken. Assumes nothing.
+-- `reader::held` meets its contract, by the length of what is taken.
 use Rattle.reader.proofs.CallLaws.{held-laws as laws}
 use Rattle.reader.proofs.held as fn
 

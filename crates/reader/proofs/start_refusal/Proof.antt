@@ -1,4 +1,4 @@
--- `reader::start_refusal` meets its contract, by its tests in their order. Assumes nothing.
+-- `reader::start_refusal` meets its contract, by its tests in their order.
 use Rattle.reader.proofs.CallLaws.{start-refusal-laws as laws}
 use Rattle.reader.proofs.start_refusal as fn
 

@@ -1,4 +1,4 @@
--- `main` is safe: the text written lies within its buffer. Assumes nothing.
+-- `main` is safe: the text written lies within its buffer.
 use borrow.Author.Needs.{needs}
 use Rattle.text.proofs.TextLaws.{text-size}
 use Rattle.staffripple.proofs.main as fn
@@ -6,8 +6,6 @@ use Rattle.staffripple.proofs.main as fn
 ruleset laws = (needs, text-size)
 
 pub main-spec : {M : Type 1} → fn.Statement.statement M
-main-spec =
-    fn.Tie.close
-    (fn.Tie.spec
+main-spec = fn.Tie.close (fn.Tie.spec
     (λ c κs. search laws) (λ c. search laws) (λ c κs. search laws) (λ c. search laws) (λ c. search laws) (λ c. search laws) (λ c κs. search laws)
     (λ c. search laws) (λ c. search laws) (λ c κs. search laws) (λ c. search laws) (λ c κs. search laws) (λ c. search laws) (λ c. search laws))

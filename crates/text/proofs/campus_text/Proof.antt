@@ -1,10 +1,8 @@
--- `campus_text` meets its contract: an answer other than 49 says that the trace buffer was large enough. Assumes nothing.
+-- `campus_text` meets its contract: an answer other than 49 says that the trace buffer was large enough.
 use Rattle.text.proofs.TextLaws.{campus-text-laws as laws}
 use Rattle.text.proofs.campus_text as fn
 
 pub campus-text-spec : {M : Type 1} → fn.Statement.statement M
-campus-text-spec =
-    fn.Tie.close
-    (fn.Tie.spec
+campus-text-spec = fn.Tie.close (fn.Tie.spec
     (λ c. search laws) (λ c κs. search laws) (λ c κs. search laws) (λ c. search laws) (λ c. search laws) (λ c. search laws) (λ c κs. search laws)
     (λ c. search laws) (λ c. search laws))

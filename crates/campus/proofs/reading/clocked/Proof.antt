@@ -1,4 +1,4 @@
--- `reading::clocked` meets its contract, by the tag. Assumes nothing.
+-- `reading::clocked` meets its contract, by the tag.
 use Rattle.campus.proofs.ReadLaws.{clocked-laws as laws}
 use Rattle.campus.proofs.reading.clocked as fn
 

@@ -1,10 +1,8 @@
--- `reading::code_after` meets its contract: one law for each return. Assumes nothing.
+-- `reading::code_after` meets its contract: one law for each return.
 use Rattle.campus.proofs.ReadLaws.{code-after-laws as laws}
 use Rattle.campus.proofs.reading.code_after as fn
 
 pub code-after-spec : {M : Type 1} → fn.Statement.statement M
-code-after-spec =
-    fn.Tie.close
-    (fn.Tie.spec
+code-after-spec = fn.Tie.close (fn.Tie.spec
     (λ c. search laws) (λ c κs. search laws) (λ c. search laws) (λ c. search laws) (λ c. search laws) (λ c κs. search laws) (λ c. search laws)
     (λ c. search laws))

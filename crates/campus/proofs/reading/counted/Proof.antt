@@ -1,4 +1,4 @@
--- `reading::counted` meets its contract, by the tag. Assumes nothing.
+-- `reading::counted` meets its contract, by the tag.
 use Rattle.campus.proofs.ReadLaws.{counted-laws as laws}
 use Rattle.campus.proofs.reading.counted as fn
 

@@ -1,9 +1,7 @@
--- `received::in_any` meets its contract, by what the frame is read as. Assumes nothing.
+-- `received::in_any` meets its contract, by what the frame is read as.
 use Rattle.campus.proofs.RunLaws.{in-any-laws as laws}
 use Rattle.campus.proofs.received.in_any as fn
 
 pub in-any-spec : {M : Type 1} → fn.Statement.statement M
-in-any-spec =
-    fn.Tie.close
-    (fn.Tie.spec
+in-any-spec = fn.Tie.close (fn.Tie.spec
     (λ c κs. search laws) (λ c. search laws) (λ c. search laws) (λ c. search laws) (λ c κs. search laws) (λ c κs. search laws) (λ c. search laws))

@@ -1,4 +1,4 @@
--- `received::in_header` meets its contract: a frame that is readable is as long as its header says. Assumes nothing.
+-- `received::in_header` meets its contract: a frame that is readable is as long as its header says.
 use native.Mathlib.Omega.{arith}
 use Rattle.campus.proofs.RunLaws.{readable-long, in-header-laws as laws}
 use Rattle.campus.proofs.received.in_header as fn

@@ -1,4 +1,4 @@
--- `received::link_length` meets its contract, by the two octets where a tag may stand. Assumes nothing.
+-- `received::link_length` meets its contract, by the two octets where a tag may stand.
 use Rattle.campus.proofs.RunLaws.{link-length-laws as laws}
 use Rattle.campus.proofs.received.link_length as fn
 

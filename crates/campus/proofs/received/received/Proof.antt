@@ -1,4 +1,4 @@
--- `received::received` meets its contract: an answer above 11 says that the frame is readable. Assumes nothing.
+-- `received::received` meets its contract: an answer above 11 says that the frame is readable.
 use Rattle.campus.proofs.RunLaws.{received-laws as laws}
 use Rattle.campus.proofs.received.received as fn
 

@@ -1,4 +1,4 @@
--- `refusals::place_good` meets its contract, by the tag. Assumes nothing.
+-- `refusals::place_good` meets its contract, by the tag.
 use Rattle.campus.proofs.ReadLaws.{place-good-laws as laws}
 use Rattle.campus.proofs.refusals.place_good as fn
 

@@ -1,4 +1,4 @@
--- `running::front` meets its contract: a part that lies within has its length. Assumes nothing.
+-- `running::front` meets its contract: a part that lies within has its length.
 use Rattle.campus.proofs.QueueLaws.{front-laws as laws}
 use Rattle.campus.proofs.running.front as fn
 

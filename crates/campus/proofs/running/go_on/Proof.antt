@@ -1,4 +1,4 @@
--- `running::go_on` meets its contract, by one law for each need. Assumes nothing.
+-- `running::go_on` meets its contract, by one law for each need.
 use Rattle.campus.proofs.QueueLaws.{onward-laws as laws}
 use Rattle.campus.proofs.running.go_on as fn
 

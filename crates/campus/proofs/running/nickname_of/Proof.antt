@@ -1,9 +1,7 @@
--- `running::nickname_of` meets its contract, by one law for each need. Assumes nothing.
+-- `running::nickname_of` meets its contract, by one law for each need.
 use Rattle.campus.proofs.RunLaws.{nickname-of-laws as laws}
 use Rattle.campus.proofs.running.nickname_of as fn
 
 pub nickname-of-spec : {M : Type 1} → fn.Statement.statement M
-nickname-of-spec =
-    fn.Tie.close
-    (fn.Tie.spec
+nickname-of-spec = fn.Tie.close (fn.Tie.spec
     (λ c. search laws) (λ c. search laws) (λ c. search laws) (λ c. search laws) (λ c. search laws) (λ c. search laws))

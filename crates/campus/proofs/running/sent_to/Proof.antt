@@ -1,4 +1,4 @@
--- `running::sent_to` meets its contract, by one law for each way out. Assumes nothing.
+-- `running::sent_to` meets its contract, by one law for each way out.
 use Rattle.campus.proofs.QueueLaws.{sent-to-laws as laws}
 use Rattle.campus.proofs.running.sent_to as fn
 

@@ -1,4 +1,4 @@
--- `running::step` meets its contract, by one law for each need. Assumes nothing.
+-- `running::step` meets its contract, by one law for each need.
 use Rattle.campus.proofs.RunLaws.{step-laws as laws}
 use Rattle.campus.proofs.running.step as fn
 

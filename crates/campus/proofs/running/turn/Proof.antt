@@ -1,4 +1,4 @@
--- `running::turn` meets its contract, by one law for each need. Assumes nothing.
+-- `running::turn` meets its contract, by one law for each need.
 use Rattle.campus.proofs.RunLaws.{turn-onward, turn-laws as laws}
 use Rattle.campus.proofs.running.turn as fn
 

@@ -1,4 +1,4 @@
--- `switches::edition_2` meets its contract, by the invariant that the later switches have edition 1. Assumes nothing.
+-- `switches::edition_2` meets its contract, by the invariant that the later switches have edition 1.
 use Rattle.campus.proofs.StoresLaws.{Editions, edition-2-laws as laws}
 use Rattle.campus.proofs.switches.edition_2 as fn
 

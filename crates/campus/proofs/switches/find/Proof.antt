@@ -1,4 +1,4 @@
--- `switches::find` meets its contract, by the invariant that the switch is among the first i or nowhere. Assumes nothing.
+-- `switches::find` meets its contract, by the invariant that the switch is among the first i or nowhere.
 use Rattle.campus.proofs.StoresLaws.{Seeking, find-laws as laws}
 use Rattle.campus.proofs.switches.find as fn
 

@@ -3,9 +3,7 @@ use Rattle.handler.proofs.ChannelLaws.{channel-read-laws as laws}
 use Rattle.handler.proofs.channel.channel_read as fn
 
 pub channel-read-spec : {M : Type 1} → fn.Statement.statement M
-channel-read-spec =
-    fn.Tie.close
-    (fn.Tie.spec
+channel-read-spec = fn.Tie.close (fn.Tie.spec
     (λ c κs. search laws) (λ c κs. search laws) (λ c. search laws) (λ c. search laws) (λ c κs. search laws) (λ c κs. search laws) (λ c κs. search laws)
     (λ c. search laws) (λ c κs. search laws) (λ c. search laws) (λ c κs. search laws) (λ c. search laws) (λ c. search laws) (λ c κs. search laws)
     (λ c. search laws) (λ c. search laws) (λ c. search laws) (λ c. search laws) (λ c κs. search laws) (λ c. search laws))

@@ -3,7 +3,5 @@ use Rattle.handler.proofs.ChannelLaws.{echo-read-laws as laws}
 use Rattle.handler.proofs.channel.echo_read as fn
 
 pub echo-read-spec : {M : Type 1} → fn.Statement.statement M
-echo-read-spec =
-    fn.Tie.close
-    (fn.Tie.spec
+echo-read-spec = fn.Tie.close (fn.Tie.spec
     (λ c. search laws) (λ c. search laws) (λ c κs. search laws) (λ c κs. search laws) (λ c. search laws) (λ c. search laws) (λ c. search laws))

@@ -3,8 +3,6 @@ use Rattle.handler.proofs.ChannelLaws.{silenced-laws as laws}
 use Rattle.handler.proofs.channel.silenced as fn
 
 pub silenced-spec : {M : Type 1} → fn.Statement.statement M
-silenced-spec =
-    fn.Tie.close
-    (fn.Tie.spec
+silenced-spec = fn.Tie.close (fn.Tie.spec
     (λ c κs. search laws) (λ c. search laws) (λ c κs. search laws) (λ c κs. search laws) (λ c. search laws) (λ c κs. search laws) (λ c κs. search laws)
     (λ c. search laws) (λ c κs. search laws) (λ c. search laws))

@@ -5,8 +5,6 @@ use Rattle.handler.proofs.extension.flag_unsummarized as fn
 
 pub flag-unsummarized-spec : {M : Type 1} → fn.Statement.statement M
 unfolding flagUnsummarized
-flag-unsummarized-spec =
-    fn.Tie.close
-    (fn.Tie.spec
+flag-unsummarized-spec = fn.Tie.close (fn.Tie.spec
     (λ c. search laws) (λ c. search laws) (λ c. search laws) (λ c. search laws) (λ c. search laws) (λ c. search laws) (λ c. search laws) (λ c. search laws)
     (λ c. search laws) (λ c. search laws) (λ c. search laws) (λ c. search laws))

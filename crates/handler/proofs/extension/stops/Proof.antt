@@ -3,8 +3,6 @@ use Rattle.handler.proofs.ExtensionLaws.{stops-laws as laws}
 use Rattle.handler.proofs.extension.stops as fn
 
 pub stops-spec : {M : Type 1} → fn.Statement.statement M
-stops-spec =
-    fn.Tie.close
-    (fn.Tie.spec
+stops-spec = fn.Tie.close (fn.Tie.spec
     (λ c. search laws) (λ c. search laws) (λ c. search laws) (λ c. search laws) (λ c. search laws) (λ c. search laws) (λ c. search laws) (λ c. search laws)
     (λ c. search laws))

@@ -5,8 +5,6 @@ use Rattle.handler.proofs.extension.summary_bare as fn
 
 pub summary-bare-spec : {M : Type 1} → fn.Statement.statement M
 unfolding summaryBare
-summary-bare-spec =
-    fn.Tie.close
-    (fn.Tie.spec
+summary-bare-spec = fn.Tie.close (fn.Tie.spec
     (λ c. search laws) (λ c. search laws) (λ c. search laws) (λ c. search laws) (λ c. search laws) (λ c. search laws) (λ c. search laws) (λ c. search laws)
     (λ c. search laws) (λ c. search laws) (λ c. search laws) (λ c. search laws))

@@ -3,8 +3,6 @@ use Rattle.handler.proofs.Stages.{forward-laws as laws}
 use Rattle.handler.proofs.forward.forward_whole as fn
 
 pub forward-whole-spec : {M : Type 1} → fn.Statement.statement M
-forward-whole-spec =
-    fn.Tie.close
-    (fn.Tie.spec
+forward-whole-spec = fn.Tie.close (fn.Tie.spec
     (λ c. search laws) (λ c. search laws) (λ c. search laws) (λ c. search laws) (λ c. search laws) (λ c. search laws) (λ c. search laws) (λ c. search laws)
     (λ c. search laws) (λ c. search laws) (λ c. search laws) (λ c. search laws) (λ c. search laws) (λ c. search laws) (λ c. search laws) (λ c. search laws))

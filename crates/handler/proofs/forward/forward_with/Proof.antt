@@ -3,9 +3,7 @@ use Rattle.handler.proofs.Stages.{forward-laws as laws}
 use Rattle.handler.proofs.forward.forward_with as fn
 
 pub forward-with-spec : {M : Type 1} → fn.Statement.statement M
-forward-with-spec =
-    fn.Tie.close
-    (fn.Tie.spec
+forward-with-spec = fn.Tie.close (fn.Tie.spec
     (λ c. search laws) (λ c. search laws) (λ c. search laws) (λ c. search laws) (λ c. search laws) (λ c. search laws) (λ c. search laws) (λ c. search laws)
     (λ c. search laws) (λ c. search laws) (λ c. search laws) (λ c. search laws) (λ c. search laws) (λ c. search laws) (λ c. search laws) (λ c. search laws)
     (λ c. search laws) (λ c. search laws) (λ c. search laws) (λ c. search laws))

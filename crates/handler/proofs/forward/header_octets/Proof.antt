@@ -3,8 +3,6 @@ use borrow.Author.Needs.{needs}
 use Rattle.handler.proofs.forward.header_octets as fn
 
 pub header-octets-spec : {M : Type 1} → fn.Statement.statement M
-header-octets-spec =
-    fn.Tie.close
-    (fn.Tie.spec
+header-octets-spec = fn.Tie.close (fn.Tie.spec
     (λ c κs. search needs) (λ c κs. search needs) (λ c κs. search needs) (λ c κs. search needs) (λ c κs. search needs) (λ c κs. search needs)
     (λ c. cc))

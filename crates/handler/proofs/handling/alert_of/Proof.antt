@@ -3,8 +3,6 @@ use Rattle.handler.proofs.RouteLaws.{alert-of-laws as laws}
 use Rattle.handler.proofs.handling.alert_of as fn
 
 pub alert-of-spec : {M : Type 1} → fn.Statement.statement M
-alert-of-spec =
-    fn.Tie.close
-    (fn.Tie.spec
+alert-of-spec = fn.Tie.close (fn.Tie.spec
     (λ c. search laws) (λ c. search laws) (λ c. search laws) (λ c. search laws) (λ c. search laws) (λ c. search laws) (λ c. search laws) (λ c. search laws)
     (λ c. search laws) (λ c. search laws) (λ c. search laws))

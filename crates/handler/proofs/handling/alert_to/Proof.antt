@@ -5,8 +5,6 @@ use Rattle.handler.proofs.handling.alert_to as fn
 
 pub alert-to-spec : {M : Type 1} → fn.Statement.statement M
 unfolding alertTo
-alert-to-spec =
-    fn.Tie.close
-    (fn.Tie.spec
+alert-to-spec = fn.Tie.close (fn.Tie.spec
     (λ c. search laws) (λ c. search laws) (λ c. search laws) (λ c. search laws) (λ c. search laws) (λ c. search laws) (λ c. search laws) (λ c. search laws)
     (λ c. search laws) (λ c. search laws) (λ c. search laws) (λ c. search laws) (λ c. search laws) (λ c. search laws) (λ c. search laws))

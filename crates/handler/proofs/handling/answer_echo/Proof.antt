@@ -3,7 +3,5 @@ use Rattle.handler.proofs.TaskLaws.{answer-echo-laws as laws}
 use Rattle.handler.proofs.handling.answer_echo as fn
 
 pub answer-echo-spec : {M : Type 1} → fn.Statement.statement M
-answer-echo-spec =
-    fn.Tie.close
-    (fn.Tie.spec
+answer-echo-spec = fn.Tie.close (fn.Tie.spec
     (λ c. search laws) (λ c κs. search laws) (λ c κs. search laws) (λ c κs. search laws) (λ c. search laws) (λ c. search laws))

@@ -3,7 +3,5 @@ use Rattle.handler.proofs.RouteLaws.{channel-message-laws as laws}
 use Rattle.handler.proofs.handling.channel_message as fn
 
 pub channel-message-spec : {M : Type 1} → fn.Statement.statement M
-channel-message-spec =
-    fn.Tie.close
-    (fn.Tie.spec
+channel-message-spec = fn.Tie.close (fn.Tie.spec
     (λ c. search laws) (λ c. search laws) (λ c. search laws) (λ c. search laws) (λ c. search laws) (λ c. search laws) (λ c. search laws))

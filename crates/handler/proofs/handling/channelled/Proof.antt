@@ -5,9 +5,7 @@ use Rattle.handler.proofs.handling.channelled as fn
 
 pub channelled-spec : {M : Type 1} → fn.Statement.statement M
 unfolding channelled
-channelled-spec =
-    fn.Tie.close
-    (fn.Tie.spec
+channelled-spec = fn.Tie.close (fn.Tie.spec
     (λ c κs. search laws) (λ c. search laws) (λ c. search laws) (λ c. search laws) (λ c. search laws) (λ c. search laws) (λ c. search laws)
     (λ c. search laws) (λ c. search laws) (λ c. search laws) (λ c. search laws) (λ c. search laws) (λ c. search laws) (λ c. search laws) (λ c. search laws)
     (λ c. search laws) (λ c. search laws) (λ c. search laws) (λ c. search laws) (λ c. search laws) (λ c. search laws))

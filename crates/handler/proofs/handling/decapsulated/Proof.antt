@@ -3,9 +3,7 @@ use Rattle.handler.proofs.RouteLaws.{decapsulated-laws as laws}
 use Rattle.handler.proofs.handling.decapsulated as fn
 
 pub decapsulated-spec : {M : Type 1} → fn.Statement.statement M
-decapsulated-spec =
-    fn.Tie.close
-    (fn.Tie.spec
+decapsulated-spec = fn.Tie.close (fn.Tie.spec
     (λ c κs. search laws) (λ c. search laws) (λ c. search laws) (λ c. search laws) (λ c. search laws) (λ c. search laws) (λ c. search laws)
     (λ c. search laws) (λ c. search laws) (λ c. search laws) (λ c. search laws) (λ c. search laws) (λ c. search laws) (λ c. search laws) (λ c. search laws)
     (λ c. search laws) (λ c. search laws) (λ c. search laws) (λ c. search laws))

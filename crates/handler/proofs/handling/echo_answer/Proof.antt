@@ -1,4 +1,4 @@
--- `handling::echo_answer` meets its contract, by whether a reply is made. Assumes nothing.
+-- `handling::echo_answer` meets its contract, by whether a reply is made.
 use Rattle.handler.proofs.TaskLaws.{reply-answer-laws as laws}
 use Rattle.handler.proofs.handling.echo_answer as fn
 

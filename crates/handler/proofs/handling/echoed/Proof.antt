@@ -3,8 +3,6 @@ use Rattle.handler.proofs.StageLaws.{echoed-laws as laws}
 use Rattle.handler.proofs.handling.echoed as fn
 
 pub echoed-spec : {M : Type 1} → fn.Statement.statement M
-echoed-spec =
-    fn.Tie.close
-    (fn.Tie.spec
+echoed-spec = fn.Tie.close (fn.Tie.spec
     (λ c κs. search laws) (λ c. search laws) (λ c. search laws) (λ c. search laws) (λ c. search laws) (λ c κs. search laws) (λ c. search laws)
     (λ c κs. search laws) (λ c. search laws) (λ c. search laws) (λ c. search laws) (λ c κs. search laws) (λ c. search laws) (λ c. search laws))

@@ -1,4 +1,4 @@
--- `handling::error_answer` meets its contract, by whether a reply is made. Assumes nothing.
+-- `handling::error_answer` meets its contract, by whether a reply is made.
 use Rattle.handler.proofs.TaskLaws.{reply-answer-laws as laws}
 use Rattle.handler.proofs.handling.error_answer as fn
 

@@ -3,7 +3,5 @@ use Rattle.handler.proofs.RouteLaws.{read-laws as laws}
 use Rattle.handler.proofs.handling.read as fn
 
 pub read-spec : {M : Type 1} → fn.Statement.statement M
-read-spec =
-    fn.Tie.close
-    (fn.Tie.spec
+read-spec = fn.Tie.close (fn.Tie.spec
     (λ c. search laws) (λ c. search laws) (λ c. search laws) (λ c. search laws) (λ c κs. search laws) (λ c. search laws) (λ c. search laws))

@@ -3,8 +3,6 @@ use Rattle.handler.proofs.RouteLaws.{receive-laws as laws}
 use Rattle.handler.proofs.handling.receive as fn
 
 pub receive-spec : {M : Type 1} → fn.Statement.statement M
-receive-spec =
-    fn.Tie.close
-    (fn.Tie.spec
+receive-spec = fn.Tie.close (fn.Tie.spec
     (λ c. search laws) (λ c. search laws) (λ c. search laws) (λ c. search laws) (λ c. search laws) (λ c. search laws) (λ c. search laws) (λ c. search laws)
     (λ c. search laws) (λ c. search laws))

@@ -3,9 +3,7 @@ use Rattle.handler.proofs.RouteLaws.{route-laws as laws}
 use Rattle.handler.proofs.handling.route as fn
 
 pub route-spec : {M : Type 1} → fn.Statement.statement M
-route-spec =
-    fn.Tie.close
-    (fn.Tie.spec
+route-spec = fn.Tie.close (fn.Tie.spec
     (λ c. search laws) (λ c κs. search laws) (λ c. search laws) (λ c. search laws) (λ c. search laws) (λ c. search laws) (λ c. search laws)
     (λ c κs. search laws) (λ c. search laws) (λ c. search laws) (λ c. search laws) (λ c. search laws) (λ c. search laws) (λ c. search laws)
     (λ c. search laws) (λ c. search laws) (λ c. search laws) (λ c. search laws) (λ c. search laws) (λ c. search laws) (λ c. search laws))

@@ -3,8 +3,6 @@ use Rattle.handler.proofs.StageLaws.{send-stripped-laws as laws}
 use Rattle.handler.proofs.handling.send_stripped as fn
 
 pub send-stripped-spec : {M : Type 1} → fn.Statement.statement M
-send-stripped-spec =
-    fn.Tie.close
-    (fn.Tie.spec
+send-stripped-spec = fn.Tie.close (fn.Tie.spec
     (λ c. search laws) (λ c κs. search laws) (λ c. search laws) (λ c. search laws) (λ c. search laws) (λ c. search laws) (λ c κs. search laws)
     (λ c. search laws) (λ c. search laws) (λ c κs. search laws) (λ c. search laws) (λ c. search laws))

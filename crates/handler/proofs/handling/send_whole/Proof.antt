@@ -3,8 +3,6 @@ use Rattle.handler.proofs.StageLaws.{send-whole-laws as laws}
 use Rattle.handler.proofs.handling.send_whole as fn
 
 pub send-whole-spec : {M : Type 1} → fn.Statement.statement M
-send-whole-spec =
-    fn.Tie.close
-    (fn.Tie.spec
+send-whole-spec = fn.Tie.close (fn.Tie.spec
     (λ c. search laws) (λ c. search laws) (λ c. search laws) (λ c. search laws) (λ c. search laws) (λ c. search laws) (λ c κs. search laws)
     (λ c κs. search laws) (λ c. search laws) (λ c. search laws))

@@ -3,8 +3,6 @@ use Rattle.handler.proofs.StageLaws.{send-with-laws as laws}
 use Rattle.handler.proofs.handling.send_with as fn
 
 pub send-with-spec : {M : Type 1} → fn.Statement.statement M
-send-with-spec =
-    fn.Tie.close
-    (fn.Tie.spec
+send-with-spec = fn.Tie.close (fn.Tie.spec
     (λ c κs. search laws) (λ c. search laws) (λ c. search laws) (λ c. search laws) (λ c. search laws) (λ c. search laws) (λ c. search laws)
     (λ c. search laws) (λ c. search laws) (λ c κs. search laws) (λ c κs. search laws) (λ c. search laws) (λ c. search laws))

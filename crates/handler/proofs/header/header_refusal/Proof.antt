@@ -3,9 +3,7 @@ use Rattle.handler.proofs.Refusals.{refusal-laws as laws}
 use Rattle.handler.proofs.header.header_refusal as fn
 
 pub header-refusal-spec : {M : Type 1} → fn.Statement.statement M
-header-refusal-spec =
-    fn.Tie.close
-    (fn.Tie.spec
+header-refusal-spec = fn.Tie.close (fn.Tie.spec
     (λ c κs. search laws) (λ c. search laws) (λ c κs. search laws) (λ c. search laws) (λ c κs. search laws) (λ c. search laws) (λ c. search laws)
     (λ c. search laws) (λ c. search laws) (λ c. search laws) (λ c κs. search laws) (λ c. search laws) (λ c κs. search laws) (λ c. search laws)
     (λ c. search laws))

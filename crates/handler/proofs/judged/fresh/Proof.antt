@@ -5,9 +5,7 @@ use Rattle.handler.proofs.JudgeLaws.{uncovered}
 use Rattle.handler.proofs.judged.fresh as fn
 
 pub fresh-spec : {M : Type 1} → fn.Statement.statement M
-fresh-spec =
-    fn.Tie.close
-    (fn.Tie.spec
+fresh-spec = fn.Tie.close (fn.Tie.spec
     (λ c.
     let start = c .before .before .before in
     ap not (sym (start .pre .1 (uncovered (start .args .old) (start .args .mark) (c .before .if1 .taken) (c .if2 .taken)))))

@@ -3,8 +3,6 @@ use Rattle.handler.proofs.ScanLaws.{judge-laws as laws}
 use Rattle.handler.proofs.judged.judge as fn
 
 pub judge-spec : {M : Type 1} → fn.Statement.statement M
-judge-spec =
-    fn.Tie.close
-    (fn.Tie.spec
+judge-spec = fn.Tie.close (fn.Tie.spec
     (λ c. search laws) (λ c. search laws) (λ c. search laws) (λ c. search laws) (λ c. search laws) (λ c. search laws) (λ c. search laws) (λ c. search laws)
     (λ c. search laws) (λ c. search laws) (λ c. search laws) (λ c κs. search laws) (λ c. search laws) (λ c. search laws))

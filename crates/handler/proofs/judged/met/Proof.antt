@@ -13,8 +13,6 @@ abbrev μ-loop : fn.Tie.MeasureT-loop
 μ-loop keys n key found₀ i₀ found i = n - i
 
 pub met-spec : {M : Type 1} → fn.Statement.statement M
-met-spec =
-    fn.Tie.close
-    (fn.Tie.spec
+met-spec = fn.Tie.close (fn.Tie.spec
     Inv-loop μ-loop (λ c. search laws) (λ c. search laws) (λ c. search laws) (λ c κs. search laws) (λ c. search laws) (λ c. search laws)
     (λ c. search laws) (λ c. search laws))

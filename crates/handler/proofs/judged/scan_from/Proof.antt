@@ -11,9 +11,7 @@ abbrev μ-loop : fn.Tie.MeasureT-loop
 μ-loop s from d keys₀ seen₀ n₀ best₀ flags₀ at₀ keys seen n best flags at = length s - at
 
 pub scan-from-spec : {M : Type 1} → fn.Statement.statement M
-scan-from-spec =
-    fn.Tie.close
-    (fn.Tie.spec
+scan-from-spec = fn.Tie.close (fn.Tie.spec
     Inv-loop μ-loop (λ c. search laws) (λ c κs. search laws) (λ c. search laws) (λ c. search laws) (λ c κs. search laws) (λ c. search laws)
     (λ c. search laws) (λ c. search laws) (λ c. search laws) (λ c. search laws) (λ c. search laws) (λ c. search laws) (λ c κs. search laws)
     (λ c κs. search laws) (λ c. search laws) (λ c. search laws) (λ c κs. search laws) (λ c. search laws) (λ c. search laws) (λ c κs. search laws)

@@ -3,9 +3,7 @@ use Rattle.handler.proofs.Walks.{option-at-laws as laws}
 use Rattle.handler.proofs.options.option_at as fn
 
 pub option-at-spec : {M : Type 1} → fn.Statement.statement M
-option-at-spec =
-    fn.Tie.close
-    (fn.Tie.spec
+option-at-spec = fn.Tie.close (fn.Tie.spec
     (λ c κs. search laws) (λ c κs. search laws) (λ c. search laws) (λ c κs. search laws) (λ c. search laws) (λ c. search laws) (λ c κs. search laws)
     (λ c. search laws) (λ c. search laws) (λ c. search laws) (λ c. search laws) (λ c. search laws) (λ c. search laws) (λ c κs. search laws)
     (λ c κs. search laws) (λ c. search laws) (λ c. search laws) (λ c. search laws))

@@ -3,8 +3,6 @@ use Rattle.handler.proofs.Strips.{strip-area-laws as laws}
 use Rattle.handler.proofs.options.strip_area as fn
 
 pub strip-area-spec : {M : Type 1} → fn.Statement.statement M
-strip-area-spec =
-    fn.Tie.close
-    (fn.Tie.spec
+strip-area-spec = fn.Tie.close (fn.Tie.spec
     (λ c. search laws) (λ c κs. search laws) (λ c κs. search laws) (λ c. search laws) (λ c κs. search laws) (λ c. search laws) (λ c. search laws)
     (λ c. search laws))

@@ -11,9 +11,7 @@ abbrev μ-loop : fn.Tie.MeasureT-loop
 μ-loop area table out₀ from at₀ to₀ out at to = length area - at
 
 pub strip-options-spec : {M : Type 1} → fn.Statement.statement M
-strip-options-spec =
-    fn.Tie.close
-    (fn.Tie.spec
+strip-options-spec = fn.Tie.close (fn.Tie.spec
     Inv-loop μ-loop (λ c. search laws) (λ c κs. search laws) (λ c κs. search laws) (λ c κs. search laws) (λ c κs. search laws) (λ c. search laws)
     (λ c. search laws) (λ c. search laws) (λ c κs. search laws) (λ c. search laws) (λ c. search laws) (λ c. search laws) (λ c κs. search laws)
     (λ c. search laws) (λ c. search laws) (λ c. search laws) (λ c. search laws))

@@ -3,8 +3,6 @@ use Rattle.handler.proofs.Walks.{summarized-laws as laws}
 use Rattle.handler.proofs.options.summarized as fn
 
 pub summarized-spec : {M : Type 1} → fn.Statement.statement M
-summarized-spec =
-    fn.Tie.close
-    (fn.Tie.spec
+summarized-spec = fn.Tie.close (fn.Tie.spec
     (λ c. search laws) (λ c. search laws) (λ c. search laws) (λ c κs. search laws) (λ c κs. search laws) (λ c. search laws) (λ c κs. search laws)
     (λ c κs. search laws) (λ c. search laws) (λ c. search laws))

@@ -11,8 +11,6 @@ abbrev μ-loop : fn.Tie.MeasureT-loop
 μ-loop area table c₀ c = length area - c .at
 
 pub walk-area-spec : {M : Type 1} → fn.Statement.statement M
-walk-area-spec =
-    fn.Tie.close
-    (fn.Tie.spec
+walk-area-spec = fn.Tie.close (fn.Tie.spec
     Inv-loop μ-loop (λ c. search laws) (λ c κs. search laws) (λ c. search laws) (λ c. search laws) (λ c. search laws) (λ c. search laws)
     (λ c. search laws) (λ c. search laws))

@@ -3,8 +3,6 @@ use Rattle.handler.proofs.Stages.{cited-laws as laws}
 use Rattle.handler.proofs.reply.cited as fn
 
 pub cited-spec : {M : Type 1} → fn.Statement.statement M
-cited-spec =
-    fn.Tie.close
-    (fn.Tie.spec
+cited-spec = fn.Tie.close (fn.Tie.spec
     (λ c. search laws) (λ c. search laws) (λ c. search laws) (λ c. search laws) (λ c. search laws) (λ c. search laws) (λ c. search laws) (λ c. search laws)
     (λ c. search laws) (λ c. search laws) (λ c. search laws))

@@ -3,8 +3,6 @@ use Rattle.handler.proofs.Stages.{reply-octets-laws as laws}
 use Rattle.handler.proofs.reply.reply_octets as fn
 
 pub reply-octets-spec : {M : Type 1} → fn.Statement.statement M
-reply-octets-spec =
-    fn.Tie.close
-    (fn.Tie.spec
+reply-octets-spec = fn.Tie.close (fn.Tie.spec
     (λ c κs. search laws) (λ c κs. search laws) (λ c κs. search laws) (λ c κs. search laws) (λ c κs. search laws) (λ c. search laws) (λ c. search laws)
     (λ c. search laws) (λ c. search laws) (λ c. search laws) (λ c. search laws) (λ c κs. search laws) (λ c κs. search laws) (λ c. search laws))

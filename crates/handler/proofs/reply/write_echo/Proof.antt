@@ -3,8 +3,6 @@ use Rattle.handler.proofs.Stages.{write-echo-laws as laws}
 use Rattle.handler.proofs.reply.write_echo as fn
 
 pub write-echo-spec : {M : Type 1} → fn.Statement.statement M
-write-echo-spec =
-    fn.Tie.close
-    (fn.Tie.spec
+write-echo-spec = fn.Tie.close (fn.Tie.spec
     (λ c κs. search laws) (λ c. search laws) (λ c κs. search laws) (λ c. search laws) (λ c κs. search laws) (λ c. search laws) (λ c. search laws)
     (λ c. search laws) (λ c. search laws))

@@ -3,8 +3,6 @@ use Rattle.handler.proofs.Stages.{write-echo-body-laws as laws}
 use Rattle.handler.proofs.reply.write_echo_body as fn
 
 pub write-echo-body-spec : {M : Type 1} → fn.Statement.statement M
-write-echo-body-spec =
-    fn.Tie.close
-    (fn.Tie.spec
+write-echo-body-spec = fn.Tie.close (fn.Tie.spec
     (λ c κs. search laws) (λ c κs. search laws) (λ c. search laws) (λ c κs. search laws) (λ c. search laws) (λ c κs. search laws) (λ c. search laws)
     (λ c. search laws))

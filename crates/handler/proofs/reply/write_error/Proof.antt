@@ -3,8 +3,6 @@ use Rattle.handler.proofs.Stages.{write-error-laws as laws}
 use Rattle.handler.proofs.reply.write_error as fn
 
 pub write-error-spec : {M : Type 1} → fn.Statement.statement M
-write-error-spec =
-    fn.Tie.close
-    (fn.Tie.spec
+write-error-spec = fn.Tie.close (fn.Tie.spec
     (λ c κs. search laws) (λ c. search laws) (λ c κs. search laws) (λ c κs. search laws) (λ c. search laws) (λ c κs. search laws) (λ c. search laws)
     (λ c. search laws) (λ c. search laws) (λ c. search laws))

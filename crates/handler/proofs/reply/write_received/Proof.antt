@@ -3,8 +3,6 @@ use Rattle.handler.proofs.Stages.{write-received-laws as laws}
 use Rattle.handler.proofs.reply.write_received as fn
 
 pub write-received-spec : {M : Type 1} → fn.Statement.statement M
-write-received-spec =
-    fn.Tie.close
-    (fn.Tie.spec
+write-received-spec = fn.Tie.close (fn.Tie.spec
     (λ c κs. search laws) (λ c. search laws) (λ c. search laws) (λ c. search laws) (λ c. search laws) (λ c κs. search laws) (λ c. search laws)
     (λ c. search laws))

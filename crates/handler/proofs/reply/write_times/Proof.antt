@@ -3,8 +3,6 @@ use Rattle.handler.proofs.Stages.{write-times-laws as laws}
 use Rattle.handler.proofs.reply.write_times as fn
 
 pub write-times-spec : {M : Type 1} → fn.Statement.statement M
-write-times-spec =
-    fn.Tie.close
-    (fn.Tie.spec
+write-times-spec = fn.Tie.close (fn.Tie.spec
     (λ c. search laws) (λ c. search laws) (λ c. search laws) (λ c κs. search laws) (λ c. search laws) (λ c κs. search laws) (λ c. search laws)
     (λ c. search laws))

@@ -3,8 +3,6 @@ use Rattle.handler.proofs.StoreLaws.{store-good-laws as laws}
 use Rattle.handler.proofs.store.good as fn
 
 pub good-spec : {M : Type 1} → fn.Statement.statement M
-good-spec =
-    fn.Tie.close
-    (fn.Tie.spec
+good-spec = fn.Tie.close (fn.Tie.spec
     (λ c. search laws) (λ c. search laws) (λ c. search laws) (λ c. search laws) (λ c. search laws) (λ c. search laws) (λ c. search laws) (λ c. search laws)
     (λ c. search laws) (λ c. search laws) (λ c. search laws))

@@ -3,8 +3,6 @@ use Rattle.handler.proofs.StoreLaws.{hint-at-laws as laws}
 use Rattle.handler.proofs.store.hint_at as fn
 
 pub hint-at-spec : {M : Type 1} → fn.Statement.statement M
-hint-at-spec =
-    fn.Tie.close
-    (fn.Tie.spec
+hint-at-spec = fn.Tie.close (fn.Tie.spec
     (λ c. search laws) (λ c. search laws) (λ c. search laws) (λ c. search laws) (λ c. search laws) (λ c. search laws) (λ c. search laws)
     (λ c κs. search laws) (λ c. search laws))

@@ -3,8 +3,6 @@ use Rattle.handler.proofs.StoreLaws.{hop-for-laws as laws}
 use Rattle.handler.proofs.store.hop_for as fn
 
 pub hop-for-spec : {M : Type 1} → fn.Statement.statement M
-hop-for-spec =
-    fn.Tie.close
-    (fn.Tie.spec
+hop-for-spec = fn.Tie.close (fn.Tie.spec
     (λ c. search laws) (λ c κs. search laws) (λ c. search laws) (λ c. search laws) (λ c. search laws) (λ c. search laws) (λ c. search laws)
     (λ c. search laws) (λ c. search laws) (λ c. search laws) (λ c. search laws) (λ c κs. search laws) (λ c. search laws) (λ c. search laws))

@@ -3,8 +3,6 @@ use Rattle.handler.proofs.StoreLaws.{last-at-laws as laws}
 use Rattle.handler.proofs.store.last_at as fn
 
 pub last-at-spec : {M : Type 1} → fn.Statement.statement M
-last-at-spec =
-    fn.Tie.close
-    (fn.Tie.spec
+last-at-spec = fn.Tie.close (fn.Tie.spec
     (λ c. search laws) (λ c κs. search laws) (λ c. search laws) (λ c. search laws) (λ c. search laws) (λ c. search laws) (λ c κs. search laws)
     (λ c. search laws))

@@ -3,7 +3,5 @@ use Rattle.handler.proofs.StoreLaws.{step-laws as laws}
 use Rattle.handler.proofs.store.step as fn
 
 pub step-spec : {M : Type 1} → fn.Statement.statement M
-step-spec =
-    fn.Tie.close
-    (fn.Tie.spec
+step-spec = fn.Tie.close (fn.Tie.spec
     (λ c. search laws) (λ c. search laws) (λ c. search laws) (λ c κs. search laws) (λ c. search laws) (λ c. search laws) (λ c. search laws))

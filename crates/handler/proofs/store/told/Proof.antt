@@ -1,4 +1,4 @@
--- `store::told` meets its contract, field by field. Assumes nothing.
+-- `store::told` meets its contract, field by field.
 use Rattle.handler.proofs.StoreLaws.{store-told-laws as laws}
 use Rattle.handler.proofs.store.told as fn
 

@@ -3,8 +3,6 @@ use Rattle.handler.proofs.Stages.{write-link-laws as laws}
 use Rattle.handler.proofs.way.write_link as fn
 
 pub write-link-spec : {M : Type 1} → fn.Statement.statement M
-write-link-spec =
-    fn.Tie.close
-    (fn.Tie.spec
+write-link-spec = fn.Tie.close (fn.Tie.spec
     (λ c κs. search laws) (λ c. search laws) (λ c κs. search laws) (λ c. search laws) (λ c. search laws) (λ c κs. search laws) (λ c. search laws)
     (λ c κs. search laws) (λ c. search laws) (λ c. search laws))

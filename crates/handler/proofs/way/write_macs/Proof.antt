@@ -3,8 +3,6 @@ use Rattle.handler.proofs.Stages.{write-macs-laws as laws}
 use Rattle.handler.proofs.way.write_macs as fn
 
 pub write-macs-spec : {M : Type 1} → fn.Statement.statement M
-write-macs-spec =
-    fn.Tie.close
-    (fn.Tie.spec
+write-macs-spec = fn.Tie.close (fn.Tie.spec
     (λ c κs. search laws) (λ c. search laws) (λ c κs. search laws) (λ c κs. search laws) (λ c. search laws) (λ c κs. search laws) (λ c. search laws)
     (λ c. search laws))

@@ -1,4 +1,4 @@
--- `values::flag_tag` meets its contract, by the tag. Assumes nothing.
+-- `values::flag_tag` meets its contract, by the tag.
 use Rattle.octets.specs.Flags.{flagTag}
 use Rattle.octets.proofs.Cases.{test-laws as laws}
 use Rattle.octets.proofs.values.flag_tag as fn

@@ -1,4 +1,4 @@
--- `values::flag_value` meets its contract, by the tag. Assumes nothing.
+-- `values::flag_value` meets its contract, by the tag.
 use Rattle.octets.proofs.FlagLaws.{flag-value-laws as laws}
 use Rattle.octets.proofs.values.flag_value as fn
 

@@ -1,4 +1,4 @@
--- `values::hop_size` meets its contract, by its tests in their order. Assumes nothing.
+-- `values::hop_size` meets its contract, by its tests in their order.
 use Rattle.octets.proofs.Cases.{test-laws as laws}
 use Rattle.octets.proofs.values.hop_size as fn
 

@@ -1,9 +1,7 @@
--- `values::mac_good` meets its contract, by one law of `macGood` for each way out. Assumes nothing.
+-- `values::mac_good` meets its contract, by one law of `macGood` for each way out.
 use Rattle.octets.proofs.Macs.{mac-good-laws as laws}
 use Rattle.octets.proofs.values.mac_good as fn
 
 pub mac-good-spec : {M : Type 1} → fn.Statement.statement M
-mac-good-spec =
-    fn.Tie.close
-    (fn.Tie.spec
+mac-good-spec = fn.Tie.close (fn.Tie.spec
     (λ c κs. search laws) (λ c. search laws) (λ c. search laws) (λ c. search laws) (λ c κs. search laws) (λ c. search laws))

@@ -1,4 +1,4 @@
--- `values::nickname_valid` meets its contract, by its tests in their order. Assumes nothing.
+-- `values::nickname_valid` meets its contract, by its tests in their order.
 use Rattle.octets.proofs.Macs.{nickname-valid-laws as laws}
 use Rattle.octets.proofs.values.nickname_valid as fn
 

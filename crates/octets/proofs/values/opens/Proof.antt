@@ -1,6 +1,5 @@
--- `values::opens` meets its contract, by its tests in their order. Assumes nothing.
-use Rattle.rules.specs.Fields.{lengthGood}
-use Rattle.rules.specs.Settings.{opens}
+-- `values::opens` meets its contract, by its tests in their order.
+use Rattle.rules.specs.{Fields.lengthGood, Settings.opens}
 use Rattle.octets.proofs.Cases.{test-laws as laws}
 use Rattle.octets.proofs.values.opens as fn
 

@@ -1,4 +1,4 @@
--- `values::switch_good` meets its contract, by its tests in their order. Assumes nothing.
+-- `values::switch_good` meets its contract, by its tests in their order.
 use Rattle.octets.proofs.Macs.{switch-good-laws as laws}
 use Rattle.octets.proofs.values.switch_good as fn
 

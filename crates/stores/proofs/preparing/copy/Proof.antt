@@ -1,4 +1,4 @@
--- `preparing::copy` meets its contract. The invariant: the first i words are written. Assumes nothing.
+-- `preparing::copy` meets its contract. The invariant: the first i words are written.
 use mathlib.Core.Path.{_≡_}
 use Prim.Native.Nat.{_-_, _≤_}
 use lib.ListN.{length}
@@ -13,9 +13,7 @@ abbrev μ-loop : fn.Tie.MeasureT-loop
 μ-loop store₀ w i₀ store i = length w - i
 
 pub copy-spec : {M : Type 1} → fn.Statement.statement M
-copy-spec =
-    fn.Tie.close
-    (fn.Tie.spec
+copy-spec = fn.Tie.close (fn.Tie.spec
     Inv-loop
     μ-loop
     (λ c. search laws) (λ c. search laws) (λ c. search laws) (λ c. search laws) (λ c. search laws) (λ c. search laws) (λ c. search laws) (λ c. search laws)

@@ -1,4 +1,4 @@
--- `preparing::extend` meets its contract, by the tag. Assumes nothing.
+-- `preparing::extend` meets its contract, by the tag.
 use Rattle.stores.proofs.PrepareLaws.{extend-laws as laws}
 use Rattle.stores.proofs.preparing.extend as fn
 

@@ -1,9 +1,7 @@
--- `preparing::fill` meets its contract: hints change nothing of what the words stand for. Assumes nothing.
+-- `preparing::fill` meets its contract: hints change nothing of what the words stand for.
 use Rattle.stores.proofs.PrepareLaws.{fill-laws as laws}
 use Rattle.stores.proofs.preparing.fill as fn
 
 pub fill-spec : {M : Type 1} → fn.Statement.statement M
-fill-spec =
-    fn.Tie.close
-    (fn.Tie.spec
+fill-spec = fn.Tie.close (fn.Tie.spec
     (λ c κs. search laws) (λ c. search laws) (λ c. search laws) (λ c κs. search laws) (λ c. search laws) (λ c. search laws))

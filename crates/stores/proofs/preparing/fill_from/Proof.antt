@@ -1,4 +1,4 @@
--- `preparing::fill_from` meets its contract. The invariant: the words stand for what was read, and the fields from `at` on decide as all do. Assumes nothing.
+-- `preparing::fill_from` meets its contract. The invariant: the words stand for what was read, and the fields from `at` on decide as all do.
 use Prim.Native.Nat.{_-_}
 use lib.ListN.{length}
 use Rattle.stores.proofs.PrepareLaws.{Filling, fill-from-laws as laws}
@@ -11,9 +11,7 @@ abbrev μ-loop : fn.Tie.MeasureT-loop
 μ-loop s from w₀ at₀ w at = length s - at
 
 pub fill-from-spec : {M : Type 1} → fn.Statement.statement M
-fill-from-spec =
-    fn.Tie.close
-    (fn.Tie.spec
+fill-from-spec = fn.Tie.close (fn.Tie.spec
     Inv-loop
     μ-loop
     (λ c. search laws) (λ c κs. search laws) (λ c. search laws) (λ c. search laws) (λ c. search laws) (λ c. search laws) (λ c. search laws)

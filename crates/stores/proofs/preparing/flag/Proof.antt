@@ -1,9 +1,7 @@
--- `preparing::flag` meets its contract, by one law for each way out. Assumes nothing.
+-- `preparing::flag` meets its contract, by one law for each way out.
 use Rattle.stores.proofs.PrepareLaws.{flag-laws as laws}
 use Rattle.stores.proofs.preparing.flag as fn
 
 pub flag-spec : {M : Type 1} → fn.Statement.statement M
-flag-spec =
-    fn.Tie.close
-    (fn.Tie.spec
+flag-spec = fn.Tie.close (fn.Tie.spec
     (λ c. search laws) (λ c. search laws) (λ c. search laws) (λ c. search laws) (λ c. search laws) (λ c. search laws) (λ c. search laws) (λ c. search laws))

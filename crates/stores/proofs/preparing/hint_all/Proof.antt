@@ -1,4 +1,4 @@
--- `preparing::hint_all` meets its contract. The invariant: no word before the hints has moved. Assumes nothing.
+-- `preparing::hint_all` meets its contract. The invariant: no word before the hints has moved.
 use Prim.Native.Nat.{_-_}
 use Rattle.stores.specs.Store.{Hinted}
 use Rattle.stores.proofs.PrepareLaws.{hint-all-laws as laws}
@@ -11,9 +11,7 @@ abbrev μ-loop : fn.Tie.MeasureT-loop
 μ-loop w₀ n i₀ w i = n - i
 
 pub hint-all-spec : {M : Type 1} → fn.Statement.statement M
-hint-all-spec =
-    fn.Tie.close
-    (fn.Tie.spec
+hint-all-spec = fn.Tie.close (fn.Tie.spec
     Inv-loop
     μ-loop
     (λ c. search laws) (λ c. search laws) (λ c. search laws) (λ c. search laws) (λ c. search laws) (λ c. search laws) (λ c. search laws) (λ c. search laws)

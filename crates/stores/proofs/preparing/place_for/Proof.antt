@@ -1,4 +1,4 @@
--- `preparing::place_for` meets its contract. The invariant: the place is among the first i records. Assumes nothing.
+-- `preparing::place_for` meets its contract. The invariant: the place is among the first i records.
 use Rattle.stores.proofs.PrepareLaws.{Placing, place-for-laws as laws}
 use Rattle.stores.proofs.preparing.place_for as fn
 
@@ -9,9 +9,7 @@ abbrev μ-loop : fn.Tie.MeasureT-loop
 μ-loop w n rank i₀ i = i
 
 pub place-for-spec : {M : Type 1} → fn.Statement.statement M
-place-for-spec =
-    fn.Tie.close
-    (fn.Tie.spec
+place-for-spec = fn.Tie.close (fn.Tie.spec
     Inv-loop
     μ-loop
     (λ c. search laws) (λ c. search laws) (λ c. search laws) (λ c. search laws) (λ c. search laws) (λ c. search laws) (λ c. search laws) (λ c. search laws)

@@ -1,4 +1,4 @@
--- `preparing::shift` meets its contract. The invariant: the words from i on are moved. Assumes nothing.
+-- `preparing::shift` meets its contract. The invariant: the words from i on are moved.
 use Rattle.stores.proofs.PrepareLaws.{Moving, shift-laws as laws}
 use Rattle.stores.proofs.preparing.shift as fn
 
@@ -9,9 +9,7 @@ abbrev μ-loop : fn.Tie.MeasureT-loop
 μ-loop w₀ from to i₀ w i = i
 
 pub shift-spec : {M : Type 1} → fn.Statement.statement M
-shift-spec =
-    fn.Tie.close
-    (fn.Tie.spec
+shift-spec = fn.Tie.close (fn.Tie.spec
     Inv-loop
     μ-loop
     (λ c. search laws) (λ c. search laws) (λ c. search laws) (λ c. search laws) (λ c. search laws) (λ c. search laws) (λ c. search laws) (λ c. search laws)

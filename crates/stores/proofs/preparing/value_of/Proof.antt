@@ -1,4 +1,4 @@
--- `preparing::value_of` meets its contract: the neighbour below the MAC. Assumes nothing.
+-- `preparing::value_of` meets its contract: the neighbour below the MAC.
 use Rattle.stores.proofs.PrepareLaws.{value-of-laws as laws}
 use Rattle.stores.proofs.preparing.value_of as fn
 

@@ -1,4 +1,4 @@
--- `printing::hex_digit` meets its contract, by the law of each case. Assumes nothing.
+-- `printing::hex_digit` meets its contract, by the law of each case.
 use Rattle.text.proofs.PrintLaws.{hex-digit-laws as laws}
 use Rattle.text.proofs.printing.hex_digit as fn
 

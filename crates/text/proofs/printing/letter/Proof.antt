@@ -1,4 +1,4 @@
--- `printing::letter` meets its contract, by the law of each case. Assumes nothing.
+-- `printing::letter` meets its contract, by the law of each case.
 use Rattle.text.proofs.PrintLaws.{letter-laws as laws}
 use Rattle.text.proofs.printing.letter as fn
 

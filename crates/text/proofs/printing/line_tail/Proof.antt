@@ -1,11 +1,9 @@
--- `printing::line_tail` meets its contract, octet by octet. Assumes nothing.
+-- `printing::line_tail` meets its contract, octet by octet.
 use borrow.Author.Needs.{needs}
 use Rattle.text.proofs.printing.line_tail as fn
 
 pub line-tail-spec : {M : Type 1} → fn.Statement.statement M
-line-tail-spec =
-    fn.Tie.close
-    (fn.Tie.spec
+line-tail-spec = fn.Tie.close (fn.Tie.spec
     (λ c. search needs) (λ c κs. search needs) (λ c. search needs) (λ c κs. search needs) (λ c. search needs) (λ c κs. search needs) (λ c. search needs)
     (λ c κs. search needs) (λ c. search needs) (λ c κs. search needs) (λ c. search needs) (λ c κs. search needs)
     (λ c. cc))
