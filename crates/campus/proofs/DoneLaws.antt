@@ -14,11 +14,10 @@ use lib.ListN.{length, take, drop, replicate, length-take, length-drop, length-r
 use Rattle.rules.specs as rules
 use rules.{Octets.be16, Octets.part, Demand.repliesIn, Demand.singleRun}
 use rules.Settings.{Settings, Ways, waysOf}
-use rules.Campus.{Described, switchNamed, original, runFrom, handlingsMost, plainRun, clockOf, someEdition2, traceNeeded, accepted, described}
-use rules.Campus.{refusal, campus, traceAfter}
+use rules.Campus.{Described, switchNamed, original, runFrom, handlingsMost, plainRun, clockOf, someEdition2, traceNeeded, accepted, described, refusal}
+use rules.Campus.{campus, traceAfter}
 use Rattle.rules.proofs as ruleLaws
-use ruleLaws.{TestLaws.by-test, OctetLaws.put-none, OctetLaws.put-front, RunLaws.named-nickname, RunLaws.few-replies, RunLaws.named-member}
-use ruleLaws.{StepLaws.hop-most}
+use ruleLaws.{TestLaws.by-test, OctetLaws.put-none, OctetLaws.put-front, RunLaws.named-nickname, RunLaws.few-replies, RunLaws.named-member, StepLaws.hop-most}
 use ruleLaws.DescriptionLaws.{Accepted, accepted-good}
 use ruleLaws.OutcomeLaws.{campus-short, campus-refused, campus-needed, campus-accepted}
 use ruleLaws.DemandLaws.{plain-run, plain-most, plain-room, demand}

@@ -25,8 +25,7 @@ use specs.declared.switches.Named.the-variants.{At, Nowhere}
 use specs.declared.running.{At.At as Place, Onward.Onward}
 use specs.declared.running.Onward.the-variants.{To, Ends}
 use specs.{Stores.settingsAt, Stores.switchesIn, Stores.numberIn, Stores.Sound, Steps.kindBy}
-use specs.Queue.{waitingBy, slotOctets, Free, Slot, Held, Queue, Waits, repliesBy, WaitReady, sentTo, onwardBy, NextReady, Leads}
-use specs.Queue.{OnwardReady, Onwarded}
+use specs.Queue.{waitingBy, slotOctets, Free, Slot, Held, Queue, Waits, repliesBy, WaitReady, sentTo, onwardBy, NextReady, Leads, OnwardReady, Onwarded}
 use Rattle.campus.proofs.StoresLaws.{lent, named-none, named-some}
 
 -- a part of a buffer written at a place: before it, and there

@@ -14,8 +14,8 @@ use Rattle.rules.specs as rules
 use rules.Octets.{if_then_else_, be16, part}
 use rules.Fields.{field, lengthGood, Field, cut, fieldAt, fieldsFrom, fields}
 use rules.Settings.{Settings, switchOf, opens, switchGood, hopOf, serialMet, withField}
-use rules.Campus.{switchNamed, known, placeGood, valueGood, nicknameNew, roomGood, serialNew, entryKnown, fieldRefusal, withNext, Described}
-use rules.Campus.{onLatest, refused, describedFrom, described, fileMost}
+use rules.Campus.{switchNamed, known, placeGood, valueGood, nicknameNew, roomGood, serialNew, entryKnown, fieldRefusal, withNext, Described, onLatest}
+use rules.Campus.{refused, describedFrom, described, fileMost}
 use rules.declared.FieldRead.{FieldRead}
 use rules.declared.FieldRead.the-variants.{Taken, Cut}
 use Rattle.rules.proofs.{TestLaws.by-test, TestLaws.and-yes, FrameLaws.none-given, OctetLaws.length-part, Taken.taken}
@@ -29,8 +29,7 @@ use specs.Places.{placeBy, countedBy, between, clockAt, entryValue, codeAfter, c
 use specs.Stores.{knownIn, endOf, spanOf, Kept, Stores, PartOpens, PartExtends, soFar, OfSettings, Took, wordsFor, ReadDone}
 use specs.declared.reading.Reading.{Reading}
 use Rattle.campus.proofs
-use proofs.StoresLaws.{end-is, part-long, stores-opened, latest-ample, stores-extended, known-is, span-none, span-more, span-most}
-use proofs.StoresLaws.{stores-sound}
+use proofs.StoresLaws.{end-is, part-long, stores-opened, latest-ample, stores-extended, known-is, span-none, span-more, span-most, stores-sound}
 
 -- the number of switches, and the place of the clock
 module _ (n tag : ℕ) where

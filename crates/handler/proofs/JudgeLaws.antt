@@ -1,7 +1,6 @@
 -- The keys met, the filter in front of them, and what the loop over the settings fields keeps, from the first field to the verdict: the records
 -- read so far and the keys met agree, and the rest of the fields decides as the whole does. By induction on the keys, by cases on tests, and by one
 -- law of fields and of settings for each step.
-use Rattle.handler.proofs.Stages.{by-equal}
 use mathlib.Core.Path.{_≡_, refl, sym, _∙_}
 use mathlib.Core.List.{List, [], _∷_, _++_}
 use mathlib.Core.Option.{Option}
@@ -20,12 +19,11 @@ use rules.{Octets.be16, Octets.be32, Octets.part, Campus.known}
 use rules.Fields.{hopSize, field, cut, fieldAt, fieldsAt, lengthGood}
 use rules.Settings.{hopGood, hopOf, Settings, serialMet, withField, opens, opened, continues, settingsFrom, settingsOf}
 use Rattle.rules.proofs as ruleLaws
-use ruleLaws.TestLaws.{and-no, or-no, or-yes, by-test}
+use ruleLaws.TestLaws.{and-no, or-no, or-yes, by-test, by-equal}
 use Rattle.octets.specs.Flags.{flagBy}
 use Rattle.octets.proofs.{Bits.join48-or, FlagLaws.flag-continues}
 use Rattle.handler.specs
-use specs.Keys.{keyOf, mixOf, slotBy, markBy, markedBy, coversBy, keyMet, Marked, Kept, hopTaken, fieldTaken, withKey, keysWith, Taking}
-use specs.Keys.{Verdict}
+use specs.Keys.{keyOf, mixOf, slotBy, markBy, markedBy, coversBy, keyMet, Marked, Kept, hopTaken, fieldTaken, withKey, keysWith, Taking, Verdict}
 use ruleLaws.FieldLaws.{field-read, fields-at-end, fields-at-cut, fields-at-on}
 use rules.declared.{NextHop.NextHop, FieldRead.FieldRead}
 use rules.declared.FieldRead.the-variants.{Taken, Cut}

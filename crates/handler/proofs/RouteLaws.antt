@@ -17,16 +17,15 @@ use lib.Dec.{eqb}
 use lib.ListN.{length, take, drop, length-drop, length-take}
 use rules.{Octets.be16, Octets.be32, Settings.Ways, Options.WellFormed, Options.draftRead, Channel.bodyOf, Channel.channelRead}
 use rules.Header.{innerStart, areaOf, innerOf, readFrame, headerRefusal, weAreEgress}
-use rules.Extension.{flagsWord, criticalAlert, nonCriticalAlert, flagUnsummarized, summaryBare, extensionRead, extensionStops, areaRead}
-use rules.Extension.{areaStops}
+use rules.Extension.{flagsWord, criticalAlert, nonCriticalAlert, flagUnsummarized, summaryBare, extensionRead, extensionStops, areaRead, areaStops}
 use rules.declared.{NextHop.NextHop, Header.Header, FrameRead.FrameRead, ChannelRead.ChannelRead, Alert.Alert}
 use rules.declared.FrameRead.the-variants.{Trill, Unreadable}
 use rules.declared.Ruling.the-variants.{Absent}
 use rules.declared.ChannelRead.the-variants.{Fault, BadErr, ErrorHeard, BadEcho, EchoHeard, EchoRequest}
 use rules.declared.Alert.the-variants.{NoAlert, AlertFault, AlertErr, AlertRequest}
-use ruleLaws.HandlingLaws.{echo-ranged, channel-echo, inner-short, inner-untagged, inner-any, inner-delivered, inner-up, inner-channel}
-use ruleLaws.HandlingLaws.{routed-faulty, routed-stopped, routed-egress, routed-transit, handling-unread, handling-refused, handling-routed}
-use ruleLaws.HandlingLaws.{clock-bad, room-short, beside-short, frame-long, frame-handled}
+use ruleLaws.HandlingLaws.{echo-ranged, channel-echo, inner-short, inner-untagged, inner-any, inner-delivered, inner-up, inner-channel, routed-faulty}
+use ruleLaws.HandlingLaws.{routed-stopped, routed-egress, routed-transit, handling-unread, handling-refused, handling-routed, clock-bad, room-short}
+use ruleLaws.HandlingLaws.{beside-short, frame-long, frame-handled}
 use Rattle.handler.specs
 use specs.declared.answers.{Refusal.Refusal, Answer.Answer}
 use specs.declared.answers.Refusal.the-variants.{Refused, Passed}
@@ -37,8 +36,8 @@ use specs.declared.options.{Cursor.Cursor, AreaRead.AreaRead}
 use specs.declared.options.AreaRead.the-variants.{Read, Faulty}
 use specs.declared.handling.{Task.Task, Received.Received}
 use specs.declared.handling.Task.the-variants.{Answered, Forward, Error, Echo}
-use specs.Tasks.{areaReadBy, ReadBy, stopsBy, alertBy, alertedBy, transitBy, wantedBy, askedBy, Answerable, Left, Ends, Comes, Role}
-use specs.Tasks.{Routes, Receives, Lent, Receiving}
+use specs.Tasks.{areaReadBy, ReadBy, stopsBy, alertBy, alertedBy, transitBy, wantedBy, askedBy, Answerable, Left, Ends, Comes, Role, Routes, Receives, Lent}
+use specs.Tasks.{Receiving}
 use Rattle.rules.specs.Options as O
 use Rattle.rules.specs.Answer as A
 use Rattle.handler.specs.declared.handling.Received.the-variants as R

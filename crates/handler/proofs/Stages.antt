@@ -4,8 +4,8 @@ use Rattle.rules.specs as rules
 use rules.{Link.outerTag, Link.link, Settings.Ways, Channel.echoBody}
 use rules.Header.{opLength, innerStart, areaOf, innerOf}
 use mathlib.Core.Bool.{Bool, true, _&&_}
-use Rattle.rules.proofs.{TestLaws.and-true, TestLaws.by-test, FrameLaws.length-link, ReplyLaws.echo-body-length}
-use borrow.Author.Tests.{eqb-true, eqb-false, eq-eqb, ne-eqb}
+use Rattle.rules.proofs.{TestLaws.and-left, TestLaws.and-right, TestLaws.by-test, FrameLaws.length-link, ReplyLaws.echo-body-length}
+use borrow.Author.Tests.{eq-eqb, ne-eqb}
 use borrow.Author.Needs.{needs}
 use rules.Octets.{if_then_else_, put, octets16, octets48, octet, part}
 use mathlib.Core.Path.{_≡_, ap, _∙_, refl, sym}
@@ -46,18 +46,9 @@ pub link-sized : (vlan : ℕ) → (14 ≤ linkSize vlan) × (linkSize vlan ≤ 1
 link-sized vlan = by-test (eqb vlan 0) (λ e. rw e (omega arith)) (λ e. rw e (omega arith))
 
 -- the parts of a conjunction that holds, for `search` to go down into
-pub and-left : (a b : Bool) → (a && b) ≡ true → a ≡ true
-and-left a b e = and-true a b e .0
-
-pub and-right : (a b : Bool) → (a && b) ≡ true → b ≡ true
-and-right a b e = and-true a b e .1
-
 pub ruleset parts = (and-left, and-right)
 
--- by whether two numbers are equal: cases, and a choice
-pub by-equal : {X : Type 0} (m n : ℕ) → (m ≡ n → X) → ((m ≡ n → ⊥) → X) → X
-by-equal m n same other = by-test (eqb m n) (λ t. same (eqb-true m n t)) (λ t. other (eqb-false m n t))
-
+-- a choice by whether two numbers are equal
 module _ {A : Type 0} (r x y : A) (n k : ℕ) where
   pub if-equal : n ≡ k → r ≡ x → r ≡ (if eqb n k then x else y)
   if-equal e is = rw (eq-eqb n k e) is

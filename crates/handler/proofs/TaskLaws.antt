@@ -1,10 +1,11 @@
 -- A task carried out: the answer without what is replied to an alert, the reply to one, and both together as the rules have them. One law for
 -- each need, over what the calls before it ensure, for `search` to cite.
+use Rattle.rules.proofs.TestLaws.{by-equal}
 use Rattle.rules.specs as rules
 use rules.Handling.{forwardedRest, forwarded, onward, faulted, echoed, routed}
 use rules.{Extension.areaSent, Octets.if_then_else_, Settings.Ways, Header.innerOf, Link.link}
 use rules.Channel.{replyInner, bodyOf, replyMode, silenced, returnPath, errorReply, echoReply, replyRest, errorBody, echoBody}
-use Rattle.handler.proofs.{Stages.by-equal, StageLaws.by-hop, StageLaws.back, StageLaws.done-dropped}
+use Rattle.handler.proofs.{StageLaws.by-hop, StageLaws.back, StageLaws.done-dropped}
 use mathlib.Core.Path.{_≡_, refl, sym, ap, _∙_}
 use mathlib.Core.List.{List, [], _++_}
 use mathlib.Core.Bool.{Bool, true, false, not, true≢false}

@@ -1,12 +1,12 @@
 -- The table of option treatments agrees with the flag definitions: one test computed over all 512 keys, and from it each entry.
-use Rattle.handler.proofs.Stages.{parts, by-equal}
+use Rattle.handler.proofs.Stages.{parts}
 use mathlib.Core.{Path._≡_, Path.refl, Path.sym, Path._∙_, List.List}
 use mathlib.Core.Bool.{Bool, true, false, not, _&&_, _||_, false≢true}
 use Prim.Native.Nat.{ℕ}
 use borrow.Author.{Needs.needs, Tests.eq-eqb, Tests.ne-eqb}
 use lib.{ListN.getD, Dec.eqb}
 use Rattle.rules.specs.Options.{hopByHopCritical, ingressToEgressCritical, implemented, strippable}
-use Rattle.rules.proofs.TestLaws.{and-no, and-yes, everyBelow, each-below}
+use Rattle.rules.proofs.TestLaws.{and-no, and-yes, by-equal, everyBelow, each-below}
 use Rattle.handler.specs.Treatment.{Treats, transitDiscards, egressDiscards, stripApplies, isFlowId, strippedBy}
 
 abbrev pub same : Bool → Bool → Bool

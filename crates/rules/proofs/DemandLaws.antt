@@ -6,18 +6,15 @@ use mathlib.Core.Option.{some}
 use Prim.Native.Nat.{ℕ, _+_, _*_, _<_, _≤_, min}
 use native.Mathlib.Omega.{arith}
 use lib.ListN.{length}
-use specs.Octets.{put}
-use specs.Settings.{Settings}
+use specs.{Octets.put, Settings.Settings}
 use specs.Campus.{Described, switchNamed, accepted, described, State, clockOf, original, runFrom, handlingsMost, plainRun, hopReceived, traceOctets}
 use specs.Campus.{someEdition2, traceNeeded, campus, traceAfter}
 use specs.Demand.{repliesIn, repliesMost, handlingsBound, singleRun, Demand}
-use proofs.TestLaws.{apart, by-test}
-use proofs.OctetLaws.{put-front}
+use proofs.{TestLaws.apart, TestLaws.by-test, OctetLaws.put-front, OutcomeLaws.campus-accepted}
 use proofs.StepLaws.{hop-read, hop-unread, hop-most}
 use proofs.RunLaws.{named, run-some, run-whole, Run, runs, run-most, Stands, every, length-trace}
 use proofs.SingleLaws.{Draft, edition-1-all, single, single-count, one-reply}
 use proofs.DescriptionLaws.{nickname-fits, Accepted, accepted-good}
-use proofs.OutcomeLaws.{campus-accepted}
 use Rattle.rules.specs
 use Rattle.rules.proofs
 

@@ -10,10 +10,9 @@ use native.Mathlib.Omega.{arith}
 use borrow.Author.Tests.{ltb-true, leb-true, eqb-true, eqb-false, not-true, not-false}
 use lib.Dec.{eqb}
 use lib.ListN.{length, drop, length-append, length-drop}
-use specs.Octets.{be16}
+use specs.{Octets.be16, Handling.frameMost}
 use specs.Fields.{Field, field, cut, fields, lengthGood}
 use specs.Settings.{Settings, hopGood, switchGood, switchOf, hopOf, hopsMost, withField, withHop}
-use specs.Handling.{frameMost}
 use specs.Campus.{Described, nothingYet, switchNamed, known, placeGood, valueGood, switchesMost, latestHops, roomGood, fieldRefusal, onLatest, withNext}
 use specs.Campus.{Description, refused, accepted, describedFrom, described, clockOf}
 use specs.declared.NextHop.{NextHop}

@@ -7,10 +7,9 @@ use mathlib.Core.Option.{none}
 use Prim.Native.Nat.{ℕ, _-_}
 use native.Mathlib.Omega.{arith}
 use lib.ListN.{length}
-use specs.Octets.{part}
+use specs.{Octets.part, Campus.known}
 use specs.Fields.{Field, field, cut, fieldAt, fieldsAt, fields}
 use specs.Settings.{Settings, switchOf, withField, opens, opened, continues, settingsFrom, settingsOf}
-use specs.Campus.{known}
 use specs.declared.FieldRead.the-variants.{Taken, Cut}
 use proofs.TestLaws.{by-order, either}
 use proofs.FieldLaws.{field-read, fields-at-end, fields-at-cut, fields-at-on}

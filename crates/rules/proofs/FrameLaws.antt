@@ -14,12 +14,9 @@ use lib.ListN.{length, drop, length-append}
 use lib.Seq.{take-at, drop-at, drop-drop, drop-append-add}
 use Rattle.rules.specs
 use specs.Octets.{be16, be48, octets16}
-use specs.Settings.{Ways}
+use specs.{Settings.Ways, Options.WellFormed, Options.draftRead, Extension.areaRead, Extension.areaSent, Handling.forwardedRest}
 use specs.Link.{linkLength, linkEthertype, outerTag, link, ethertypeTag, ethertypeTrill}
 use specs.Header.{version, reserved, multi, opLength, hopCount, headerWord, readFrame, innerStart, areaOf, innerOf, headerRefusal, weAreEgress}
-use specs.Options.{WellFormed, draftRead}
-use specs.Extension.{areaRead, areaSent}
-use specs.Handling.{forwardedRest}
 use specs.declared.{NextHop.NextHop, Header.Header, FrameRead.FrameRead}
 use specs.declared.FrameRead.the-variants.{Trill, Unreadable}
 use Rattle.rules.proofs

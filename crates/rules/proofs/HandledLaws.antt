@@ -9,23 +9,20 @@ use borrow.Author.Tests.{leb-true, le-ltb, ltb-true, ltb-false, eqb-true, not-fa
 use lib.Dec.{ltb, eqb}
 use lib.ListN.{length}
 use Rattle.rules.specs
-use specs.Settings.{Ways, settingsOf}
+use specs.{Settings.Ways, Settings.settingsOf, Extension.extensionRead, Extension.areaRead, Campus.writesReply}
 use specs.Header.{readFrame, areaOf, innerOf, headerRefusal, weAreEgress}
 use specs.Options.{AreaRead, WellFormed, Faulty, draftRead}
-use specs.Extension.{extensionRead, areaRead}
 use specs.Answer.{Handled, dropped, delivered, wrote, wroteBoth, given}
 use specs.Channel.{bodyOf, replyMode, echoRead, channelRead, silenced, returnPath, errorReply, echoReply}
 use specs.Handling.{forwarded, onward, alertTo, alertOf, alerted, transit, faulted, echoed, channelled, decapsulated, routed, handling, frameMost}
 use specs.Handling.{besideLeast, handledWith, handled}
-use specs.Campus.{writesReply}
 use specs.declared.{NextHop.NextHop, Header.Header, Ruling.Ruling, ChannelRead.ChannelRead}
 use specs.declared.Ruling.the-variants.{Found, Absent}
 use specs.declared.FrameRead.the-variants.{Trill, Unreadable}
 use specs.declared.ChannelRead.the-variants.{Fault, BadErr, ErrorHeard, BadEcho, EchoHeard, EchoRequest}
 use Rattle.rules.proofs
 use proofs.TestLaws.{by-test, either, by-option, and-left, and-right, everyBelow, each-below}
-use proofs.FrameLaws.{Cleared, link-most}
-use proofs.OptionLaws.{area-number}
+use proofs.{FrameLaws.Cleared, FrameLaws.link-most, OptionLaws.area-number}
 use proofs.HandlingLaws.{unread-number, length-error, length-echo, echo-ranged, channel-echo}
 
 -- an answer that writes nothing, and after which no run goes on

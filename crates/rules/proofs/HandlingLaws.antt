@@ -11,9 +11,8 @@ use lib.Dec.{ltb}
 use lib.ListN.{length, length-append, length-take}
 use Rattle.rules.specs
 use specs.Settings.{Settings, Ways, waysOf, settingsOf}
-use specs.Link.{link}
+use specs.{Link.link, Options.WellFormed, Options.Faulty}
 use specs.Header.{anyRBridge, readFrame, innerStart, areaOf, innerOf, headerRefusal, weAreEgress}
-use specs.Options.{WellFormed, Faulty}
 use specs.Extension.{areaRead, areaStops, areaSent}
 use specs.Answer.{dropped, droppedAt, wrote, wroteBoth, delivered}
 use specs.Channel.{ethertypeIsIs, innerEthertype, bodyOf, replyMode, echoRead, channelRead, silenced, returnPath, errorReply, echoReply}

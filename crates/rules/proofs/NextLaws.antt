@@ -4,8 +4,7 @@ use mathlib.Core.List.{List, [], _∷_}
 use mathlib.Core.Bool.{true, false}
 use Prim.Native.Nat.{ℕ}
 use lib.ListN.{length}
-use specs.Settings.{Settings}
-use specs.Answer.{Handled}
+use specs.{Settings.Settings, Answer.Handled}
 use specs.Campus.{Kind, reply, Waiting, writesReply, repliesMade, inCampus, staying, waitingAfter, over, next, sentOn, firstWaiting, nextAfter}
 use Rattle.rules.proofs.TestLaws.{tests}
 use Rattle.rules.specs

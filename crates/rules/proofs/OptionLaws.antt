@@ -133,9 +133,6 @@ options-number (suc fuel) area floor at n p e = rw e at (came fuel area floor at
 pub walked : (fuel : ℕ) (area : List ℕ) (floor at : ℕ) (os : List TlvOption) → optionsFrom (suc fuel) area floor at ≡ options os → Walked fuel area floor at os
 walked fuel area floor at os e = rw e at (came fuel area floor at (λ key. options-number fuel area (key + 1)))
 
-pub options-same : (os os′ : List TlvOption) → options os ≡ options os′ → os ≡ os′
-options-same os os′ e = cc
-
 -- what a walk that meets no fault finds lays out the area from there on
 pub walk-laid : (fuel : ℕ) (area : List ℕ) (floor at : ℕ) (os : List TlvOption) → at ≤ length area → length area < at + fuel
     → optionsFrom fuel area floor at ≡ options os → Laid floor os × (drop at area ≡ octetsOf os)

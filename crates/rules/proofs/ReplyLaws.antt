@@ -8,10 +8,7 @@ use native.Mathlib.Omega.{arith}
 use borrow.Author.Tests.{le-ltb, ne-eqb}
 use lib.ListN.{length, length-append, length-take, length-drop}
 use Rattle.rules.specs
-use specs.Octets.{be16}
-use specs.Settings.{Ways}
-use specs.Link.{link}
-use specs.Header.{readFrame, innerOf}
+use specs.{Octets.be16, Settings.Ways, Link.link, Header.readFrame, Header.innerOf}
 use specs.Channel.{protocolError, protocolEcho, protocol, na, spid, spidReply, echoRead, channelRead, silenced, replyInner, replyRest, echoBody}
 use specs.declared.{NextHop.NextHop, Header.Header}
 use specs.declared.FrameRead.the-variants.{Trill}

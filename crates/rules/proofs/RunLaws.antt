@@ -10,12 +10,10 @@ use native.Mathlib.Omega.{arith}
 use borrow.Author.Tests.{eqb-true}
 use lib.Dec.{eqb}
 use lib.ListN.{length, length-append}
-use specs.Settings.{Settings, waysOf}
-use specs.Answer.{Handled}
+use specs.{Settings.Settings, Settings.waysOf, Answer.Handled, Demand.repliesIn}
 use specs.Handling.{handling, frameMost, besideLeast}
 use specs.Campus.{switchNamed, Kind, reply, State, Waiting, repliesMade, inCampus, staying, waitingAfter, Next, over, next, sentOn, firstWaiting, nextAfter}
 use specs.Campus.{runFrom, handlingsMost, hopReceived, entryOctets, traceOctets}
-use specs.Demand.{repliesIn}
 use proofs.TestLaws.{apart, by-test, by-option, and-left, each-of}
 use proofs.NextLaws.{next-on, next-waiting}
 use proofs.HandledLaws.{Bounded, handling-bounded}

@@ -8,11 +8,8 @@ use mathlib.Core.Option.{Option, some}
 use Prim.Native.Nat.{ℕ, zero, suc, _+_, _<_, _≤_, min}
 use native.Mathlib.Omega.{arith}
 use lib.ListN.{length}
-use specs.Settings.{Settings, waysOf}
-use specs.Answer.{Handled}
-use specs.Handling.{handling}
+use specs.{Settings.Settings, Settings.waysOf, Answer.Handled, Handling.handling, Campus.someEdition2}
 use specs.Campus.{switchNamed, Kind, reply, State, repliesMade, staying, over, next, sentOn, firstWaiting, nextAfter, runFrom, hopReceived, egressReceived}
-use specs.Campus.{someEdition2}
 use specs.Demand.{repliesIn, kindAfter, singleRun}
 use proofs.TestLaws.{by-option, or-false, each-of}
 use proofs.NextLaws.{made-reply}

@@ -13,9 +13,8 @@ use lib.Dec.{eqb}
 use lib.ListN.{length}
 use Rattle.rules.specs
 use specs.Settings.{Settings, ruling, nextHop, waysOf}
-use specs.Link.{link}
+use specs.{Link.link, Answer.Handled, Answer.wroteBoth}
 use specs.Header.{hopCount, anyRBridge, readFrame, innerOf, weAreEgress}
-use specs.Answer.{Handled, wroteBoth}
 use specs.Channel.{protocolError, protocolEcho, bodyOf, channelRead, returnPath, replyInner, replyRest, errorBody, echoBody, errorReply, echoReply}
 use specs.Handling.{forwarded, besideLeast, handling}
 use specs.Campus.{switchNamed, Waiting, writesReply, repliesMade, hopReceived, egressReceived}

@@ -18,8 +18,7 @@ use Rattle.rules.specs as rules
 use rules.Octets.{if_then_else_, put, octet, be16, be32, be48, part}
 use rules.Fields.{Field, field, cut, fieldAt, fieldsAt, fields, hopSize, lengthGood}
 use rules.Settings.{Settings, hopGood, withField, continues, settingsFrom, settingsOf, opens, opened, switchOf, waysOf, nicknameValid, macGood}
-use rules.Settings.{hopOf, switchGood}
-use rules.Campus.{known}
+use rules.{Settings.hopOf, Settings.switchGood, Campus.known}
 use rules.declared.FieldRead.{FieldRead}
 use rules.declared.FieldRead.the-variants.{Taken, Cut}
 use Rattle.rules.proofs as ruleLaws

@@ -1,7 +1,8 @@
--- `counters::bits_met` meets its contract. The invariant: what was met so far is above the total and the counters passed.
+-- `bits_met` meets its contract. The invariant: what was met so far is above the total and the counters passed.
 use Prim.Native.Nat.{_-_}
-use Rattle.counters.proofs.CountLaws.{Meeting, bits-met-laws as laws}
-use Rattle.counters.proofs.bits_met as fn
+use Rattle.counters.proofs
+use proofs.CountLaws.{Meeting, bits-met-laws as laws}
+use proofs.bits_met as fn
 
 abbrev Inv-loop : fn.Tie.InvT-loop
 Inv-loop counts total met₀ i₀ met i = Meeting counts total met i

@@ -1,8 +1,9 @@
--- `counters::count` meets its contract, by one law for each way out.
-use Rattle.counters.proofs.CountLaws.{count-laws as laws}
-use Rattle.counters.proofs.count as fn
+-- `count` meets its contract, by one law for each way out.
+use Rattle.counters.proofs
+use proofs.CountLaws.{count-laws as laws}
+use proofs.count as fn
 
 pub count-spec : {M : Type 1} → fn.Statement.statement M
 count-spec = fn.Tie.close (fn.Tie.spec
-    (λ c κs. search laws) (λ c κs. search laws) (λ c. search laws) (λ c κs. search laws) (λ c κs. search laws) (λ c. search laws) (λ c. search laws)
+    (λ c _. search laws) (λ c _. search laws) (λ c. search laws) (λ c _. search laws) (λ c _. search laws) (λ c. search laws) (λ c. search laws)
     (λ c. search laws) (λ c. search laws))

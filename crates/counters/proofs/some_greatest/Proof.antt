@@ -1,7 +1,8 @@
--- `counters::some_greatest` meets its contract. The invariant: what was found so far and the counters not yet seen make up the whole.
+-- `some_greatest` meets its contract. The invariant: what was found so far and the counters not yet seen make up the whole.
 use Prim.Native.Nat.{_-_}
-use Rattle.counters.proofs.CountLaws.{Scanning, some-greatest-laws as laws}
-use Rattle.counters.proofs.some_greatest as fn
+use Rattle.counters.proofs
+use proofs.CountLaws.{Scanning, some-greatest-laws as laws}
+use proofs.some_greatest as fn
 
 abbrev Inv-loop : fn.Tie.InvT-loop
 Inv-loop counts total found₀ i₀ found i = Scanning counts total found i

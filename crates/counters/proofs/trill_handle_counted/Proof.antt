@@ -1,4 +1,4 @@
--- `counters::trill_handle_counted` meets its contract: a walk of its MIR, by hand. The counters' borrow is opened and the array of counters is lent, where it
+-- `trill_handle_counted` meets its contract: a walk of its MIR, by hand. The counters' borrow is opened and the array of counters is lent, where it
 -- is, to `count`, with the slices; it comes back at its last value, the new total is stored beside it, and the borrow is closed.
 use mathlib.Core.Path.{_≡_, refl, sym, ap, subst}
 use Prim.Native.Nat.{ℕ, _+_, _<_, _^_}
@@ -49,22 +49,24 @@ use denote.Exit.{yes}
 use Rattle.handler.specs.declared.answers.Answer.{Answer}
 use Rattle.handler.proofs.answers.Answer as B
 use Rattle.handler.proofs.answers.Answer.Laws as B′
-use Rattle.counters.specs.Counting.{made, Words, Call, counted, CallDone}
-use Rattle.counters.specs.declared.Counters.{Counters}
-use Rattle.counters.specs.declared.Counted.{Counted}
-use Rattle.counters.proofs.Counters as T
-use Rattle.counters.proofs.Counters.Laws as T′
-use Rattle.counters.proofs.Counted as D
-use Rattle.counters.proofs.Counted.Laws as D′
-use Rattle.counters.proofs.Lending.{Counts, counts-vals, mach, WayBack, taken-out, put-back, lies-in, lies-out, words}
-use Rattle.counters.proofs.count as g
-use Rattle.counters.proofs.count.Symbol as g-def
-use Rattle.counters.proofs.count.Symbol.{name as #counters·count}
-use Rattle.counters.proofs.count.Met as g-thm
-use Rattle.counters.proofs.trill_handle_counted.Key.{name as #counters·trill-handle-counted}
-use Rattle.counters.proofs.trill_handle_counted as f
-use Rattle.counters.proofs.trill_handle_counted.Statement as stated
-use Rattle.counters.proofs.trill_handle_counted.Code as code
+use Rattle.counters.specs
+use specs.Counting.{made, Words, Call, counted, CallDone}
+use specs.declared.Counters.{Counters}
+use specs.declared.Counted.{Counted}
+use Rattle.counters.proofs
+use proofs.Counters as T
+use proofs.Counters.Laws as T′
+use proofs.Counted as D
+use proofs.Counted.Laws as D′
+use proofs.Lending.{Counts, counts-vals, mach, WayBack, taken-out, put-back, lies-in, lies-out, words}
+use proofs.count as g
+use proofs.count.Symbol as g-def
+use proofs.count.Symbol.{name as #counters·count}
+use proofs.count.Met as g-thm
+use proofs.trill_handle_counted.Key.{name as #counters·trill-handle-counted}
+use proofs.trill_handle_counted as f
+use proofs.trill_handle_counted.Statement as stated
+use proofs.trill_handle_counted.Code as code
 
 -- one for each slice
 abbrev Five : Type 0 → Type 0

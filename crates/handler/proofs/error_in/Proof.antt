@@ -1,6 +1,7 @@
 -- `error_in` meets its contract, by what is told of the ingress.
-use Rattle.handler.proofs.TaskLaws.{back-laws as laws}
-use Rattle.handler.proofs.error_in as fn
+use Rattle.handler.proofs
+use proofs.TaskLaws.{back-laws as laws}
+use proofs.error_in as fn
 
 pub error-in-spec : {M : Type 1} → fn.Statement.statement M
-error-in-spec = fn.Tie.close (fn.Tie.spec (λ c κs. search laws) (λ c κs. search laws) (λ c κs. search laws) (λ c. search laws) (λ c. search laws))
+error-in-spec = fn.Tie.close (fn.Tie.spec (λ c _. search laws) (λ c _. search laws) (λ c _. search laws) (λ c. search laws) (λ c. search laws))

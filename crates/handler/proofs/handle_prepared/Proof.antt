@@ -1,8 +1,9 @@
 -- `handle_prepared` meets its contract, by one law for each way out.
-use Rattle.handler.proofs.StoreLaws.{handle-prepared-laws as laws}
-use Rattle.handler.proofs.handle_prepared as fn
+use Rattle.handler.proofs
+use proofs.StoreLaws.{handle-prepared-laws as laws}
+use proofs.handle_prepared as fn
 
 pub handle-prepared-spec : {M : Type 1} → fn.Statement.statement M
 handle-prepared-spec = fn.Tie.close (fn.Tie.spec
-    (λ c κs. search laws) (λ c κs. search laws) (λ c. search laws) (λ c κs. search laws) (λ c κs. search laws) (λ c. search laws) (λ c. search laws)
-    (λ c κs. search laws) (λ c. search laws) (λ c. search laws) (λ c. search laws) (λ c. search laws))
+    (λ c _. search laws) (λ c _. search laws) (λ c. search laws) (λ c _. search laws) (λ c _. search laws) (λ c. search laws) (λ c. search laws)
+    (λ c _. search laws) (λ c. search laws) (λ c. search laws) (λ c. search laws) (λ c. search laws))

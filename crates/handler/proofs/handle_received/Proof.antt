@@ -1,9 +1,10 @@
 -- `handle_received` meets its contract, by one law for each task.
-use Rattle.handler.proofs.TaskLaws.{task-laws as laws}
-use Rattle.handler.proofs.handle_received as fn
+use Rattle.handler.proofs
+use proofs.TaskLaws.{task-laws as laws}
+use proofs.handle_received as fn
 
 pub handle-received-spec : {M : Type 1} → fn.Statement.statement M
 handle-received-spec = fn.Tie.close (fn.Tie.spec
-    (λ c κs. search laws) (λ c κs. search laws) (λ c. search laws) (λ c. search laws) (λ c κs. search laws) (λ c. search laws) (λ c κs. search laws)
-    (λ c. search laws) (λ c κs. search laws) (λ c. search laws) (λ c. search laws) (λ c. search laws) (λ c. search laws) (λ c. search laws)
+    (λ c _. search laws) (λ c _. search laws) (λ c. search laws) (λ c. search laws) (λ c _. search laws) (λ c. search laws) (λ c _. search laws)
+    (λ c. search laws) (λ c _. search laws) (λ c. search laws) (λ c. search laws) (λ c. search laws) (λ c. search laws) (λ c. search laws)
     (λ c. search laws) (λ c. search laws) (λ c. search laws))

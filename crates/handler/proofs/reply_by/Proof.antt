@@ -1,6 +1,7 @@
 -- `reply_by` meets its contract, by whether the alert asks for a reply.
-use Rattle.handler.proofs.ScanLaws.{reply-by-laws as laws}
-use Rattle.handler.proofs.reply_by as fn
+use Rattle.handler.proofs
+use proofs.ScanLaws.{reply-by-laws as laws}
+use proofs.reply_by as fn
 
 pub reply-by-spec : {M : Type 1} → fn.Statement.statement M
-reply-by-spec = fn.Tie.close (fn.Tie.spec (λ c κs. search laws) (λ c κs. search laws) (λ c. search laws) (λ c. search laws) (λ c. search laws))
+reply-by-spec = fn.Tie.close (fn.Tie.spec (λ c _. search laws) (λ c _. search laws) (λ c. search laws) (λ c. search laws) (λ c. search laws))

@@ -1,8 +1,9 @@
 -- `trill_handle` meets its contract, by one law for each way out.
-use Rattle.handler.proofs.ScanLaws.{trill-handle-laws as laws}
-use Rattle.handler.proofs.trill_handle as fn
+use Rattle.handler.proofs
+use proofs.ScanLaws.{trill-handle-laws as laws}
+use proofs.trill_handle as fn
 
 pub trill-handle-spec : {M : Type 1} → fn.Statement.statement M
 trill-handle-spec = fn.Tie.close (fn.Tie.spec
-    (λ c κs. search laws) (λ c κs. search laws) (λ c κs. search laws) (λ c κs. search laws) (λ c κs. search laws) (λ c. search laws) (λ c. search laws)
-    (λ c. search laws) (λ c κs. search laws) (λ c. search laws) (λ c. search laws) (λ c. search laws) (λ c. search laws))
+    (λ c _. search laws) (λ c _. search laws) (λ c _. search laws) (λ c _. search laws) (λ c _. search laws) (λ c. search laws) (λ c. search laws)
+    (λ c. search laws) (λ c _. search laws) (λ c. search laws) (λ c. search laws) (λ c. search laws) (λ c. search laws))

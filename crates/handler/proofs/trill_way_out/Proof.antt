@@ -1,7 +1,8 @@
--- `handler::trill_way_out` meets its contract: bad settings are 1, and good ones tell the way out.
-use Rattle.handler.proofs.WayOutLaws.{trill-way-out-laws as laws}
-use Rattle.handler.proofs.trill_way_out as fn
+-- `trill_way_out` meets its contract: bad settings are 1, and good ones tell the way out.
+use Rattle.handler.proofs
+use proofs.WayOutLaws.{trill-way-out-laws as laws}
+use proofs.trill_way_out as fn
 
 pub trill-way-out-spec : {M : Type 1} → fn.Statement.statement M
 trill-way-out-spec = fn.Tie.close (fn.Tie.spec
-    (λ c κs. search laws) (λ c κs. search laws) (λ c κs. search laws) (λ c. search laws) (λ c κs. search laws) (λ c. search laws) (λ c. search laws))
+    (λ c _. search laws) (λ c _. search laws) (λ c _. search laws) (λ c. search laws) (λ c _. search laws) (λ c. search laws) (λ c. search laws))

@@ -1,10 +1,11 @@
--- `octets::fill` meets its contract. The invariant: `out` has the first i octets of `s` in it from `at` on.
+-- `fill` meets its contract. The invariant: `out` has the first i octets of `s` in it from `at` on.
 use mathlib.Core.Path.{_≡_}
 use Prim.Native.Nat.{_-_, _≤_}
 use lib.ListN.{length}
 use lib.Seq.{paste}
-use Rattle.octets.proofs.Ends.{fill-laws as laws}
-use Rattle.octets.proofs.fill as fn
+use Rattle.octets.proofs
+use proofs.Ends.{fill-laws as laws}
+use proofs.fill as fn
 
 abbrev Inv-loop : fn.Tie.InvT-loop
 Inv-loop out₀ at s i₀ out i = (i ≤ length s) × (out ≡ paste out₀ at s i) × (length out ≡ length out₀)

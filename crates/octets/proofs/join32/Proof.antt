@@ -1,7 +1,8 @@
--- `octets::join32` meets its contract, by `|` of disjoint bits as a sum.
+-- `join32` meets its contract, by `|` of disjoint bits as a sum.
 use borrow.Author.Needs.{needs}
-use Rattle.octets.proofs.Bits.{join32-or}
-use Rattle.octets.proofs.join32 as fn
+use Rattle.octets.proofs
+use proofs.Bits.{join32-or}
+use proofs.join32 as fn
 
 pub join32-spec : {M : Type 1} → fn.Statement.statement M
 join32-spec = fn.Tie.close (fn.Tie.spec (λ c. search (needs, join32-or)))

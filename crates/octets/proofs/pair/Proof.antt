@@ -1,7 +1,8 @@
--- `octets::pair` meets its contract, by `|` of disjoint bits as a sum.
+-- `pair` meets its contract, by `|` of disjoint bits as a sum.
 use borrow.Author.Needs.{needs}
-use Rattle.octets.proofs.Bits.{pair-or}
-use Rattle.octets.proofs.pair as fn
+use Rattle.octets.proofs
+use proofs.Bits.{pair-or}
+use proofs.pair as fn
 
 pub pair-spec : {M : Type 1} → fn.Statement.statement M
 pair-spec = fn.Tie.close (fn.Tie.spec (λ c. search (needs, pair-or)))

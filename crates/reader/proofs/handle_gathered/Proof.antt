@@ -1,8 +1,9 @@
--- `reader::handle_gathered` meets its contract: clock, octets and store are those in the words.
-use Rattle.reader.proofs.CallLaws.{handle-gathered-laws as laws}
-use Rattle.reader.proofs.handle_gathered as fn
+-- `handle_gathered` meets its contract: clock, octets and store are those in the words.
+use Rattle.reader.proofs
+use proofs.CallLaws.{handle-gathered-laws as laws}
+use proofs.handle_gathered as fn
 
 pub handle-gathered-spec : {M : Type 1} → fn.Statement.statement M
 handle-gathered-spec = fn.Tie.close (fn.Tie.spec
-    (λ c. search laws) (λ c κs. search laws) (λ c. search laws) (λ c κs. search laws) (λ c. search laws) (λ c. search laws) (λ c. search laws)
-    (λ c. search laws) (λ c κs. search laws) (λ c. search laws) (λ c. search laws) (λ c. search laws))
+    (λ c. search laws) (λ c _. search laws) (λ c. search laws) (λ c _. search laws) (λ c. search laws) (λ c. search laws) (λ c. search laws)
+    (λ c. search laws) (λ c _. search laws) (λ c. search laws) (λ c. search laws) (λ c. search laws))

@@ -6,4 +6,4 @@ use Rattle.staffripple.proofs.text_of as fn
 ruleset laws = (needs, text-whole)
 
 pub text-of-spec : {M : Type 1} → fn.Statement.statement M
-text-of-spec = fn.Tie.close (fn.Tie.spec (λ c κs. search laws) (λ c. search laws) (λ c. search laws) (λ c. search laws))
+text-of-spec = fn.Tie.close (fn.Tie.spec (λ c _. search laws) (λ c. search laws) (λ c. search laws) (λ c. search laws))

@@ -1,8 +1,9 @@
 -- `trill_prepare` meets its contract, by what was prepared in words of its own.
-use Rattle.stores.proofs.PrepareLaws.{trill-prepare-laws as laws}
-use Rattle.stores.proofs.trill_prepare as fn
+use Rattle.stores.proofs
+use proofs.PrepareLaws.{trill-prepare-laws as laws}
+use proofs.trill_prepare as fn
 
 pub trill-prepare-spec : {M : Type 1} → fn.Statement.statement M
 trill-prepare-spec = fn.Tie.close (fn.Tie.spec
-    (λ c. search laws) (λ c κs. search laws) (λ c. search laws) (λ c. search laws) (λ c. search laws) (λ c κs. search laws) (λ c. search laws)
+    (λ c. search laws) (λ c _. search laws) (λ c. search laws) (λ c. search laws) (λ c. search laws) (λ c _. search laws) (λ c. search laws)
     (λ c. search laws))

@@ -1,8 +1,9 @@
--- `reading::code_after` meets its contract: one law for each return.
-use Rattle.campus.proofs.ReadLaws.{code-after-laws as laws}
-use Rattle.campus.proofs.reading.code_after as fn
+-- `code_after` meets its contract: one law for each return.
+use Rattle.campus.proofs
+use proofs.ReadLaws.{code-after-laws as laws}
+use proofs.reading.code_after as fn
 
 pub code-after-spec : {M : Type 1} → fn.Statement.statement M
 code-after-spec = fn.Tie.close (fn.Tie.spec
-    (λ c. search laws) (λ c κs. search laws) (λ c. search laws) (λ c. search laws) (λ c. search laws) (λ c κs. search laws) (λ c. search laws)
+    (λ c. search laws) (λ c _. search laws) (λ c. search laws) (λ c. search laws) (λ c. search laws) (λ c _. search laws) (λ c. search laws)
     (λ c. search laws))

@@ -1,4 +1,4 @@
--- `refusals::nickname_known` meets its contract, by what is found.
+-- `nickname_known` meets its contract, by what is found.
 use borrow.Author.Needs.{needs}
 use Rattle.campus.proofs.refusals.nickname_known as fn
 

@@ -1,6 +1,7 @@
--- `running::between` meets its contract: the range lies in order within the octets, or there are none.
-use Rattle.campus.proofs.ReadLaws.{between-laws as laws}
-use Rattle.campus.proofs.running.between as fn
+-- `between` meets its contract: the range lies in order within the octets, or there are none.
+use Rattle.campus.proofs
+use proofs.ReadLaws.{between-laws as laws}
+use proofs.running.between as fn
 
 pub between-spec : {M : Type 1} → fn.Statement.statement M
 between-spec = fn.Tie.close (fn.Tie.spec

@@ -1,6 +1,7 @@
--- `running::nickname_of` meets its contract, by one law for each need.
-use Rattle.campus.proofs.RunLaws.{nickname-of-laws as laws}
-use Rattle.campus.proofs.running.nickname_of as fn
+-- `nickname_of` meets its contract, by one law for each need.
+use Rattle.campus.proofs
+use proofs.RunLaws.{nickname-of-laws as laws}
+use proofs.running.nickname_of as fn
 
 pub nickname-of-spec : {M : Type 1} → fn.Statement.statement M
 nickname-of-spec = fn.Tie.close (fn.Tie.spec

@@ -1,6 +1,7 @@
--- `running::sent_to` meets its contract, by one law for each way out.
-use Rattle.campus.proofs.QueueLaws.{sent-to-laws as laws}
-use Rattle.campus.proofs.running.sent_to as fn
+-- `sent_to` meets its contract, by one law for each way out.
+use Rattle.campus.proofs
+use proofs.QueueLaws.{sent-to-laws as laws}
+use proofs.running.sent_to as fn
 
 pub sent-to-spec : {M : Type 1} → fn.Statement.statement M
-sent-to-spec = fn.Tie.close (fn.Tie.spec (λ c. search laws) (λ c. search laws) (λ c κs. search laws) (λ c. search laws))
+sent-to-spec = fn.Tie.close (fn.Tie.spec (λ c. search laws) (λ c. search laws) (λ c _. search laws) (λ c. search laws))

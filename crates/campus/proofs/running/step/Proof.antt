@@ -1,6 +1,7 @@
--- `running::step` meets its contract, by one law for each need.
-use Rattle.campus.proofs.RunLaws.{step-laws as laws}
-use Rattle.campus.proofs.running.step as fn
+-- `step` meets its contract, by one law for each need.
+use Rattle.campus.proofs
+use proofs.RunLaws.{step-laws as laws}
+use proofs.running.step as fn
 
 pub step-spec : {M : Type 1} → fn.Statement.statement M
-step-spec = fn.Tie.close (fn.Tie.spec (λ c κs. search laws) (λ c κs. search laws) (λ c κs. search laws) (λ c. search laws) (λ c. search laws))
+step-spec = fn.Tie.close (fn.Tie.spec (λ c _. search laws) (λ c _. search laws) (λ c _. search laws) (λ c. search laws) (λ c. search laws))

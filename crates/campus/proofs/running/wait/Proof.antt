@@ -1,8 +1,9 @@
--- `running::wait` meets its contract, by one law for each need.
-use Rattle.campus.proofs.QueueLaws.{wait-laws as laws}
-use Rattle.campus.proofs.running.wait as fn
+-- `wait` meets its contract, by one law for each need.
+use Rattle.campus.proofs
+use proofs.QueueLaws.{wait-laws as laws}
+use proofs.running.wait as fn
 
 pub wait-spec : {M : Type 1} → fn.Statement.statement M
 wait-spec = fn.Tie.close (fn.Tie.spec
-    (λ c κs. search laws) (λ c. search laws) (λ c κs. search laws) (λ c κs. search laws) (λ c. search laws) (λ c. search laws) (λ c. search laws)
-    (λ c. search laws) (λ c κs. search laws) (λ c κs. search laws) (λ c. search laws) (λ c. search laws))
+    (λ c _. search laws) (λ c. search laws) (λ c _. search laws) (λ c _. search laws) (λ c. search laws) (λ c. search laws) (λ c. search laws)
+    (λ c. search laws) (λ c _. search laws) (λ c _. search laws) (λ c. search laws) (λ c. search laws))

@@ -1,4 +1,4 @@
--- `handler::channel::err` meets its contract, by a mask as a remainder.
+-- `err` meets its contract, by a mask as a remainder.
 use lib.Bits.{and-mask}
 use Rattle.handler.proofs.channel.err as fn
 

@@ -1,7 +1,8 @@
--- `extension::flag_unsummarized` meets its contract, by its tests in their order.
+-- `flag_unsummarized` meets its contract, by its tests in their order.
 use Rattle.rules.specs.Extension.{flagUnsummarized}
-use Rattle.handler.proofs.ExtensionLaws.{three-laws as laws}
-use Rattle.handler.proofs.extension.flag_unsummarized as fn
+use Rattle.handler.proofs
+use proofs.ExtensionLaws.{three-laws as laws}
+use proofs.extension.flag_unsummarized as fn
 
 pub flag-unsummarized-spec : {M : Type 1} → fn.Statement.statement M
 unfolding flagUnsummarized

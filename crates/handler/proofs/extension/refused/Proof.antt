@@ -1,4 +1,4 @@
--- `extension::refused` meets its contract, by its tests in their order.
+-- `refused` meets its contract, by its tests in their order.
 use borrow.Author.Needs.{needs}
 use Rattle.handler.proofs.extension.refused as fn
 

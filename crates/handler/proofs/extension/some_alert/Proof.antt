@@ -1,4 +1,4 @@
--- `extension::some_alert` meets its contract, by its two tests.
+-- `some_alert` meets its contract, by its two tests.
 use borrow.Author.Needs.{needs}
 use Rattle.handler.proofs.extension.some_alert as fn
 

@@ -1,7 +1,8 @@
--- `extension::summary_bare` meets its contract, by its tests in their order.
+-- `summary_bare` meets its contract, by its tests in their order.
 use Rattle.rules.specs.Extension.{summaryBare}
-use Rattle.handler.proofs.ExtensionLaws.{three-laws as laws}
-use Rattle.handler.proofs.extension.summary_bare as fn
+use Rattle.handler.proofs
+use proofs.ExtensionLaws.{three-laws as laws}
+use proofs.extension.summary_bare as fn
 
 pub summary-bare-spec : {M : Type 1} → fn.Statement.statement M
 unfolding summaryBare

@@ -1,6 +1,7 @@
--- `forward::forward_whole` meets its contract: the header, and the rest in one copy.
-use Rattle.handler.proofs.Stages.{forward-laws as laws}
-use Rattle.handler.proofs.forward.forward_whole as fn
+-- `forward_whole` meets its contract: the header, and the rest in one copy.
+use Rattle.handler.proofs
+use proofs.Stages.{forward-laws as laws}
+use proofs.forward.forward_whole as fn
 
 pub forward-whole-spec : {M : Type 1} → fn.Statement.statement M
 forward-whole-spec = fn.Tie.close (fn.Tie.spec

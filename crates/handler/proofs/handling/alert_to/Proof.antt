@@ -1,7 +1,8 @@
--- `handling::alert_to` meets its contract, by the cases of the message.
+-- `alert_to` meets its contract, by the cases of the message.
 use Rattle.rules.specs.Handling.{alertTo}
-use Rattle.handler.proofs.RouteLaws.{alert-to-laws as laws}
-use Rattle.handler.proofs.handling.alert_to as fn
+use Rattle.handler.proofs
+use proofs.RouteLaws.{alert-to-laws as laws}
+use proofs.handling.alert_to as fn
 
 pub alert-to-spec : {M : Type 1} → fn.Statement.statement M
 unfolding alertTo

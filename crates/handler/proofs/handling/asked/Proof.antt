@@ -1,6 +1,7 @@
--- `handling::asked` meets its contract, by what was received.
-use Rattle.handler.proofs.RouteLaws.{asked-laws as laws}
-use Rattle.handler.proofs.handling.asked as fn
+-- `asked` meets its contract, by what was received.
+use Rattle.handler.proofs
+use proofs.RouteLaws.{asked-laws as laws}
+use proofs.handling.asked as fn
 
 pub asked-spec : {M : Type 1} → fn.Statement.statement M
-asked-spec = fn.Tie.close (fn.Tie.spec (λ c. search laws) (λ c. search laws) (λ c κs. search laws) (λ c. search laws) (λ c. search laws))
+asked-spec = fn.Tie.close (fn.Tie.spec (λ c. search laws) (λ c. search laws) (λ c _. search laws) (λ c. search laws) (λ c. search laws))

@@ -1,6 +1,7 @@
--- `handling::channel_message` meets its contract, by its tests in their order.
-use Rattle.handler.proofs.RouteLaws.{channel-message-laws as laws}
-use Rattle.handler.proofs.handling.channel_message as fn
+-- `channel_message` meets its contract, by its tests in their order.
+use Rattle.handler.proofs
+use proofs.RouteLaws.{channel-message-laws as laws}
+use proofs.handling.channel_message as fn
 
 pub channel-message-spec : {M : Type 1} → fn.Statement.statement M
 channel-message-spec = fn.Tie.close (fn.Tie.spec

@@ -1,9 +1,10 @@
--- `handling::decapsulated` meets its contract, by its tests in their order.
-use Rattle.handler.proofs.RouteLaws.{decapsulated-laws as laws}
-use Rattle.handler.proofs.handling.decapsulated as fn
+-- `decapsulated` meets its contract, by its tests in their order.
+use Rattle.handler.proofs
+use proofs.RouteLaws.{decapsulated-laws as laws}
+use proofs.handling.decapsulated as fn
 
 pub decapsulated-spec : {M : Type 1} → fn.Statement.statement M
 decapsulated-spec = fn.Tie.close (fn.Tie.spec
-    (λ c κs. search laws) (λ c. search laws) (λ c. search laws) (λ c. search laws) (λ c. search laws) (λ c. search laws) (λ c. search laws)
+    (λ c _. search laws) (λ c. search laws) (λ c. search laws) (λ c. search laws) (λ c. search laws) (λ c. search laws) (λ c. search laws)
     (λ c. search laws) (λ c. search laws) (λ c. search laws) (λ c. search laws) (λ c. search laws) (λ c. search laws) (λ c. search laws) (λ c. search laws)
     (λ c. search laws) (λ c. search laws) (λ c. search laws) (λ c. search laws))

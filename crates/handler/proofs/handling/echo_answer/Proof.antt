@@ -1,6 +1,7 @@
--- `handling::echo_answer` meets its contract, by whether a reply is made.
-use Rattle.handler.proofs.TaskLaws.{reply-answer-laws as laws}
-use Rattle.handler.proofs.handling.echo_answer as fn
+-- `echo_answer` meets its contract, by whether a reply is made.
+use Rattle.handler.proofs
+use proofs.TaskLaws.{reply-answer-laws as laws}
+use proofs.handling.echo_answer as fn
 
 pub echo-answer-spec : {M : Type 1} → fn.Statement.statement M
-echo-answer-spec = fn.Tie.close (fn.Tie.spec (λ c κs. search laws) (λ c κs. search laws) (λ c κs. search laws) (λ c. search laws) (λ c. search laws))
+echo-answer-spec = fn.Tie.close (fn.Tie.spec (λ c _. search laws) (λ c _. search laws) (λ c _. search laws) (λ c. search laws) (λ c. search laws))

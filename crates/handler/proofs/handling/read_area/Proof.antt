@@ -1,6 +1,7 @@
--- `handling::read_area` meets its contract, by the edition.
-use Rattle.handler.proofs.RouteLaws.{read-area-laws as laws}
-use Rattle.handler.proofs.handling.read_area as fn
+-- `read_area` meets its contract, by the edition.
+use Rattle.handler.proofs
+use proofs.RouteLaws.{read-area-laws as laws}
+use proofs.handling.read_area as fn
 
 pub read-area-spec : {M : Type 1} → fn.Statement.statement M
 read-area-spec = fn.Tie.close (fn.Tie.spec (λ c. search laws) (λ c. search laws) (λ c. search laws) (λ c. search laws) (λ c. search laws) (λ c. search laws))

@@ -1,9 +1,10 @@
--- `handling::route` meets its contract, by the area and our role.
-use Rattle.handler.proofs.RouteLaws.{route-laws as laws}
-use Rattle.handler.proofs.handling.route as fn
+-- `route` meets its contract, by the area and our role.
+use Rattle.handler.proofs
+use proofs.RouteLaws.{route-laws as laws}
+use proofs.handling.route as fn
 
 pub route-spec : {M : Type 1} → fn.Statement.statement M
 route-spec = fn.Tie.close (fn.Tie.spec
-    (λ c. search laws) (λ c κs. search laws) (λ c. search laws) (λ c. search laws) (λ c. search laws) (λ c. search laws) (λ c. search laws)
-    (λ c κs. search laws) (λ c. search laws) (λ c. search laws) (λ c. search laws) (λ c. search laws) (λ c. search laws) (λ c. search laws)
+    (λ c. search laws) (λ c _. search laws) (λ c. search laws) (λ c. search laws) (λ c. search laws) (λ c. search laws) (λ c. search laws)
+    (λ c _. search laws) (λ c. search laws) (λ c. search laws) (λ c. search laws) (λ c. search laws) (λ c. search laws) (λ c. search laws)
     (λ c. search laws) (λ c. search laws) (λ c. search laws) (λ c. search laws) (λ c. search laws) (λ c. search laws) (λ c. search laws))

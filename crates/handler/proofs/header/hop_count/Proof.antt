@@ -1,4 +1,4 @@
--- `handler::header::hop_count` meets its contract, by a mask as a remainder.
+-- `hop_count` meets its contract, by a mask as a remainder.
 use lib.Bits.{and-mask}
 use Rattle.handler.proofs.header.hop_count as fn
 

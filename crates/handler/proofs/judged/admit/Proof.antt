@@ -1,9 +1,10 @@
--- `judged::admit` meets its contract, by one law for each way out.
-use Rattle.handler.proofs.JudgeLaws.{admit-laws as laws}
-use Rattle.handler.proofs.judged.admit as fn
+-- `admit` meets its contract, by one law for each way out.
+use Rattle.handler.proofs
+use proofs.JudgeLaws.{admit-laws as laws}
+use proofs.judged.admit as fn
 
 pub admit-spec : {M : Type 1} → fn.Statement.statement M
 admit-spec = fn.Tie.close (fn.Tie.spec
-    (λ c κs. search laws) (λ c. search laws) (λ c κs. search laws) (λ c. search laws) (λ c. search laws) (λ c κs. search laws) (λ c κs. search laws)
-    (λ c κs. search laws) (λ c κs. search laws) (λ c. search laws) (λ c κs. search laws) (λ c. search laws) (λ c. search laws) (λ c. search laws)
-    (λ c. search laws) (λ c κs. search laws) (λ c. search laws) (λ c. search laws) (λ c. search laws) (λ c. search laws))
+    (λ c _. search laws) (λ c. search laws) (λ c _. search laws) (λ c. search laws) (λ c. search laws) (λ c _. search laws) (λ c _. search laws)
+    (λ c _. search laws) (λ c _. search laws) (λ c. search laws) (λ c _. search laws) (λ c. search laws) (λ c. search laws) (λ c. search laws)
+    (λ c. search laws) (λ c _. search laws) (λ c. search laws) (λ c. search laws) (λ c. search laws) (λ c. search laws))

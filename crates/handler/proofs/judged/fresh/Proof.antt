@@ -1,8 +1,9 @@
--- `judged::fresh` meets its contract: what the place shows by the requirement, all else by the scan.
+-- `fresh` meets its contract: what the place shows by the requirement, all else by the scan.
 use mathlib.Core.{Path.sym, Path.ap, Bool.not}
 use borrow.Author.Needs.{needs}
-use Rattle.handler.proofs.JudgeLaws.{uncovered}
-use Rattle.handler.proofs.judged.fresh as fn
+use Rattle.handler.proofs
+use proofs.JudgeLaws.{uncovered}
+use proofs.judged.fresh as fn
 
 pub fresh-spec : {M : Type 1} → fn.Statement.statement M
 fresh-spec = fn.Tie.close (fn.Tie.spec

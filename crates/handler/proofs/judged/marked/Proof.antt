@@ -1,7 +1,8 @@
--- `judged::marked` meets its contract, by its test.
+-- `marked` meets its contract, by its test.
 use Rattle.handler.specs.Keys.{markedBy}
-use Rattle.handler.proofs.Stages.{if-laws as laws}
-use Rattle.handler.proofs.judged.marked as fn
+use Rattle.handler.proofs
+use proofs.Stages.{if-laws as laws}
+use proofs.judged.marked as fn
 
 pub marked-spec : {M : Type 1} → fn.Statement.statement M
 unfolding markedBy

@@ -1,10 +1,11 @@
--- `judged::met` meets its contract. The invariant: what was found, or is found from place i on, is whether the key is met.
+-- `met` meets its contract. The invariant: what was found, or is found from place i on, is whether the key is met.
 use mathlib.Core.{Path._≡_, Bool._||_}
 use Prim.Native.Nat.{_-_, _≤_}
 use lib.{ListN.take, Seq.slice}
 use Rattle.handler.specs.Keys.{keyMet}
-use Rattle.handler.proofs.JudgeLaws.{met-laws as laws}
-use Rattle.handler.proofs.judged.met as fn
+use Rattle.handler.proofs
+use proofs.JudgeLaws.{met-laws as laws}
+use proofs.judged.met as fn
 
 abbrev Inv-loop : fn.Tie.InvT-loop
 Inv-loop keys n key found₀ i₀ found i = (i ≤ n) × ((found || keyMet key (slice i n keys)) ≡ keyMet key (take n keys))
@@ -14,5 +15,5 @@ abbrev μ-loop : fn.Tie.MeasureT-loop
 
 pub met-spec : {M : Type 1} → fn.Statement.statement M
 met-spec = fn.Tie.close (fn.Tie.spec
-    Inv-loop μ-loop (λ c. search laws) (λ c. search laws) (λ c. search laws) (λ c κs. search laws) (λ c. search laws) (λ c. search laws)
+    Inv-loop μ-loop (λ c. search laws) (λ c. search laws) (λ c. search laws) (λ c _. search laws) (λ c. search laws) (λ c. search laws)
     (λ c. search laws) (λ c. search laws))

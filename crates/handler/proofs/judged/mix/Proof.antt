@@ -1,4 +1,4 @@
--- `judged::mix` meets its contract, by arithmetic.
+-- `mix` meets its contract, by arithmetic.
 use native.Mathlib.Omega.{arith}
 use lib.Bits.{and-mask}
 use Rattle.handler.specs.Keys.{mixOf}

@@ -1,4 +1,4 @@
--- `judged::slot_of` meets its contract, by arithmetic.
+-- `slot_of` meets its contract, by arithmetic.
 use borrow.Author.Needs.{needs}
 use Rattle.handler.specs.Keys.{slotBy}
 use Rattle.handler.proofs.judged.slot_of as fn

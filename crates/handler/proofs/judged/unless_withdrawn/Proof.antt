@@ -1,7 +1,8 @@
--- `judged::unless_withdrawn` meets its contract, by the cases of the record.
+-- `unless_withdrawn` meets its contract, by the cases of the record.
 use Rattle.stores.specs.Store.{unlessWithdrawn}
-use Rattle.handler.proofs.ScanLaws.{unless-withdrawn-laws as laws}
-use Rattle.handler.proofs.judged.unless_withdrawn as fn
+use Rattle.handler.proofs
+use proofs.ScanLaws.{unless-withdrawn-laws as laws}
+use proofs.judged.unless_withdrawn as fn
 
 pub unless-withdrawn-spec : {M : Type 1} → fn.Statement.statement M
 unfolding unlessWithdrawn

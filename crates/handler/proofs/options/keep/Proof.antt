@@ -1,6 +1,7 @@
--- `handler::options::keep` meets its contract, by what stays of one option.
-use Rattle.handler.proofs.Strips.{keep-laws as laws}
-use Rattle.handler.proofs.options.keep as fn
+-- `keep` meets its contract, by what stays of one option.
+use Rattle.handler.proofs
+use proofs.Strips.{keep-laws as laws}
+use proofs.options.keep as fn
 
 pub keep-spec : {M : Type 1} → fn.Statement.statement M
-keep-spec = fn.Tie.close (fn.Tie.spec (λ c. search laws) (λ c κs. search laws) (λ c. search laws) (λ c. search laws) (λ c. search laws))
+keep-spec = fn.Tie.close (fn.Tie.spec (λ c. search laws) (λ c _. search laws) (λ c. search laws) (λ c. search laws) (λ c. search laws))

@@ -1,4 +1,4 @@
--- `handler::options::length_of` meets its contract, by a mask as a remainder.
+-- `length_of` meets its contract, by a mask as a remainder.
 use mir.Facts.{fits-mask}
 use lib.Bits.{and-mask}
 use Rattle.handler.proofs.options.length_of as fn

@@ -1,9 +1,10 @@
--- `handler::options::option_at` meets its contract, by one law for each way out.
-use Rattle.handler.proofs.Walks.{option-at-laws as laws}
-use Rattle.handler.proofs.options.option_at as fn
+-- `option_at` meets its contract, by one law for each way out.
+use Rattle.handler.proofs
+use proofs.Walks.{option-at-laws as laws}
+use proofs.options.option_at as fn
 
 pub option-at-spec : {M : Type 1} → fn.Statement.statement M
 option-at-spec = fn.Tie.close (fn.Tie.spec
-    (λ c κs. search laws) (λ c κs. search laws) (λ c. search laws) (λ c κs. search laws) (λ c. search laws) (λ c. search laws) (λ c κs. search laws)
-    (λ c. search laws) (λ c. search laws) (λ c. search laws) (λ c. search laws) (λ c. search laws) (λ c. search laws) (λ c κs. search laws)
-    (λ c κs. search laws) (λ c. search laws) (λ c. search laws) (λ c. search laws))
+    (λ c _. search laws) (λ c _. search laws) (λ c. search laws) (λ c _. search laws) (λ c. search laws) (λ c. search laws) (λ c _. search laws)
+    (λ c. search laws) (λ c. search laws) (λ c. search laws) (λ c. search laws) (λ c. search laws) (λ c. search laws) (λ c _. search laws)
+    (λ c _. search laws) (λ c. search laws) (λ c. search laws) (λ c. search laws))

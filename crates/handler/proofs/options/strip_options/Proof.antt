@@ -1,8 +1,9 @@
--- `handler::options::strip_options` meets its contract. The invariant: what was written, and what is kept of the options from here on, is what is kept in all.
+-- `strip_options` meets its contract. The invariant: what was written, and what is kept of the options from here on, is what is kept in all.
 use Prim.Native.Nat.{_-_}
 use lib.ListN.{length}
-use Rattle.handler.proofs.Strips.{Stripping, strip-options-laws as laws}
-use Rattle.handler.proofs.options.strip_options as fn
+use Rattle.handler.proofs
+use proofs.Strips.{Stripping, strip-options-laws as laws}
+use proofs.options.strip_options as fn
 
 abbrev Inv-loop : fn.Tie.InvT-loop
 Inv-loop area table out₀ from at₀ to₀ out at to = Stripping area out₀ from out at to
@@ -12,6 +13,6 @@ abbrev μ-loop : fn.Tie.MeasureT-loop
 
 pub strip-options-spec : {M : Type 1} → fn.Statement.statement M
 strip-options-spec = fn.Tie.close (fn.Tie.spec
-    Inv-loop μ-loop (λ c. search laws) (λ c κs. search laws) (λ c κs. search laws) (λ c κs. search laws) (λ c κs. search laws) (λ c. search laws)
-    (λ c. search laws) (λ c. search laws) (λ c κs. search laws) (λ c. search laws) (λ c. search laws) (λ c. search laws) (λ c κs. search laws)
+    Inv-loop μ-loop (λ c. search laws) (λ c _. search laws) (λ c _. search laws) (λ c _. search laws) (λ c _. search laws) (λ c. search laws)
+    (λ c. search laws) (λ c. search laws) (λ c _. search laws) (λ c. search laws) (λ c. search laws) (λ c. search laws) (λ c _. search laws)
     (λ c. search laws) (λ c. search laws) (λ c. search laws) (λ c. search laws))

@@ -1,8 +1,9 @@
--- `handler::options::summarized` meets its contract, by its tests in their order.
-use Rattle.handler.proofs.Walks.{summarized-laws as laws}
-use Rattle.handler.proofs.options.summarized as fn
+-- `summarized` meets its contract, by its tests in their order.
+use Rattle.handler.proofs
+use proofs.Walks.{summarized-laws as laws}
+use proofs.options.summarized as fn
 
 pub summarized-spec : {M : Type 1} → fn.Statement.statement M
 summarized-spec = fn.Tie.close (fn.Tie.spec
-    (λ c. search laws) (λ c. search laws) (λ c. search laws) (λ c κs. search laws) (λ c κs. search laws) (λ c. search laws) (λ c κs. search laws)
-    (λ c κs. search laws) (λ c. search laws) (λ c. search laws))
+    (λ c. search laws) (λ c. search laws) (λ c. search laws) (λ c _. search laws) (λ c _. search laws) (λ c. search laws) (λ c _. search laws)
+    (λ c _. search laws) (λ c. search laws) (λ c. search laws))

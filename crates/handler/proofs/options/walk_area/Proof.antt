@@ -1,8 +1,9 @@
--- `handler::options::walk_area` meets its contract. The invariant: what the walk finds from here on, with what was met so far, is what it finds in all.
+-- `walk_area` meets its contract. The invariant: what the walk finds from here on, with what was met so far, is what it finds in all.
 use Prim.Native.Nat.{_-_}
 use lib.ListN.{length}
-use Rattle.handler.proofs.Walks.{Walking, walk-area-laws as laws}
-use Rattle.handler.proofs.options.walk_area as fn
+use Rattle.handler.proofs
+use proofs.Walks.{Walking, walk-area-laws as laws}
+use proofs.options.walk_area as fn
 
 abbrev Inv-loop : fn.Tie.InvT-loop
 Inv-loop area table c₀ c = Walking area c
@@ -12,5 +13,5 @@ abbrev μ-loop : fn.Tie.MeasureT-loop
 
 pub walk-area-spec : {M : Type 1} → fn.Statement.statement M
 walk-area-spec = fn.Tie.close (fn.Tie.spec
-    Inv-loop μ-loop (λ c. search laws) (λ c κs. search laws) (λ c. search laws) (λ c. search laws) (λ c. search laws) (λ c. search laws)
+    Inv-loop μ-loop (λ c. search laws) (λ c _. search laws) (λ c. search laws) (λ c. search laws) (λ c. search laws) (λ c. search laws)
     (λ c. search laws) (λ c. search laws))

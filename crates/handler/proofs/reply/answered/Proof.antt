@@ -1,4 +1,4 @@
--- `handler::reply::answered` meets its contract, by a mask as a remainder.
+-- `answered` meets its contract, by a mask as a remainder.
 use Prim.Native.Nat.{_%_}
 use native.Mathlib.Omega.{arith}
 use lib.Bits.{and-mask}

@@ -1,8 +1,9 @@
--- `handler::reply::reply_octets` meets its contract: each octet by what `six`, `high` and `low` ensure.
-use Rattle.handler.proofs.Stages.{reply-octets-laws as laws}
-use Rattle.handler.proofs.reply.reply_octets as fn
+-- `reply_octets` meets its contract: each octet by what `six`, `high` and `low` ensure.
+use Rattle.handler.proofs
+use proofs.Stages.{reply-octets-laws as laws}
+use proofs.reply.reply_octets as fn
 
 pub reply-octets-spec : {M : Type 1} → fn.Statement.statement M
 reply-octets-spec = fn.Tie.close (fn.Tie.spec
-    (λ c κs. search laws) (λ c κs. search laws) (λ c κs. search laws) (λ c κs. search laws) (λ c κs. search laws) (λ c. search laws) (λ c. search laws)
-    (λ c. search laws) (λ c. search laws) (λ c. search laws) (λ c. search laws) (λ c κs. search laws) (λ c κs. search laws) (λ c. search laws))
+    (λ c _. search laws) (λ c _. search laws) (λ c _. search laws) (λ c _. search laws) (λ c _. search laws) (λ c. search laws) (λ c. search laws)
+    (λ c. search laws) (λ c. search laws) (λ c. search laws) (λ c. search laws) (λ c _. search laws) (λ c _. search laws) (λ c. search laws))

@@ -1,8 +1,9 @@
--- `handler::reply::write_echo_body` meets its contract: the first octet and the rest are one write.
-use Rattle.handler.proofs.Stages.{write-echo-body-laws as laws}
-use Rattle.handler.proofs.reply.write_echo_body as fn
+-- `write_echo_body` meets its contract: the first octet and the rest are one write.
+use Rattle.handler.proofs
+use proofs.Stages.{write-echo-body-laws as laws}
+use proofs.reply.write_echo_body as fn
 
 pub write-echo-body-spec : {M : Type 1} → fn.Statement.statement M
 write-echo-body-spec = fn.Tie.close (fn.Tie.spec
-    (λ c κs. search laws) (λ c κs. search laws) (λ c. search laws) (λ c κs. search laws) (λ c. search laws) (λ c κs. search laws) (λ c. search laws)
+    (λ c _. search laws) (λ c _. search laws) (λ c. search laws) (λ c _. search laws) (λ c. search laws) (λ c _. search laws) (λ c. search laws)
     (λ c. search laws))

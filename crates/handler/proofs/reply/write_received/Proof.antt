@@ -1,8 +1,9 @@
--- `handler::reply::write_received` meets its contract: the two copies are one write, by the law of what is received.
-use Rattle.handler.proofs.Stages.{write-received-laws as laws}
-use Rattle.handler.proofs.reply.write_received as fn
+-- `write_received` meets its contract: the two copies are one write, by the law of what is received.
+use Rattle.handler.proofs
+use proofs.Stages.{write-received-laws as laws}
+use proofs.reply.write_received as fn
 
 pub write-received-spec : {M : Type 1} → fn.Statement.statement M
 write-received-spec = fn.Tie.close (fn.Tie.spec
-    (λ c κs. search laws) (λ c. search laws) (λ c. search laws) (λ c. search laws) (λ c. search laws) (λ c κs. search laws) (λ c. search laws)
+    (λ c _. search laws) (λ c. search laws) (λ c. search laws) (λ c. search laws) (λ c. search laws) (λ c _. search laws) (λ c. search laws)
     (λ c. search laws))

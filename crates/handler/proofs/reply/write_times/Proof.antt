@@ -1,8 +1,9 @@
--- `handler::reply::write_times` meets its contract: the two writes are one, by the law of times.
-use Rattle.handler.proofs.Stages.{write-times-laws as laws}
-use Rattle.handler.proofs.reply.write_times as fn
+-- `write_times` meets its contract: the two writes are one, by the law of times.
+use Rattle.handler.proofs
+use proofs.Stages.{write-times-laws as laws}
+use proofs.reply.write_times as fn
 
 pub write-times-spec : {M : Type 1} → fn.Statement.statement M
 write-times-spec = fn.Tie.close (fn.Tie.spec
-    (λ c. search laws) (λ c. search laws) (λ c. search laws) (λ c κs. search laws) (λ c. search laws) (λ c κs. search laws) (λ c. search laws)
+    (λ c. search laws) (λ c. search laws) (λ c. search laws) (λ c _. search laws) (λ c. search laws) (λ c _. search laws) (λ c. search laws)
     (λ c. search laws))

@@ -1,6 +1,7 @@
--- `store::good` meets its contract, by its tests in their order.
-use Rattle.handler.proofs.StoreLaws.{store-good-laws as laws}
-use Rattle.handler.proofs.store.good as fn
+-- `good` meets its contract, by its tests in their order.
+use Rattle.handler.proofs
+use proofs.StoreLaws.{store-good-laws as laws}
+use proofs.store.good as fn
 
 pub good-spec : {M : Type 1} → fn.Statement.statement M
 good-spec = fn.Tie.close (fn.Tie.spec

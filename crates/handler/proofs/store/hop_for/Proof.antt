@@ -1,8 +1,9 @@
--- `store::hop_for` meets its contract, by its tests in their order.
-use Rattle.handler.proofs.StoreLaws.{hop-for-laws as laws}
-use Rattle.handler.proofs.store.hop_for as fn
+-- `hop_for` meets its contract, by its tests in their order.
+use Rattle.handler.proofs
+use proofs.StoreLaws.{hop-for-laws as laws}
+use proofs.store.hop_for as fn
 
 pub hop-for-spec : {M : Type 1} → fn.Statement.statement M
 hop-for-spec = fn.Tie.close (fn.Tie.spec
-    (λ c. search laws) (λ c κs. search laws) (λ c. search laws) (λ c. search laws) (λ c. search laws) (λ c. search laws) (λ c. search laws)
-    (λ c. search laws) (λ c. search laws) (λ c. search laws) (λ c. search laws) (λ c κs. search laws) (λ c. search laws) (λ c. search laws))
+    (λ c. search laws) (λ c _. search laws) (λ c. search laws) (λ c. search laws) (λ c. search laws) (λ c. search laws) (λ c. search laws)
+    (λ c. search laws) (λ c. search laws) (λ c. search laws) (λ c. search laws) (λ c _. search laws) (λ c. search laws) (λ c. search laws))

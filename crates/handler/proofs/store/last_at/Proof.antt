@@ -1,8 +1,9 @@
--- `store::last_at` meets its contract, by its tests in their order.
-use Rattle.handler.proofs.StoreLaws.{last-at-laws as laws}
-use Rattle.handler.proofs.store.last_at as fn
+-- `last_at` meets its contract, by its tests in their order.
+use Rattle.handler.proofs
+use proofs.StoreLaws.{last-at-laws as laws}
+use proofs.store.last_at as fn
 
 pub last-at-spec : {M : Type 1} → fn.Statement.statement M
 last-at-spec = fn.Tie.close (fn.Tie.spec
-    (λ c. search laws) (λ c κs. search laws) (λ c. search laws) (λ c. search laws) (λ c. search laws) (λ c. search laws) (λ c κs. search laws)
+    (λ c. search laws) (λ c _. search laws) (λ c. search laws) (λ c. search laws) (λ c. search laws) (λ c. search laws) (λ c _. search laws)
     (λ c. search laws))

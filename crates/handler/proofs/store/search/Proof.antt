@@ -1,4 +1,4 @@
--- `store::search` meets its contract: six steps.
+-- `search` meets its contract: six steps.
 use borrow.Author.Needs.{needs}
 use Rattle.handler.proofs.store.search as fn
 

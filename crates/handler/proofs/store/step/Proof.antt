@@ -1,7 +1,8 @@
--- `store::step` meets its contract, by its tests in their order.
-use Rattle.handler.proofs.StoreLaws.{step-laws as laws}
-use Rattle.handler.proofs.store.step as fn
+-- `step` meets its contract, by its tests in their order.
+use Rattle.handler.proofs
+use proofs.StoreLaws.{step-laws as laws}
+use proofs.store.step as fn
 
 pub step-spec : {M : Type 1} → fn.Statement.statement M
 step-spec = fn.Tie.close (fn.Tie.spec
-    (λ c. search laws) (λ c. search laws) (λ c. search laws) (λ c κs. search laws) (λ c. search laws) (λ c. search laws) (λ c. search laws))
+    (λ c. search laws) (λ c. search laws) (λ c. search laws) (λ c _. search laws) (λ c. search laws) (λ c. search laws) (λ c. search laws))

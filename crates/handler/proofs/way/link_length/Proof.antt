@@ -1,6 +1,7 @@
--- `way::link_length` meets its contract, by the VLAN.
-use Rattle.handler.proofs.Stages.{if-laws as laws}
-use Rattle.handler.proofs.way.link_length as fn
+-- `link_length` meets its contract, by the VLAN.
+use Rattle.handler.proofs
+use proofs.Stages.{if-laws as laws}
+use proofs.way.link_length as fn
 
 pub link-length-spec : {M : Type 1} → fn.Statement.statement M
 link-length-spec = fn.Tie.close (fn.Tie.spec (λ c. search laws) (λ c. search laws))

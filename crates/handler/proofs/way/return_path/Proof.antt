@@ -1,7 +1,8 @@
--- `way::return_path` meets its contract, by the cases of the ingress.
+-- `return_path` meets its contract, by the cases of the ingress.
 use Rattle.rules.specs.Channel.{returnPath}
-use Rattle.handler.proofs.Stages.{if-laws as laws}
-use Rattle.handler.proofs.way.return_path as fn
+use Rattle.handler.proofs
+use proofs.Stages.{if-laws as laws}
+use proofs.way.return_path as fn
 
 pub return-path-spec : {M : Type 1} → fn.Statement.statement M
 unfolding returnPath

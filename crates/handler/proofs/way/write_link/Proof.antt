@@ -1,8 +1,9 @@
--- `way::write_link` meets its contract, by the VLAN: what follows the MACs is written where they end.
-use Rattle.handler.proofs.Stages.{write-link-laws as laws}
-use Rattle.handler.proofs.way.write_link as fn
+-- `write_link` meets its contract, by the VLAN: what follows the MACs is written where they end.
+use Rattle.handler.proofs
+use proofs.Stages.{write-link-laws as laws}
+use proofs.way.write_link as fn
 
 pub write-link-spec : {M : Type 1} → fn.Statement.statement M
 write-link-spec = fn.Tie.close (fn.Tie.spec
-    (λ c κs. search laws) (λ c. search laws) (λ c κs. search laws) (λ c. search laws) (λ c. search laws) (λ c κs. search laws) (λ c. search laws)
-    (λ c κs. search laws) (λ c. search laws) (λ c. search laws))
+    (λ c _. search laws) (λ c. search laws) (λ c _. search laws) (λ c. search laws) (λ c. search laws) (λ c _. search laws) (λ c. search laws)
+    (λ c _. search laws) (λ c. search laws) (λ c. search laws))

@@ -1,8 +1,9 @@
--- `way::write_macs` meets its contract, two writes side by side being one.
-use Rattle.handler.proofs.Stages.{write-macs-laws as laws}
-use Rattle.handler.proofs.way.write_macs as fn
+-- `write_macs` meets its contract, two writes side by side being one.
+use Rattle.handler.proofs
+use proofs.Stages.{write-macs-laws as laws}
+use proofs.way.write_macs as fn
 
 pub write-macs-spec : {M : Type 1} → fn.Statement.statement M
 write-macs-spec = fn.Tie.close (fn.Tie.spec
-    (λ c κs. search laws) (λ c. search laws) (λ c κs. search laws) (λ c κs. search laws) (λ c. search laws) (λ c κs. search laws) (λ c. search laws)
+    (λ c _. search laws) (λ c. search laws) (λ c _. search laws) (λ c _. search laws) (λ c. search laws) (λ c _. search laws) (λ c. search laws)
     (λ c. search laws))

@@ -1,7 +1,8 @@
--- `values::flag_tag` meets its contract, by the tag.
+-- `flag_tag` meets its contract, by the tag.
 use Rattle.octets.specs.Flags.{flagTag}
-use Rattle.octets.proofs.Cases.{test-laws as laws}
-use Rattle.octets.proofs.values.flag_tag as fn
+use Rattle.octets.proofs
+use proofs.Cases.{test-laws as laws}
+use proofs.values.flag_tag as fn
 
 pub flag-tag-spec : {M : Type 1} → fn.Statement.statement M
 unfolding flagTag

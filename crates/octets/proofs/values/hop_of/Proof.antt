@@ -1,4 +1,4 @@
--- `values::hop_of` meets its contract, field by field.
+-- `hop_of` meets its contract, field by field.
 use borrow.Author.Needs.{needs}
 use Rattle.octets.proofs.values.hop_of as fn
 

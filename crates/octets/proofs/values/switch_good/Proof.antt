@@ -1,6 +1,7 @@
--- `values::switch_good` meets its contract, by its tests in their order.
-use Rattle.octets.proofs.Macs.{switch-good-laws as laws}
-use Rattle.octets.proofs.values.switch_good as fn
+-- `switch_good` meets its contract, by its tests in their order.
+use Rattle.octets.proofs
+use proofs.Macs.{switch-good-laws as laws}
+use proofs.values.switch_good as fn
 
 pub switch-good-spec : {M : Type 1} → fn.Statement.statement M
-switch-good-spec = fn.Tie.close (fn.Tie.spec (λ c κs. search laws) (λ c κs. search laws) (λ c. search laws) (λ c κs. search laws) (λ c. search laws))
+switch-good-spec = fn.Tie.close (fn.Tie.spec (λ c _. search laws) (λ c _. search laws) (λ c. search laws) (λ c _. search laws) (λ c. search laws))

@@ -1,8 +1,9 @@
--- `preparing::admit` meets its contract, by one law for each way out.
-use Rattle.stores.proofs.PrepareLaws.{admit-laws as laws}
-use Rattle.stores.proofs.preparing.admit as fn
+-- `admit` meets its contract, by one law for each way out.
+use Rattle.stores.proofs
+use proofs.PrepareLaws.{admit-laws as laws}
+use proofs.preparing.admit as fn
 
 pub admit-spec : {M : Type 1} → fn.Statement.statement M
 admit-spec = fn.Tie.close (fn.Tie.spec
     (λ c. search laws) (λ c. search laws) (λ c. search laws) (λ c. search laws) (λ c. search laws) (λ c. search laws) (λ c. search laws)
-    (λ c κs. search laws) (λ c. search laws) (λ c. search laws) (λ c. search laws) (λ c. search laws))
+    (λ c _. search laws) (λ c. search laws) (λ c. search laws) (λ c. search laws) (λ c. search laws))

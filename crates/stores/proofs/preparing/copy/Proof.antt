@@ -1,10 +1,11 @@
--- `preparing::copy` meets its contract. The invariant: the first i words are written.
+-- `copy` meets its contract. The invariant: the first i words are written.
 use mathlib.Core.Path.{_≡_}
 use Prim.Native.Nat.{_-_, _≤_}
 use lib.ListN.{length}
 use lib.Seq.{paste}
-use Rattle.stores.proofs.PrepareLaws.{copy-laws as laws}
-use Rattle.stores.proofs.preparing.copy as fn
+use Rattle.stores.proofs
+use proofs.PrepareLaws.{copy-laws as laws}
+use proofs.preparing.copy as fn
 
 abbrev Inv-loop : fn.Tie.InvT-loop
 Inv-loop store₀ w i₀ store i = (i ≤ length w) × (store ≡ paste store₀ 0 w i) × (length store ≡ length store₀)

@@ -1,7 +1,8 @@
--- `preparing::fill` meets its contract: hints change nothing of what the words stand for.
-use Rattle.stores.proofs.PrepareLaws.{fill-laws as laws}
-use Rattle.stores.proofs.preparing.fill as fn
+-- `fill` meets its contract: hints change nothing of what the words stand for.
+use Rattle.stores.proofs
+use proofs.PrepareLaws.{fill-laws as laws}
+use proofs.preparing.fill as fn
 
 pub fill-spec : {M : Type 1} → fn.Statement.statement M
 fill-spec = fn.Tie.close (fn.Tie.spec
-    (λ c κs. search laws) (λ c. search laws) (λ c. search laws) (λ c κs. search laws) (λ c. search laws) (λ c. search laws))
+    (λ c _. search laws) (λ c. search laws) (λ c. search laws) (λ c _. search laws) (λ c. search laws) (λ c. search laws))

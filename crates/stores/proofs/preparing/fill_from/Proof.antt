@@ -1,8 +1,9 @@
--- `preparing::fill_from` meets its contract. The invariant: the words stand for what was read, and the fields from `at` on decide as all do.
+-- `fill_from` meets its contract. The invariant: the words stand for what was read, and the fields from `at` on decide as all do.
 use Prim.Native.Nat.{_-_}
 use lib.ListN.{length}
-use Rattle.stores.proofs.PrepareLaws.{Filling, fill-from-laws as laws}
-use Rattle.stores.proofs.preparing.fill_from as fn
+use Rattle.stores.proofs
+use proofs.PrepareLaws.{Filling, fill-from-laws as laws}
+use proofs.preparing.fill_from as fn
 
 abbrev Inv-loop : fn.Tie.InvT-loop
 Inv-loop s from w₀ at₀ w at = Filling s from w₀ w at
@@ -14,6 +15,6 @@ pub fill-from-spec : {M : Type 1} → fn.Statement.statement M
 fill-from-spec = fn.Tie.close (fn.Tie.spec
     Inv-loop
     μ-loop
-    (λ c. search laws) (λ c κs. search laws) (λ c. search laws) (λ c. search laws) (λ c. search laws) (λ c. search laws) (λ c. search laws)
-    (λ c. search laws) (λ c. search laws) (λ c. search laws) (λ c κs. search laws) (λ c. search laws) (λ c. search laws) (λ c. search laws)
+    (λ c. search laws) (λ c _. search laws) (λ c. search laws) (λ c. search laws) (λ c. search laws) (λ c. search laws) (λ c. search laws)
+    (λ c. search laws) (λ c. search laws) (λ c. search laws) (λ c _. search laws) (λ c. search laws) (λ c. search laws) (λ c. search laws)
     (λ c. search laws) (λ c. search laws) (λ c. search laws))

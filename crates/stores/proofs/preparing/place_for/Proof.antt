@@ -1,6 +1,7 @@
--- `preparing::place_for` meets its contract. The invariant: the place is among the first i records.
-use Rattle.stores.proofs.PrepareLaws.{Placing, place-for-laws as laws}
-use Rattle.stores.proofs.preparing.place_for as fn
+-- `place_for` meets its contract. The invariant: the place is among the first i records.
+use Rattle.stores.proofs
+use proofs.PrepareLaws.{Placing, place-for-laws as laws}
+use proofs.preparing.place_for as fn
 
 abbrev Inv-loop : fn.Tie.InvT-loop
 Inv-loop w n rank i₀ i = Placing w n rank i

@@ -1,6 +1,7 @@
--- `preparing::shift` meets its contract. The invariant: the words from i on are moved.
-use Rattle.stores.proofs.PrepareLaws.{Moving, shift-laws as laws}
-use Rattle.stores.proofs.preparing.shift as fn
+-- `shift` meets its contract. The invariant: the words from i on are moved.
+use Rattle.stores.proofs
+use proofs.PrepareLaws.{Moving, shift-laws as laws}
+use proofs.preparing.shift as fn
 
 abbrev Inv-loop : fn.Tie.InvT-loop
 Inv-loop w₀ from to i₀ w i = Moving w₀ from to i w

@@ -1,6 +1,7 @@
--- `preparing::value_of` meets its contract: the neighbour below the MAC.
-use Rattle.stores.proofs.PrepareLaws.{value-of-laws as laws}
-use Rattle.stores.proofs.preparing.value_of as fn
+-- `value_of` meets its contract: the neighbour below the MAC.
+use Rattle.stores.proofs
+use proofs.PrepareLaws.{value-of-laws as laws}
+use proofs.preparing.value_of as fn
 
 pub value-of-spec : {M : Type 1} → fn.Statement.statement M
-value-of-spec = fn.Tie.close (fn.Tie.spec (λ c κs. search laws) (λ c κs. search laws) (λ c. search laws) (λ c. search laws))
+value-of-spec = fn.Tie.close (fn.Tie.spec (λ c _. search laws) (λ c _. search laws) (λ c. search laws) (λ c. search laws))

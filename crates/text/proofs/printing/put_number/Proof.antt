@@ -1,6 +1,7 @@
--- `printing::put_number` meets its contract, by one law for each need.
-use Rattle.text.proofs.PrintLaws.{put-number-laws as laws}
-use Rattle.text.proofs.printing.put_number as fn
+-- `put_number` meets its contract, by one law for each need.
+use Rattle.text.proofs
+use proofs.PrintLaws.{put-number-laws as laws}
+use proofs.printing.put_number as fn
 
 pub put-number-spec : {M : Type 1} → fn.Statement.statement M
 put-number-spec = fn.Tie.close (fn.Tie.spec
