@@ -27,7 +27,7 @@ use Rattle.octets.specs.Copy.{putFitting}
 use Rattle.octets.proofs.Ends.{put-fits}
 use Rattle.campus.specs
 use specs.declared.switches.Named.{Named}
-use specs.declared.switches.Named.the-variants.{At, Nowhere}
+use specs.declared.switches.Named.the-variants.{At, Unknown}
 use specs.declared.reading.Reading.{Reading}
 use specs.Places.{between, clockAt, clockFrom, entryValue, describedBy}
 use specs.Stores.{settingsAt, switchesIn, numberIn, Placed, SoundAt, Sound, wordsFor, Accepts, ReadDone}
@@ -111,7 +111,7 @@ module _ {s w starts : List ℕ} {n clock place : ℕ} {trace : List ℕ} (ready
     alike : Both (switchNamed l b) (switchNamed (switchesIn w starts n) b)
     alike = named-same w starts l (ready .read .stores) n (ready .read .count) b
 
-    pub run-unknown : found ≡ Nowhere → Ran (statesOf s) trace trace 0
+    pub run-unknown : found ≡ Unknown → Ran (statesOf s) trace trace 0
     run-unknown e =
         let none-named = both-none (switchNamed l b) (rw (named-none w starts n b found ef e) at alike) in
         let none-run = states-so s _ (ready .read .is) ∙ plain-none (describedBy s l clock place) (rw (← ev, ← eb) none-named) in

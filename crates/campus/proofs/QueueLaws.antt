@@ -21,7 +21,7 @@ use Rattle.octets.proofs.Ends.{put-fits}
 use Rattle.handler.specs.declared.answers.Answer.{Answer}
 use Rattle.campus.specs
 use specs.declared.switches.Named.{Named}
-use specs.declared.switches.Named.the-variants.{At, Nowhere}
+use specs.declared.switches.Named.the-variants.{At, Unknown}
 use specs.declared.running.{At.At as Place, Onward.Onward}
 use specs.declared.running.Onward.the-variants.{To, Ends}
 use specs.{Stores.settingsAt, Stores.switchesIn, Stores.numberIn, Stores.Sound, Steps.kindBy}
@@ -110,7 +110,7 @@ module _ (w starts : List ℕ) (n : ℕ) (waiting : List ℕ) (tail : ℕ) where
 
   -- a reply to a switch of the campus waits, and any other has left
   module _ (towards : ℕ) (f : List ℕ) (found : Named) (is : found ≡ numberIn w starts n towards) where
-    pub wait-left : found ≡ Nowhere → Waits w starts n waiting waiting tail tail (waitingBy towards f ∷ [])
+    pub wait-left : found ≡ Unknown → Waits w starts n waiting waiting tail tail (waitingBy towards f ∷ [])
     wait-left e =
         waits-not (waitingBy towards f ∷ [])
         (stays-left (switchesIn w starts n) (waitingBy towards f) (rw (named-none w starts n towards found is e)))
@@ -262,7 +262,7 @@ pub ruleset first-waiting-laws =
 
 -- the switch that a forwarded frame goes to
 module _ (w starts : List ℕ) (n : ℕ) (a : Answer) where
-  pub sent-not : (a .number ≡ 50 → ⊥) → Nowhere ≡ sentTo w starts n a
+  pub sent-not : (a .number ≡ 50 → ⊥) → Unknown ≡ sentTo w starts n a
   unfolding sentTo
   sent-not h = simp ne-eqb
 
@@ -271,7 +271,7 @@ module _ (w starts : List ℕ) (n : ℕ) (a : Answer) where
   sent-on h found e = simp eq-eqb e
 
   module _ (found : Named) (is : found ≡ sentTo w starts n a) where
-    sent-nowhere : found ≡ Nowhere → (eqb (a .number) 50 && inCampus (switchesIn w starts n) (a .neighbour)) ≡ false
+    sent-nowhere : found ≡ Unknown → (eqb (a .number) 50 && inCampus (switchesIn w starts n) (a .neighbour)) ≡ false
     unfolding sentTo
     sent-nowhere e =
         by-test (eqb (a .number) 50)
@@ -287,7 +287,7 @@ module _ (w starts : List ℕ) (n : ℕ) (a : Answer) where
 
     -- the frame that was forwarded, if it stays; else that reply
     module _ (waiting : List ℕ) (head tail : ℕ) (out : List ℕ) where
-      pub next-waiting : found ≡ Nowhere → (kind : Kind) {cur : List ℕ} {r : Onward} → Leads w starts n waiting head tail cur r firstWaiting
+      pub next-waiting : found ≡ Unknown → (kind : Kind) {cur : List ℕ} {r : Onward} → Leads w starts n waiting head tail cur r firstWaiting
           → Leads w starts n waiting head tail cur r (onwardBy (switchesIn w starts n) kind a out)
       unfolding onwardBy
       next-waiting e kind first = record { leads = λ q h. rw (sent-nowhere e) (first .leads q h) }

@@ -1,4 +1,4 @@
--- Reading a description. One field more, judged and taken into the stores: by the tests of `fieldRefusal`, and the laws of stores. Then the loop: the words
+-- Reading a description. One field more, checked and taken into the stores: by the tests of `fieldRefusal`, and the laws of stores. Then the loop: the words
 -- stand for the switches read so far, and the rest of the fields decides as the whole does. One law for each way out and each need.
 use mathlib.Core.Path.{_≡_, refl, sym, ap, _∙_}
 use mathlib.Core.List.{List, [], _∷_, _++_}
@@ -23,7 +23,7 @@ use Rattle.rules.proofs.FieldLaws.{IsField, field-read, fields-end, fields-cut,
 use Rattle.rules.proofs.DescriptionLaws.{described-end, described-none, described-on, described-refused}
 use Rattle.octets.specs.Flags.{flagTag, flagValue, flagBy}
 use Rattle.stores.specs.Extend.{opensIn, withSwitch}
-use Rattle.stores.proofs.ExtendLaws.{recordBy, record-judged, flag-judged, extended-long, switch-long}
+use Rattle.stores.proofs.ExtendLaws.{recordBy, record-checked, flag-checked, extended-long, switch-long}
 use Rattle.campus.specs
 use specs.Places.{placeBy, countedBy, between, clockAt, entryValue, codeAfter, clockedBy}
 use specs.Stores.{knownIn, endOf, spanOf, Kept, Stores, PartOpens, PartExtends, soFar, OfSettings, Took, wordsFor, ReadDone}
@@ -115,7 +115,7 @@ module _ (w starts : List ℕ) (n clock tag : ℕ) (v : List ℕ) where
       → ((l : List Settings) (c : Option (List ℕ)) → Stores w starts l → length l ≡ n → known c ≡ not (eqb clock 0)
       → code ≡ fieldRefusal (soFar l c) (field tag v))
       → Took w starts n clock tag v code w′ starts
-  not-taken code w′ z same j = record { size = same; starts-size = refl; judged = j; stored = λ l c s e q. absurd (omega arith) }
+  not-taken code w′ z same j = record { size = same; starts-size = refl; checked = j; stored = λ l c s e q. absurd (omega arith) }
 
   module _ (g : Bool) (a : g ≡ lengthGood tag (length v)) where
     pub took-42 : not g ≡ true → Took w starts n clock tag v 42 w starts
@@ -147,7 +147,7 @@ module _ (w starts : List ℕ) (n clock tag : ℕ) (v : List ℕ) where
             record {
               size = refl;
               starts-size = refl;
-              judged = λ l c s m k. rw (e, rw e at its-good, place-is l c n clock 4 m k ∙ (rw e at in-place), serial-other l c v 4 (omega arith));
+              checked = λ l c s m k. rw (e, rw e at its-good, place-is l c n clock 4 m k ∙ (rw e at in-place), serial-other l c v 4 (omega arith));
               stored = λ l c s m z. rw e s;
             }
 
@@ -162,7 +162,7 @@ module _ (w starts : List ℕ) (n clock tag : ℕ) (v : List ℕ) where
 
           pub took-5 : not x ≡ false → Took w starts n clock tag v 0 w starts
           unfolding withNext
-          took-5 y = record { size = refl; starts-size = refl; judged = λ l c s m k. (rw y at (entry-code l c s m)); stored = λ l c s m z. rw e s }
+          took-5 y = record { size = refl; starts-size = refl; checked = λ l c s m k. (rw y at (entry-code l c s m)); stored = λ l c s m z. rw e s }
 
         pub of-switch : OfSettings tag (length v) → 0 < n
         unfolding placeBy
@@ -220,7 +220,7 @@ module _ (w starts : List ℕ) (n clock : ℕ) (v : List ℕ) (k : Kept w starts
             record {
               size = opened-long o k ends;
               starts-size = length-set starts n end;
-              judged = λ l c s m q. sym (open-code-is l c s m ∙ rw (t, y, lt-ltb n 16 (omega arith)));
+              checked = λ l c s m q. sym (open-code-is l c s m ∙ rw (t, y, lt-ltb n 16 (omega arith)));
               stored = λ l c s m z.
                   let span : end ≡ spanOf l = ends ∙ ap (endOf w starts) (sym m) ∙ end-is w starts l s in
                   rw (with-switch, span, ← m) (stores-opened w starts v l s (omega arith) (omega arith) (rw (long, ← good-is) (not-false r t)));
@@ -253,9 +253,9 @@ module _ (w starts : List ℕ) (n clock tag : ℕ) (v : List ℕ) (k : Kept w st
           x .code
           ∙ rw at-is
           (by-test (eqb tag 2)
-          (λ t. rw (eqb-true tag 2 t) (record-judged (drop (spanOf l) w) T (s .0 .stands) ample v ∙ code-2 T l c v))
+          (λ t. rw (eqb-true tag 2 t) (record-checked (drop (spanOf l) w) T (s .0 .stands) ample v ∙ code-2 T l c v))
           (λ f.
-          flag-judged (drop (spanOf l) w) T (s .0 .stands) ample v tag (eqb-false tag 2 f)
+          flag-checked (drop (spanOf l) w) T (s .0 .stands) ample v tag (eqb-false tag 2 f)
           ∙ code-flag T l c v tag (rw f at (settings-tag of))))
 
       latest-stored : r ≡ 0 → Stores w′ starts (withNext (soFar (T ∷ l) c) (field tag v) .switches)
@@ -274,7 +274,7 @@ module _ (w starts : List ℕ) (n clock tag : ℕ) (v : List ℕ) (k : Kept w st
         record {
           size = part-extended-long x extend-within;
           starts-size = refl;
-          judged = λ l c s m q. latest l c s m .0;
+          checked = λ l c s m q. latest l c s m .0;
           stored = λ l c s m z. latest l c s m .1 z;
         }
 
@@ -418,7 +418,7 @@ module _ (l : List Settings) (c : Option (List ℕ)) (tag : ℕ) (v : List ℕ) 
   unfolding countedBy roomGood
   after-few r h = by-test (eqb tag 1) (λ a. rw a (omega (arith, ltb-true (length l) 16 (rw a at r)))) (λ a. rw a h)
 
--- what is told
+-- what is answered
 abbrev pub refusing : ℕ → Reading
 refusing code = record { code = code; n = 0; clock = 0; place = 0 }
 
@@ -513,7 +513,7 @@ module _ {s w₀ starts₀ w starts : List ℕ} {n clock at : ℕ} (h : Holding 
             rw its-size (rw (fields-on (h .fuel) s at tag size next more (sym q ∙ t)) at (h .rest))
 
         code-is : code ≡ fieldRefusal d (field tag v)
-        code-is = took .judged (h .switches) (clockAt s clock) (h .stores) (h .count) (clock-known s clock)
+        code-is = took .checked (h .switches) (clockAt s clock) (h .stores) (h .count) (clock-known s clock)
 
         pub done-refused : {r : Reading} → (code ≡ 0 → ⊥) → r ≡ refusing code → ReadDone s w′ starts′ r
         done-refused z is =

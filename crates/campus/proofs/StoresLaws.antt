@@ -21,7 +21,7 @@ use Rattle.stores.specs.Store.{unlessWithdrawn, Stands}
 use Rattle.stores.proofs.{LookupLaws.next-hop, PlaceLaws.good-whole}
 use Rattle.stores.proofs.ExtendLaws.{Ample, extended-stands, switch-stands, says, is-good, stands-too}
 use Rattle.campus.specs
-use specs.declared.switches.Named.the-variants.{At, Nowhere}
+use specs.declared.switches.Named.the-variants.{At, Unknown}
 use specs.Stores.{storeAt, switchesIn, numberIn, endOf, Placed, Sound, Kept, PartOpens, PartExtends, settingsIn, settingsAt, foundBy}
 use specs.Stores.{spanOf, Store, Stores, SoundAt}
 use specs.declared.switches.Named.{Named}
@@ -32,7 +32,7 @@ pub record Seeking (w starts : List ℕ) (n nickname i : ℕ) : Type 0 where
   pub same : numberIn w starts i nickname ≡ numberIn w starts n nickname
 
 module _ {w starts : List ℕ} {n nickname i : ℕ} (k : Seeking w starts n nickname i) where
-  pub seek-end : i ≤ 0 → Nowhere ≡ numberIn w starts n nickname
+  pub seek-end : i ≤ 0 → Unknown ≡ numberIn w starts n nickname
   unfolding numberIn
   seek-end z =
       let none : i ≡ 0 = omega arith in
@@ -274,30 +274,30 @@ module _ (w starts : List ℕ) where
 
 -- a switch found by its nickname is the latest that the words say
 module _ (w starts : List ℕ) (n x : ℕ) where
-  abbrev Told : Named → Option Settings → Type 0
-  Told Nowhere o = o ≡ none
-  Told (At i) o = (i < n) × (o ≡ some (settingsAt w starts i))
+  abbrev Lookup : Named → Option Settings → Type 0
+  Lookup Unknown o = o ≡ none
+  Lookup (At i) o = (i < n) × (o ≡ some (settingsAt w starts i))
 
-  told-first : (m : ℕ) → m ≤ n → Told (numberIn w starts m x) (switchNamed (switchesIn w starts m) x)
+  lookup-first : (m : ℕ) → m ≤ n → Lookup (numberIn w starts m x) (switchNamed (switchesIn w starts m) x)
   unfolding numberIn switchNamed switchesIn
-  told-first zero h = refl
-  told-first (suc m) h =
+  lookup-first zero h = refl
+  lookup-first (suc m) h =
       let name = name-here w starts m in
-      by-test (eqb (settingsAt w starts m .nickname) x) (λ t. rw (t, (rw name at t)) (h, refl)) (λ f. rw (f, (rw name at f)) (told-first m (omega arith)))
+      by-test (eqb (settingsAt w starts m .nickname) x) (λ t. rw (t, (rw name at t)) (h, refl)) (λ f. rw (f, (rw name at f)) (lookup-first m (omega arith)))
 
-  told : Told (numberIn w starts n x) (switchNamed (switchesIn w starts n) x)
-  told = told-first n (omega arith)
+  lookup : Lookup (numberIn w starts n x) (switchNamed (switchesIn w starts n) x)
+  lookup = lookup-first n (omega arith)
 
-  told-known : (r : Named) (o : Option Settings) → Told r o → foundBy r ≡ known o
-  told-known Nowhere o t = rw t
-  told-known (At i) o t = rw (t .1)
+  lookup-known : (r : Named) (o : Option Settings) → Lookup r o → foundBy r ≡ known o
+  lookup-known Unknown o t = rw t
+  lookup-known (At i) o t = rw (t .1)
 
   module _ (found : Named) (is : found ≡ numberIn w starts n x) where
-    pub named-none : found ≡ Nowhere → switchNamed (switchesIn w starts n) x ≡ none
-    named-none e = rw (← is, e) at told
+    pub named-none : found ≡ Unknown → switchNamed (switchesIn w starts n) x ≡ none
+    named-none e = rw (← is, e) at lookup
 
     pub named-some : (i : ℕ) → found ≡ At i → (i < n) × (switchNamed (switchesIn w starts n) x ≡ some (settingsAt w starts i))
-    named-some i e = rw (← is, e) at told
+    named-some i e = rw (← is, e) at lookup
 
 both-known : (o p : Option Settings) → Both o p → known o ≡ known p
 both-known none none b = refl
@@ -316,7 +316,7 @@ module _ (w starts : List ℕ) (l : List Settings) (s : Stores w starts l) (n : 
   pub known-is : (x : ℕ) → foundBy (numberIn w starts n x) ≡ known (switchNamed l x)
   known-is x =
       let named = switchNamed (switchesIn w starts n) x in
-      told-known w starts n x (numberIn w starts n x) named (told w starts n x) ∙ sym (both-known (switchNamed l x) named (named-same x))
+      lookup-known w starts n x (numberIn w starts n x) named (lookup w starts n x) ∙ sym (both-known (switchNamed l x) named (named-same x))
 
   pub stores-sound : spanOf l ≤ length w → n ≤ length starts → Sound w starts n
   stores-sound room listed =

@@ -14,7 +14,7 @@ use Rattle.handler.specs.declared.answers.Answer.{Answer}
 use Rattle.campus.specs.Stores.{settingsAt, switchesIn, numberIn, Sound}
 use Rattle.campus.specs.Steps.{kindBy, stateAt, runOf}
 use Rattle.campus.specs.declared.switches.Named.{Named}
-use Rattle.campus.specs.declared.switches.Named.the-variants.{Nowhere}
+use Rattle.campus.specs.declared.switches.Named.the-variants.{Unknown}
 use Rattle.campus.specs.declared.running.At.{At}
 use Rattle.campus.specs.declared.running.Onward.{Onward}
 use Rattle.campus.specs.declared.running.Onward.the-variants.{To, Ends}
@@ -70,7 +70,7 @@ pub record WaitReady (w starts : List ℕ) (n : ℕ) (a : Answer) (out beside wa
 
 -- the switch that a forwarded frame goes to
 unfoldable pub sentTo : List ℕ → List ℕ → ℕ → Answer → Named
-sentTo w starts n a = if eqb (a .number) 50 then numberIn w starts n (a .neighbour) else Nowhere
+sentTo w starts n a = if eqb (a .number) 50 then numberIn w starts n (a .neighbour) else Unknown
 
 unfoldable pub onwardBy : List Settings → Kind → Answer → List ℕ → List Waiting → Next
 onwardBy switches kind a out q =

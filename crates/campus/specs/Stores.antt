@@ -14,7 +14,7 @@ use Rattle.stores.specs.Store.{nicknameIn, countIn, hopsFrom, waysIn, storeGood
 use Rattle.stores.specs.Extend.{opensIn, withSwitch, extending, extended}
 use Rattle.campus.specs.Places.{describedBy, countedBy}
 use Rattle.campus.specs.declared.switches.Named.{Named}
-use Rattle.campus.specs.declared.switches.Named.the-variants.{At, Nowhere}
+use Rattle.campus.specs.declared.switches.Named.the-variants.{At, Unknown}
 use Rattle.campus.specs.declared.reading.Reading.{Reading}
 
 -- the words of switch i, and of those behind it
@@ -42,11 +42,11 @@ switchesIn w starts (suc n) = settingsAt w starts n ∷ switchesIn w starts n
 
 -- the latest of them that has a nickname
 unfoldable pub numberIn : List ℕ → List ℕ → ℕ → ℕ → Named
-numberIn w starts zero nickname = Nowhere
+numberIn w starts zero nickname = Unknown
 numberIn w starts (suc n) nickname = if eqb (getD w (getD starts n 0) 0) nickname then At n else numberIn w starts n nickname
 
 abbrev pub foundBy : Named → Bool
-foundBy Nowhere = false
+foundBy Unknown = false
 foundBy (At i) = true
 
 abbrev pub knownIn : List ℕ → List ℕ → ℕ → ℕ → Bool
@@ -107,7 +107,7 @@ pub record OfSettings (tag size : ℕ) : Type 0 where
 pub record Took (w starts : List ℕ) (n clock tag : ℕ) (v : List ℕ) (code : ℕ) (w′ starts′ : List ℕ) : Type 0 where
   pub size : length w′ ≡ length w
   pub starts-size : length starts′ ≡ length starts
-  pub judged : (switches : List Settings) (c : Option (List ℕ)) → Stores w starts switches → length switches ≡ n → known c ≡ not (eqb clock 0)
+  pub checked : (switches : List Settings) (c : Option (List ℕ)) → Stores w starts switches → length switches ≡ n → known c ≡ not (eqb clock 0)
       → code ≡ fieldRefusal (soFar switches c) (field tag v)
   pub stored : (switches : List Settings) (c : Option (List ℕ)) → Stores w starts switches → length switches ≡ n → code ≡ 0
       → Stores w′ starts′ (withNext (soFar switches c) (field tag v) .switches)

@@ -268,7 +268,7 @@ fn sent_to(w: &[u64], starts: &[usize], n: usize, a: Answer) -> Named
     ensures { λ r. ⌜ r ≡ sentTo (now (w .entry)) (now (starts .entry)) n a ⌝ }
 {
     if a.number != 50 {
-        return Named::Nowhere;
+        return Named::Unknown;
     }
     switches::find(w, starts, n, a.neighbour as u32)
 }

@@ -11,7 +11,7 @@ ghost use Rattle.campus.specs.Stores.{switchesIn, numberIn, endOf, Place
 // The number of a switch, or no such switch.
 pub enum Named {
     At(usize),
-    Nowhere,
+    Unknown,
 }
 
 // The latest of the first n switches that has this nickname.
@@ -27,7 +27,7 @@ pub fn find(w: &[u64], starts: &[usize], n: usize, nickname: u32) -> Named
             return Named::At(i);
         }
     }
-    Named::Nowhere
+    Named::Unknown
 }
 
 // Where the store of the latest of n switches ends.

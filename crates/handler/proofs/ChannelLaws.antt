@@ -13,7 +13,7 @@ use Rattle.rules.specs as rules
 use rules.{Octets.octet, Octets.be16, Handling.untagged, Channel.echoRead, Channel.channelRead, Channel.silenced}
 use rules.declared.ChannelRead.{ChannelRead}
 use rules.declared.ChannelRead.the-variants.{Fault, BadErr, ErrorHeard, BadEcho, EchoHeard, EchoRequest}
-use Rattle.handler.specs.Shapes.{foreignBy, quenchedBy}
+use Rattle.handler.specs.Shapes.{foreignBy, silencedBySl}
 use Rattle.handler.proofs.Stages.{lent-rest}
 
 -- the inner frame's tag
@@ -38,15 +38,15 @@ module _ (e : ℕ) where
   pub foreign-other : (e ≡ 0x8946 → ⊥) → not (eqb e 0x22F4) ≡ foreignBy e
   foreign-other n = rw (ne-eqb e 0x8946 n)
 
-  pub quenched-four : e ≡ 4 → true ≡ quenchedBy e
-  quenched-four is = rw is
+  pub silenced-by-sl-four : e ≡ 4 → true ≡ silencedBySl e
+  silenced-by-sl-four is = rw is
 
-  pub quenched-other : (e ≡ 4 → ⊥) → eqb e 5 ≡ quenchedBy e
-  quenched-other n = rw (ne-eqb e 4 n)
+  pub silenced-by-sl-other : (e ≡ 4 → ⊥) → eqb e 5 ≡ silencedBySl e
+  silenced-by-sl-other n = rw (ne-eqb e 4 n)
 
 pub ruleset foreign-laws = (needs, foreign-channel, foreign-other)
 
-pub ruleset quenched-laws = (needs, quenched-four, quenched-other)
+pub ruleset silenced-by-sl-laws = (needs, silenced-by-sl-four, silenced-by-sl-other)
 
 -- an echo body, by its length and its sub-protocol
 module _ (body : List ℕ) where
@@ -119,7 +119,7 @@ module _ (inner : List ℕ) (e : ℕ) (is-e : e ≡ be16 inner 16) (b : Bool) (i
 pub ruleset channel-read-laws = (needs, read-foreign, read-short, read-version, read-native, read-error, read-unknown, read-err, read-echo)
 
 -- the silence that a message may ask for
-module _ (code : ℕ) (inner : List ℕ) (q : Bool) (is-q : q ≡ quenchedBy code) where
+module _ (code : ℕ) (inner : List ℕ) (q : Bool) (is-q : q ≡ silencedBySl code) where
   pub silenced-never : not q ≡ true → false ≡ silenced code inner
   unfolding silenced
   silenced-never e = rw (← is-q, not-true q e)

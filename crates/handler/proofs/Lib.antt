@@ -4,7 +4,7 @@ pub mod Walks
 pub mod Stages
 pub mod Refusals
 pub mod Strips
-pub mod JudgeLaws
+pub mod ValidationLaws
 pub mod ChannelLaws
 pub mod StageLaws
 pub mod RouteLaws

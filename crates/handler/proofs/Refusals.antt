@@ -3,9 +3,8 @@ use Prim.Native.Nat.{ℕ}
 use mathlib.Core.Path.{_≡_}
 use mathlib.Core.Bool.{false}
 use borrow.Author.Tests.{eqb-true, eqb-false}
-use native.Mathlib.Omega.{arith}
 use lib.Dec.{eqb}
-use Rattle.rules.proofs.{TestLaws.by-test, HeaderLaws.header-refusal-laws}
+use Rattle.rules.proofs.{TestLaws.apart, TestLaws.by-test, HeaderLaws.header-refusal-laws}
 use Rattle.handler.specs
 use specs.declared.answers.Refusal.the-variants.{Refused, Passed}
 use specs.Shapes.{refusalBy}
@@ -21,7 +20,7 @@ module _ (m : ℕ) where
 
   pub refused-is : {n : ℕ} → refusalBy m ≡ Refused n → (m ≡ n) × (m ≡ 0 → ⊥)
   unfolding refusalBy
-  refused-is e = by-test (eqb m 0) (λ t. let z : _≡_ {A = ℕ} 0 1 = cc (rw t at e) in absurd (omega (arith, z))) (λ t. (cc (rw t at e), eqb-false m 0 t))
+  refused-is e = by-test (eqb m 0) (λ t. apart (cc (rw t at e))) (λ t. (cc (rw t at e), eqb-false m 0 t))
 
   pub passed-is : refusalBy m ≡ Passed → m ≡ 0
   unfolding refusalBy

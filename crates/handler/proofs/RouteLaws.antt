@@ -1,5 +1,4 @@
--- What a frame comes to as the code finds it: received, its area read by the edition, its task, and the task carried out. One law for each need,
--- over what the calls before it ensure, for `search` to cite.
+-- What a frame comes to as the code finds it: received, its area read by the edition, its task, and the task carried out. By one law for each need.
 use Rattle.handler.proofs
 use proofs.StageLaws.{frame-near, by-hop, ready, inner-held, area-held}
 use Rattle.rules.specs as rules
@@ -29,7 +28,7 @@ use ruleLaws.HandlingLaws.{beside-short, frame-long, frame-handled}
 use Rattle.handler.specs
 use specs.declared.answers.{Refusal.Refusal, Answer.Answer}
 use specs.declared.answers.Refusal.the-variants.{Refused, Passed}
-use specs.Shapes.{refusalBy, answerOf, judgedBy, Ready}
+use specs.Shapes.{refusalBy, answerOf, areaReadOf, Ready}
 use proofs.Refusals.{refused-is, passed-is}
 use specs.declared.way.Own.{Own}
 use specs.declared.options.{Cursor.Cursor, AreaRead.AreaRead}
@@ -45,7 +44,7 @@ use Rattle.handler.specs.declared.handling.Received.the-variants as R
 -- the area by the edition
 module _ (rfc7179 : Bool) (area : List ℕ) where
   module _ (r : AreaRead) where
-    pub read-draft : not rfc7179 ≡ true → judgedBy r ≡ draftRead area → ReadBy rfc7179 area r
+    pub read-draft : not rfc7179 ≡ true → areaReadOf r ≡ draftRead area → ReadBy rfc7179 area r
     read-draft e is = rw (not-true rfc7179 e) is
 
   module _ (two : not rfc7179 ≡ false) (w : ℕ) (word : w ≡ be32 area 0) (b : Bool)
@@ -194,7 +193,7 @@ area-near true area n p e = extended (flagUnsummarized (flagsWord area) || (eqb 
     extended false x = let z : 0 ≡ suc (length area) = cc x in omega arith
 
 pub route-place : (p n : ℕ) (read : AreaRead) → read ≡ Faulty n p → (rfc7179 : Bool) (area : List ℕ) → ReadBy rfc7179 area read → length area ≤ 2048 → p ≤ 2048
-route-place p n read e rfc7179 area a short = omega (arith, area-near rfc7179 area n p (sym a ∙ ap judgedBy e))
+route-place p n read e rfc7179 area a short = omega (arith, area-near rfc7179 area n p (sym a ∙ ap areaReadOf e))
 
 pub part-short : (f : List ℕ) (n k : ℕ) → length f ≤ 2048 → length (take n (drop k f)) ≤ 2048
 part-short f n k short = omega (arith, length-take n (drop k f), length-drop k f)
@@ -259,7 +258,7 @@ module _ (nickname : ℕ) (rfc7179 : Bool) (f : List ℕ) (h : Header) (area : L
                 ∙ by-hop (S .hop (h .egress)) (λ q. rw (transit, transitBy, q))
                 (λ r q. rw (transit, transitBy, q, alert-same S two inner within ∙ sym is) (alike S clock r alert));
             left = record {
-              well = λ old. rw (← held) (sym (rw old at a) ∙ ap judgedBy w);
+              well = λ old. rw (← held) (sym (rw old at a) ∙ ap areaReadOf w);
               is-ready = ready;
               answerable = rw is (answers-request inner within);
             };

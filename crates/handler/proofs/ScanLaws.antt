@@ -1,4 +1,4 @@
--- One pass over settings octets that judges them and finds the record that rules for a destination: what the loop keeps is what judging keeps and what
+-- One pass over settings octets that validates them and finds the record that rules for a destination: what the loop keeps is what validation keeps and what
 -- two folds over the fields keep, and what the folds say of the settings read. Then the whole call on settings octets. By one law of fields for each
 -- step, and by induction on the fields.
 use Rattle.rules.specs.Handling.{faulted, echoed, routed, handled}
@@ -7,12 +7,12 @@ use Rattle.rules.specs.declared.{Alert.Alert, NextHop.NextHop, Ruling.Ruling, F
 use Rattle.handler.specs
 use specs.declared.handling.{Task.Task, Received.Received}
 use specs.declared.handling.Task.the-variants.{Forward, Error, Echo}
-use specs.declared.way.{Told.Told, Own.Own}
+use specs.declared.way.{Lookup.Lookup, Own.Own}
 use specs.Tasks.{wantedBy, Routes, Forwardable, askedBy, receivedBy, Receiving, Both}
 use specs.Shapes.{Done, ownOf, ruledBy, noFlags, flaggedBy, FoldedFrom, droppedBy, onlyFor, waysBy}
 use Rattle.handler.proofs
-use proofs.{JudgeLaws.cut-off, JudgeLaws.flag-stops, JudgeLaws.Judging, Stages.if-laws, RouteLaws.received-lent, StageLaws.done-dropped}
-use specs.Keys.{fieldTaken, keysWith, hopTaken, withKey, Taking, Verdict, Scanned, JudgedBy}
+use proofs.{ValidationLaws.cut-off, ValidationLaws.flag-stops, ValidationLaws.Validating, Stages.if-laws, RouteLaws.received-lent, StageLaws.done-dropped}
+use specs.Keys.{fieldTaken, keysWith, hopTaken, withKey, Taking, Verdict, Scanned, ValidatedBy}
 use mathlib.Core.Path.{_≡_, refl, sym, ap, _∙_}
 use mathlib.Core.List.{List, [], _∷_, foldl, foldl-append}
 use mathlib.Core.Bool.{true, not, Bool, false, true≢false, false≢true}
@@ -30,17 +30,21 @@ use Rattle.rules.proofs.{TestLaws.by-test, FieldLaws.fields-at-end, FieldLaws.f
 use Rattle.rules.proofs.{SettingsLaws.settings-read, HandlingLaws.settings-bad, HandlingLaws.settings-good}
 use Rattle.rules.proofs.FirstLaws.{opened-field, first, switch-fold, settings-cut, settings-bad as not-opened}
 use Rattle.octets.specs.Flags.{flagTag, flagBy}
-use specs.declared.judged.{Flags.Flags, Scan.Scan, Judged.Judged}
+use specs.declared.validation.{Flags.Flags, Scan.Scan, Validated.Validated}
 use specs.declared.answers.Answer.{Answer}
 use specs.declared.handling.Received.the-variants.{Answered, Trill}
 use mathlib.Core.Option.{Option, none, some}
-use specs.Calls.{ToldOf}
+use specs.Calls.{LookupOf}
 use Rattle.octets.proofs.FlagLaws.{flag-is}
 use Rattle.stores.specs.Store.{unlessWithdrawn}
 use Rattle.stores.proofs.LookupLaws.{next-hop}
-use proofs.TaskLaws.{both-of, kept, tells, task-laws, back-error, back-echo, replies-none, replies-so, replied, said-forwardable}
+use proofs.TaskLaws.{both-of, kept, finds, task-laws, back-error, back-echo, replies-none, replies-so, replied, said-forwardable}
 use Rattle.rules.specs.Answer as A
-use Rattle.handler.proofs.JudgeLaws as J
+use Rattle.handler.proofs.ValidationLaws as J
+
+-- the switch of settings octets
+abbrev switchAt : List ℕ → Ways
+switchAt s = waysOf (settingsRead s)
 
 -- the record that rules once one more is seen, as the code finds it: `w` is the destination of the record in `v`
 module _ (d : ℕ) (best : Ruling) (v : List ℕ) (w : ℕ) (is : w ≡ be16 v 0) where
@@ -149,11 +153,11 @@ module _ (s : List ℕ) {tag size next : ℕ} (e : fieldAt s 0 ≡ Taken tag siz
 
 -- our nickname and MAC, as the code reads the first field
 module _ (s : List ℕ) (read : FieldRead) (is : read ≡ fieldAt s 0) where
-  pub own-cut : read ≡ Cut → _≡_ {A = Own} (record { nickname = 0; mac = 0 }) (ownOf (waysOf (settingsRead s)))
+  pub own-cut : read ≡ Cut → _≡_ {A = Own} (record { nickname = 0; mac = 0 }) (ownOf (switchAt s))
   own-cut e = ap (λ (S : Settings). ownOf (waysOf S)) (sym (read-cut s (sym is ∙ e)))
 
   pub own-read : (tag size next : ℕ) → read ≡ Taken tag size next → (n m : ℕ) → n ≡ be16 (part s 3 (next - 3)) 0 → m ≡ be48 (part s 3 (next - 3)) 2
-      → _≡_ {A = Own} (record { nickname = n; mac = m }) (ownOf (waysOf (settingsRead s)))
+      → _≡_ {A = Own} (record { nickname = n; mac = m }) (ownOf (switchAt s))
   own-read tag size next e n m en em =
       rw (en, em, read-on s (sym is ∙ e)) (sym (switch-fold (λ n m. record { nickname = n; mac = m }) (switchOf (part s 3 (next - 3))) (fieldsAt s next)))
 
@@ -161,7 +165,7 @@ pub ruleset own-of-laws = (needs, taken-first, taken-to, own-cut, own-read)
 
 -- what the loop keeps
 pub record Scanning (s : List ℕ) (from d : ℕ) (keys seen : List ℕ) (n : ℕ) (best : Ruling) (flags : Flags) (at : ℕ) : Type 0 where
-  pub judging : Judging s from keys seen n at
+  pub judging : Validating s from keys seen n at
   pub ruled : Folding (ruledBy d) Absent s from at best
   pub flagged : Folding flaggedBy noFlags s from at flags
 
@@ -180,12 +184,14 @@ module _ (s : List ℕ) (from d : ℕ) (keys seen : List ℕ) (n : ℕ) (best : 
       abbrev v : List ℕ
       v = part s (at + 3) (next - (at + 3))
 
-      module _ (two : tag ≡ 2) (taken : Bool) (keys′ seen′ : List ℕ) (k : Taking (hopTaken (take n keys) n v) (withKey (take n keys) v) taken (n + 1) keys′ seen′) where
+      module _ (two : tag ≡ 2) (taken : Bool) (keys′ seen′ : List ℕ)
+          (k : Taking (hopTaken (take n keys) n v) (withKey (take n keys) v) taken (n + 1) keys′ seen′) where
         pub scan-hop-bad : (r : Scan) → r .good ≡ false → not taken ≡ true → Scanned s from d r
         unfolding fieldTaken keysWith
         scan-hop-bad r b x = bad-scanned b (J.stops (l .judging) h q t {r = n + 1} {keys′ = keys′} {seen′ = seen′} (rw two (rw (not-true taken x) at k)))
 
-        pub scan-hop : (best′ : Ruling) → best′ ≡ newer d best (hopOf v) → not taken ≡ false → (m : ℕ) → m ≡ n + 1 → Scanning s from d keys′ seen′ m best′ flags next
+        pub scan-hop : (best′ : Ruling) → best′ ≡ newer d best (hopOf v) → not taken ≡ false → (m : ℕ) → m ≡ n + 1
+            → Scanning s from d keys′ seen′ m best′ flags next
         unfolding fieldTaken keysWith ruledBy flaggedBy
         scan-hop best′ e x m is =
             let on = J.on (l .judging) h q t in
@@ -220,30 +226,30 @@ withdrawn-by r best c e is = rw e is
 pub ruleset unless-withdrawn-laws = (if-laws, withdrawn-by)
 
 -- the whole
-bad-judged : {s : List ℕ} {d : ℕ} {r : Judged} → r .good ≡ false → false ≡ known (settingsOf s) → JudgedBy s d r
-bad-judged b k = record { judged = b ∙ k; tells = λ t. absurd (false≢true (sym b ∙ t)) }
+bad-validated : {s : List ℕ} {d : ℕ} {r : Validated} → r .good ≡ false → false ≡ known (settingsOf s) → ValidatedBy s d r
+bad-validated b k = record { validated = b ∙ k; finds = λ t. absurd (false≢true (sym b ∙ t)) }
 
 module _ (s : List ℕ) (d : ℕ) (read : FieldRead) (q : read ≡ fieldAt s 0) where
-  pub judged-cut : (r : Judged) → r .good ≡ false → read ≡ Cut → JudgedBy s d r
-  judged-cut r b c = bad-judged b (settings-cut s (sym q ∙ c))
+  pub validated-cut : (r : Validated) → r .good ≡ false → read ≡ Cut → ValidatedBy s d r
+  validated-cut r b c = bad-validated b (settings-cut s (sym q ∙ c))
 
   module _ (tag size next : ℕ) (t : read ≡ Taken tag size next) (v : List ℕ) (held : v ≡ part s 3 (next - 3)) (o : Bool) (is : o ≡ opens (field tag v)) where
-    pub judged-shut : (r : Judged) → r .good ≡ false → not o ≡ true → JudgedBy s d r
-    judged-shut r b x = bad-judged b (not-opened s (sym q ∙ t) (sym (rw held at is) ∙ not-true o x))
+    pub validated-shut : (r : Validated) → r .good ≡ false → not o ≡ true → ValidatedBy s d r
+    validated-shut r b x = bad-validated b (not-opened s (sym q ∙ t) (sym (rw held at is) ∙ not-true o x))
 
-    pub judged-scan : (own : Own) (scan : Scan) (hop : Ruling) → not o ≡ false → Scanned s next d scan → hop ≡ unlessWithdrawn (scan .best)
-        → own ≡ ownOf (waysOf (settingsRead s))
-        → JudgedBy s d (record { good = scan .good; told = record { own = own; strip = scan .flags .strip; rfc7179 = scan .flags .rfc7179; hop = hop } })
-    judged-scan own scan hop x y z w =
+    pub validated-scan : (own : Own) (scan : Scan) (hop : Ruling) → not o ≡ false → Scanned s next d scan → hop ≡ unlessWithdrawn (scan .best)
+        → own ≡ ownOf (switchAt s)
+        → ValidatedBy s d (record { good = scan .good; lookup = record { own = own; strip = scan .flags .strip; rfc7179 = scan .flags .rfc7179; hop = hop } })
+    validated-scan own scan hop x y z w =
         record {
-          judged = J.settings-so s (sym q ∙ t) (scan .good) (sym (rw held at is) ∙ not-false o x) (y .verdict);
-          tells = λ g.
+          validated = J.settings-so s (sym q ∙ t) (scan .good) (sym (rw held at is) ∙ not-false o x) (y .verdict);
+          finds = λ g.
               let said = flags-read s (sym q ∙ t) (scan .flags) (y .flagged g) in
-              tells (waysOf (settingsRead s)) d own (scan .flags .strip) (scan .flags .rfc7179) hop w (cc) (cc)
+              finds (switchAt s) d own (scan .flags .strip) (scan .flags .rfc7179) hop w (cc) (cc)
               (cc (rules s (sym q ∙ t) d (scan .best) (y .ruled g), next-hop (settingsRead s) d));
         }
 
-pub ruleset judge-laws = (needs, taken, taken-first, judged-cut, judged-shut, judged-scan)
+pub ruleset validate-laws = (needs, taken, taken-first, validated-cut, validated-shut, validated-scan)
 
 -- the call: bad settings, and good ones
 known-none : (o : Option Settings) → known o ≡ false → o ≡ none
@@ -254,79 +260,80 @@ known-some : (o : Option Settings) (T : Settings) → ((S : Settings) → o ≡ 
 known-some none T is k = absurd (false≢true k)
 known-some (some S) T is k = ap some (sym (is S refl))
 
-module _ (s : List ℕ) (d : ℕ) (j : Judged) (is : JudgedBy s d j) where
+module _ (s : List ℕ) (d : ℕ) (j : Validated) (is : ValidatedBy s d j) where
   pub settings-none : not (j .good) ≡ true → settingsOf s ≡ none
-  settings-none n = known-none (settingsOf s) (sym (is .judged) ∙ not-true (j .good) n)
+  settings-none n = known-none (settingsOf s) (sym (is .validated) ∙ not-true (j .good) n)
 
   pub settings-some : not (j .good) ≡ false → settingsOf s ≡ some (settingsRead s)
-  settings-some n = known-some (settingsOf s) (settingsRead s) (settings-read s) (sym (is .judged) ∙ not-false (j .good) n)
+  settings-some n = known-some (settingsOf s) (settingsRead s) (settings-read s) (sym (is .validated) ∙ not-false (j .good) n)
 
-  pub judged-told : known (settingsOf s) ≡ true → waysBy (j .told) ≡ onlyFor d (waysOf (settingsRead s))
-  judged-told k = is .tells (is .judged ∙ k)
+  pub validated-lookup : known (settingsOf s) ≡ true → waysBy (j .lookup) ≡ onlyFor d (switchAt s)
+  validated-lookup k = is .finds (is .validated ∙ k)
 
 -- the whole call
-module _ (s clock f out beside : List ℕ) (d : ℕ) (j : Judged) (is : JudgedBy s d j) where
+module _ (s clock f out beside : List ℕ) (d : ℕ) (j : Validated) (is : ValidatedBy s d j) where
   abbrev answer : A.Handled
   answer = handled s clock (length out) (length beside) f
 
   pub trill-bad : not (j .good) ≡ true → (r : Answer) → r ≡ droppedBy 1 0 → Both answer r out out beside beside
   trill-bad n r e = rw (settings-bad s clock (length out) (length beside) f (settings-none s d j is n)) (both-of beside (done-dropped 1 refl e))
 
-  module _ (n : not (j .good) ≡ false) (own : Own) (o : own ≡ ownOf (waysOf (settingsRead s))) (received : Received)
+  module _ (n : not (j .good) ≡ false) (own : Own) (o : own ≡ ownOf (switchAt s)) (received : Received)
       (x : Receiving own clock f (length out) (length beside) received) where
-    comes : answer ≡ receivedBy (waysOf (settingsRead s)) clock f received
-    comes = settings-good s clock (length out) (length beside) f (settingsRead s) (settings-some s d j is n) ∙ x .same (waysOf (settingsRead s)) o
+    comes : answer ≡ receivedBy (switchAt s) clock f received
+    comes = settings-good s clock (length out) (length beside) f (settingsRead s) (settings-some s d j is n) ∙ x .same (switchAt s) o
 
     pub trill-early : (a : Answer) → received ≡ Answered a → Both answer a out out beside beside
     trill-early a e = rw (comes, e) (both-of beside (kept a out (rw e at (x .got))))
 
     module _ (h : Header) (e : received ≡ Trill h) where
-      pub trill-told : d ≡ askedBy (own .nickname) received → ToldOf s (wantedBy (j .told .own .nickname) h) (j .told)
-      trill-told wants =
-          let said = is .tells (not-false (j .good) n) in
-          let asked : d ≡ wantedBy (j .told .own .nickname) h = rw (e, o ∙ sym (ap ownOf said)) at wants in
-          record { good = sym (is .judged) ∙ not-false (j .good) n; told = rw asked at said }
+      pub trill-lookup : d ≡ askedBy (own .nickname) received → LookupOf s (wantedBy (j .lookup .own .nickname) h) (j .lookup)
+      trill-lookup wants =
+          let said = is .finds (not-false (j .good) n) in
+          let asked : d ≡ wantedBy (j .lookup .own .nickname) h = rw (e, o ∙ sym (ap ownOf said)) at wants in
+          record { good = sym (is .validated) ∙ not-false (j .good) n; lookup = rw asked at said }
 
-      pub trill-good : (r : Answer) (out2 beside2 : List ℕ) → Both (routed (waysOf (settingsRead s)) clock f h) r out out2 beside beside2
+      pub trill-good : (r : Answer) (out2 beside2 : List ℕ) → Both (routed (switchAt s) clock f h) r out out2 beside beside2
           → Both answer r out out2 beside beside2
       trill-good r out2 beside2 done = rw (comes, e) done
 
-pub ruleset trill-handle-laws = (needs, received-lent, trill-bad, trill-early, trill-told, trill-good)
+pub ruleset trill-handle-laws = (needs, received-lent, trill-bad, trill-early, trill-lookup, trill-good)
 
--- what good settings have told
-module _ {s : List ℕ} {d : ℕ} {t : Told} (x : ToldOf s d t) where
-  pub told-ways : waysBy t ≡ onlyFor d (waysOf (settingsRead s))
-  told-ways = x .told
+-- what good settings have lookup
+module _ {s : List ℕ} {d : ℕ} {t : Lookup} (x : LookupOf s d t) where
+  pub lookup-ways : waysBy t ≡ onlyFor d (switchAt s)
+  lookup-ways = x .lookup
 
-  pub told-own : t .own ≡ ownOf (waysOf (settingsRead s))
-  told-own = ap ownOf (x .told)
+  pub lookup-own : t .own ≡ ownOf (switchAt s)
+  lookup-own = ap ownOf (x .lookup)
 
-  pub told-edition : t .rfc7179 ≡ waysOf (settingsRead s) .rfc7179
-  told-edition = ap (λ (y : Ways). y .rfc7179) (x .told)
+  pub lookup-edition : t .rfc7179 ≡ switchAt s .rfc7179
+  lookup-edition = ap (λ (y : Ways). y .rfc7179) (x .lookup)
 
-  pub told-forwardable : {f : List ℕ} {h : Header} {alert : Alert} → Forwardable (t .rfc7179) f h alert → Forwardable (waysOf (settingsRead s) .rfc7179) f h alert
-  told-forwardable y = rw told-edition at y
+  pub lookup-forwardable : {f : List ℕ} {h : Header} {alert : Alert} → Forwardable (t .rfc7179) f h alert
+      → Forwardable (switchAt s .rfc7179) f h alert
+  lookup-forwardable y = rw lookup-edition at y
 
 -- of our role's destination
-module _ {s f : List ℕ} {h : Header} {t : Told} {task : Task} (x : ToldOf s (wantedBy (t .own .nickname) h) t)
+module _ {s f : List ℕ} {h : Header} {t : Lookup} {task : Task} (x : LookupOf s (wantedBy (t .own .nickname) h) t)
     (routes : Routes (t .own .nickname) (t .rfc7179) f h task) where
   module _ (clock : List ℕ) (r : Answer) (out out1 : List ℕ) where
-    pub told-error : (code : ℕ) → task ≡ Error code → Done (faulted (waysBy t) f h code) r out out1
-        → Done (faulted (waysOf (settingsRead s)) f h code) r out out1
-    told-error code e = back-error (waysOf (settingsRead s)) f h t (rw (rw e at (routes .role)) at (x .told)) r out out1 code
+    pub lookup-error : (code : ℕ) → task ≡ Error code → Done (faulted (waysBy t) f h code) r out out1
+        → Done (faulted (switchAt s) f h code) r out out1
+    lookup-error code e = back-error (switchAt s) f h t (rw (rw e at (routes .role)) at (x .lookup)) r out out1 code
 
-    pub told-echo : task ≡ Echo → Done (echoed (waysBy t) clock f h) r out out1 → Done (echoed (waysOf (settingsRead s)) clock f h) r out out1
-    told-echo e = back-echo (waysOf (settingsRead s)) f h t (rw (rw e at (routes .role)) at (x .told)) r out out1 clock
+    pub lookup-echo : task ≡ Echo → Done (echoed (waysBy t) clock f h) r out out1 → Done (echoed (switchAt s) clock f h) r out out1
+    lookup-echo e = back-echo (switchAt s) f h t (rw (rw e at (routes .role)) at (x .lookup)) r out out1 clock
 
-  pub told-onward : (alert : Alert) → task ≡ Forward alert → ToldOf s (h .egress) t
-  told-onward alert e = rw (rw e at (routes .role)) at x
+  pub lookup-onward : (alert : Alert) → task ≡ Forward alert → LookupOf s (h .egress) t
+  lookup-onward alert e = rw (rw e at (routes .role)) at x
 
-pub ruleset handle-told-laws = (task-laws, told-own, told-edition, told-error, told-echo, told-onward)
+pub ruleset handle-by-laws = (task-laws, lookup-own, lookup-edition, lookup-error, lookup-echo, lookup-onward)
 
-pub ruleset forward-by-laws = (needs, replied, replies-none, told-ways, told-own, told-forwardable)
+pub ruleset forward-by-laws = (needs, replied, replies-none, lookup-ways, lookup-own, lookup-forwardable)
 
-pub judged-forwardable : (s : List ℕ) (d : ℕ) (j : Judged) → JudgedBy s d j → known (settingsOf s) ≡ true → (f : List ℕ) (h : Header) (alert : Alert)
-    → Forwardable (waysOf (settingsRead s) .rfc7179) f h alert → Forwardable (j .told .rfc7179) f h alert
-judged-forwardable s d j is good f h alert = said-forwardable (waysOf (settingsRead s)) (j .told) f h alert d (judged-told s d j is good)
+pub validated-forwardable : (s : List ℕ) (d : ℕ) (j : Validated) → ValidatedBy s d j → known (settingsOf s) ≡ true → (f : List ℕ) (h : Header) (alert : Alert)
+    → Forwardable (switchAt s .rfc7179) f h alert → Forwardable (j .lookup .rfc7179) f h alert
+validated-forwardable s d j is good f h alert = said-forwardable (switchAt s) (j .lookup) f h alert d (validated-lookup s d j is good)
 
-pub ruleset reply-by-laws = (needs, replies-so, judged-told, judged-forwardable)
+pub ruleset reply-by-laws = (needs, replies-so, validated-lookup, validated-forwardable)

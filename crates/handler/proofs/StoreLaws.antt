@@ -21,7 +21,7 @@ use specs.declared.way.Own.{Own}
 use specs.declared.handling.Received.{Received}
 use specs.declared.handling.Received.the-variants.{Answered, Trill}
 use specs.{Shapes.droppedBy, Shapes.ownOf, Shapes.onlyFor, Shapes.waysBy, Tasks.receivedBy, Tasks.Receiving, Tasks.Both}
-use proofs.TaskLaws.{both-of, kept, tells, replies-none, replies-so, replied, said-forwardable}
+use proofs.TaskLaws.{both-of, kept, finds, replies-none, replies-so, replied, said-forwardable}
 use Rattle.stores.proofs.PlaceLaws.{good-whole, step-past, step-up, step-stay, place-hinted, place-searched, for-past, for-other}
 use Rattle.stores.specs.Store.{nicknameIn, countIn, destAt, hopOf, hopAt, lastAt, hintAt, placeIn, hopFor, waysIn, storeGood, handledIn, Whole}
 use Rattle.rules.specs.Answer as A
@@ -107,12 +107,12 @@ pub ruleset hop-for-laws = (needs, for-past, for-other, for-withdrawn, for-found
 
 pub ruleset place-in-laws = (needs, place-hinted, place-searched)
 
-pub told-at : (w : List ℕ) (d i n : ℕ) (own : Own) (strip rfc7179 : Bool) (hop : Ruling) → hop ≡ hopFor w n d i → n ≡ countIn w → i ≡ placeIn w (countIn w) d
+pub lookup-at : (w : List ℕ) (d i n : ℕ) (own : Own) (strip rfc7179 : Bool) (hop : Ruling) → hop ≡ hopFor w n d i → n ≡ countIn w → i ≡ placeIn w (countIn w) d
     → own ≡ ownOf (waysIn w) → strip ≡ waysIn w .strip → rfc7179 ≡ waysIn w .rfc7179
     → waysBy (record { own = own; strip = strip; rfc7179 = rfc7179; hop = hop }) ≡ onlyFor d (waysIn w)
-told-at w d i n own strip rfc7179 hop e c p o s t = tells (waysIn w) d own strip rfc7179 hop o s t (e ∙ rw (c, p))
+lookup-at w d i n own strip rfc7179 hop e c p o s t = finds (waysIn w) d own strip rfc7179 hop o s t (e ∙ rw (c, p))
 
-pub ruleset store-told-laws = (needs, told-at)
+pub ruleset store-lookup-laws = (needs, lookup-at)
 
 -- the call: a bad store, and a good one
 module _ (w clock f out beside : List ℕ) (ok : Bool) (is : ok ≡ storeGood w) where

@@ -1,5 +1,4 @@
--- A task carried out: the answer without what is replied to an alert, the reply to one, and both together as the rules have them. One law for
--- each need, over what the calls before it ensure, for `search` to cite.
+-- A task carried out: the answer without what is replied to an alert, the reply to one, and both together as the rules have them. By one law for each need.
 use Rattle.rules.proofs.TestLaws.{by-equal}
 use Rattle.rules.specs as rules
 use rules.Handling.{forwardedRest, forwarded, onward, faulted, echoed, routed}
@@ -23,11 +22,11 @@ use Rattle.rules.proofs.HandlingLaws.{faulted-silent, faulted-none, faulted-ove
 use Rattle.handler.specs
 use specs.declared.answers.{Refusal.Refusal, Answer.Answer}
 use specs.declared.answers.Refusal.the-variants.{Refused, Passed}
-use specs.declared.way.{Own.Own, Told.Told}
+use specs.declared.way.{Own.Own, Lookup.Lookup}
 use specs.declared.handling.Task.{Task}
 use specs.declared.handling.Task.the-variants.{Answered, Forward, Error, Echo}
 use specs.Tasks.{answerBy, alertRefusal, alertQuiet, transitQuiet, alertedBy, transitBy, transitAt, doneAt, asksBack, Forwardable}
-use specs.Tasks.{Routes, FaultTold, EchoAnswered, AlertAnswered, Both}
+use specs.Tasks.{Routes, FaultAnswered, EchoAnswered, AlertAnswered, Both}
 use specs.Calls.{Replies}
 use specs.Shapes.{answerOf, repliedBy, besideBy, viaOf, neighbourOf, ownOf, onlyFor, waysBy, Replied, Done}
 use Rattle.rules.specs.Answer as A
@@ -49,14 +48,14 @@ kept a out z =
           «beside_neighbour» = a .«beside_neighbour»;
         }
 
--- a reply has octets, and goes to the next hop that is told
+-- a reply has octets, and goes to the next hop that is lookup
 some-octets : (S : Ways) (r : NextHop) (rest : List ℕ) → eqb (length (link S r ++ rest)) 0 ≡ false
 some-octets S r rest =
     rw length-append (ne-eqb (length (link S r) + length rest) 0 (λ e. absurd (omega (arith, link-written S r .long, link-length (link S r)))))
 
-told-back : (t : Told) (h : Header) (hop : NextHop) → back (waysBy t) h ≡ Found hop → neighbourOf t ≡ hop .neighbour
+lookup-back : (t : Lookup) (h : Header) (hop : NextHop) → back (waysBy t) h ≡ Found hop → neighbourOf t ≡ hop .neighbour
 unfolding returnPath
-told-back t h hop = go (eqb (h .ingress) (t .own .nickname)) (t .hop)
+lookup-back t h hop = go (eqb (h .ingress) (t .own .nickname)) (t .hop)
   where
     go : (b : Bool) (R : Ruling) → (if b then Absent else R) ≡ Found hop → viaOf R ≡ hop .neighbour
     go true R e = cc e
@@ -67,7 +66,7 @@ data Reply (refusal number : ℕ) (S : Ways) (via : ℕ) : A.Handled → Type 0 
   unsent : Reply refusal number S via (A.dropped refusal)
   sent : (hop : NextHop) (rest : List ℕ) → via ≡ hop .neighbour → Reply refusal number S via (A.wrote number (link S hop ++ rest) (hop .neighbour))
 
-module _ (t : Told) (f : List ℕ) (h : Header) where
+module _ (t : Lookup) (f : List ℕ) (h : Header) where
   abbrev S : Ways
   S = waysBy t
 
@@ -76,7 +75,7 @@ module _ (t : Told) (f : List ℕ) (h : Header) where
   fault-reply code =
       by-test (silenced code (innerOf f h)) (λ s. rw (faulted-silent S f h code s) unsent)
       (λ s. by-hop (back S h) (λ q. rw (faulted-none S f h code s q) unsent)
-      (λ hop q. rw (faulted-over S f h code s hop q) (sent hop (replyRest S (h .ingress) 0x001 code (errorBody f h)) (told-back t h hop q))))
+      (λ hop q. rw (faulted-over S f h code s hop q) (sent hop (replyRest S (h .ingress) 0x001 code (errorBody f h)) (lookup-back t h hop q))))
 
   echo-reply : (clock : List ℕ) → Reply 28 54 S (neighbourOf t) (echoed S clock f h)
   unfolding echoReply
@@ -84,7 +83,7 @@ module _ (t : Told) (f : List ℕ) (h : Header) where
       by-equal (replyMode (bodyOf (innerOf f h))) 2
       (λ two. by-hop (back S h) (λ q. rw (echoed-none S f h clock two q) unsent)
       (λ hop q. rw (echoed-over S f h clock two hop q)
-      (sent hop (replyRest S (h .ingress) 0xFF8 0 (echoBody (bodyOf (innerOf f h)) clock)) (told-back t h hop q))))
+      (sent hop (replyRest S (h .ingress) 0xFF8 0 (echoBody (bodyOf (innerOf f h)) clock)) (lookup-back t h hop q))))
       (λ other. rw (echoed-mode S f h clock other) unsent)
 
 -- written, it is the answer, or goes beside one
@@ -117,7 +116,7 @@ module _ (T : Ways) (f : List ℕ) (h : Header) (alert : Alert) (out : List ℕ)
 pub ruleset transit-laws = (needs, transit-lost, transit-refused, transit-sent)
 
 -- the answers of a reply that is made, or not
-module _ (t : Told) (f : List ℕ) (h : Header) (n via : ℕ) (v : via ≡ neighbourOf t) (r : Answer) (out out1 : List ℕ) where
+module _ (t : Lookup) (f : List ℕ) (h : Header) (n via : ℕ) (v : via ≡ neighbourOf t) (r : Answer) (out out1 : List ℕ) where
   pub error-answered : (code : ℕ) → Replied (faulted (waysBy t) f h code .octets) n out out1 → r ≡ repliedBy 25 53 n via
       → Done (faulted (waysBy t) f h code) r out out1
   error-answered code p is = rw (is, v) (reply-done (fault-reply t f h code) p)
@@ -164,28 +163,28 @@ module _ (T B : Ways) (clock f : List ℕ) (h : Header) (P : A.Handled → A.Han
       (λ r. by-test (ltb 2048 (length (forwarded T r f h))) (λ l. rw l (lost 29 (omega arith))) (λ l. rw l (goes r)))
 
 -- 53 or 25 in place of 50
-module _ (b : Told) (f : List ℕ) (h : Header) (code : ℕ) (a : Answer) (out : List ℕ) where
-  pub tell-21 : a .number ≡ 21 → FaultTold (waysBy b) f h code a a out out
-  tell-21 e =
+module _ (b : Lookup) (f : List ℕ) (h : Header) (code : ℕ) (a : Answer) (out : List ℕ) where
+  pub fault-21 : a .number ≡ 21 → FaultAnswered (waysBy b) f h code a a out out
+  fault-21 e =
       record {
         over = λ T clock before.
-            by-transit T (waysBy b) clock f h (λ quiet told. Done quiet a before out → Done told a before out) (AlertFault code)
+            by-transit T (waysBy b) clock f h (λ quiet lookup. Done quiet a before out → Done lookup a before out) (AlertFault code)
             (λ d. d) (λ r d. absurd (omega (arith, e, numbered d)));
       }
 
-  pub tell-so : (a .number ≡ 21 → ⊥) → (r : Answer) (out1 : List ℕ) → Done (faulted (waysBy b) f h code) r out out1
-      → FaultTold (waysBy b) f h code a r out out1
-  tell-so z r out1 p =
+  pub fault-so : (a .number ≡ 21 → ⊥) → (r : Answer) (out1 : List ℕ) → Done (faulted (waysBy b) f h code) r out out1
+      → FaultAnswered (waysBy b) f h code a r out out1
+  fault-so z r out1 p =
       record {
         over = λ T clock before.
-            by-transit T (waysBy b) clock f h (λ quiet told. Done quiet a before out → Done told r before out1) (AlertFault code)
+            by-transit T (waysBy b) clock f h (λ quiet lookup. Done quiet a before out → Done lookup r before out1) (AlertFault code)
             (λ d. absurd (z (numbered d))) (λ hop d. rw (d .after ∙ put-none before 0) at p);
       }
 
-pub ruleset tell-fault-laws = (needs, tell-21, tell-so, error-answered)
+pub ruleset answer-fault-laws = (needs, fault-21, fault-so, error-answered)
 
 -- an echo reply beside 50
-module _ (b : Told) (clock f : List ℕ) (h : Header) (a : Answer) (beside : List ℕ) where
+module _ (b : Lookup) (clock f : List ℕ) (h : Header) (a : Answer) (beside : List ℕ) where
   pub echo-not : (a .number ≡ 50 → ⊥) → EchoAnswered (waysBy b) clock f h a a beside beside
   echo-not z =
       record {
@@ -226,7 +225,7 @@ module _ (B : Ways) (clock f : List ℕ) (h : Header) (alert : Alert) (a : Answe
   pub alert-quiet : (x : Alert) → alert ≡ x → asksBack x ≡ false → AlertAnswered B clock f h alert a a out out beside beside
   alert-quiet x e n = rw e (record { over = λ T before d. both-of beside (rw (same-transit T B clock f h x n) at d) })
 
-  pub alert-fault : (code : ℕ) → alert ≡ AlertFault code → (r : Answer) (out1 : List ℕ) → FaultTold B f h code a r out out1
+  pub alert-fault : (code : ℕ) → alert ≡ AlertFault code → (r : Answer) (out1 : List ℕ) → FaultAnswered B f h code a r out out1
       → AlertAnswered B clock f h alert a r out out1 beside beside
   alert-fault code e r out1 x = rw e (record { over = λ T before d. both-of beside (x .over T clock before d) })
 
@@ -243,11 +242,11 @@ module _ {rfc7179 : Bool} {f : List ℕ} {h : Header} {alert : Alert} (x : Forwa
 
 pub ruleset answer-alert-laws = (needs, alert-quiet, alert-fault, alert-request, alert-18, alert-530)
 
-pub tells : (S : Ways) (d : ℕ) (own : Own) (strip rfc7179 : Bool) (hop : Ruling) → own ≡ ownOf S → strip ≡ S .strip → rfc7179 ≡ S .rfc7179 → hop ≡ S .hop d
+pub finds : (S : Ways) (d : ℕ) (own : Own) (strip rfc7179 : Bool) (hop : Ruling) → own ≡ ownOf S → strip ≡ S .strip → rfc7179 ≡ S .rfc7179 → hop ≡ S .hop d
     → waysBy (record { own = own; strip = strip; rfc7179 = rfc7179; hop = hop }) ≡ onlyFor d S
-tells S d own strip rfc7179 hop o s t p = rw (o, s, t, p)
+finds S d own strip rfc7179 hop o s t p = rw (o, s, t, p)
 
--- transit by what is told of the egress and, where an alert asks, of the ingress
+-- transit by what is looked up for the egress and, where an alert asks, of the ingress
 module _ (S : Ways) (clock f : List ℕ) (h : Header) where
   asks-two : (alert : Alert) (B : Ways) → (asksBack alert ≡ true → B ≡ onlyFor (h .ingress) S)
       → transitAt S clock f h alert ≡ transitBy (onlyFor (h .egress) S) B clock f h alert
@@ -267,17 +266,17 @@ module _ (S : Ways) (clock f : List ℕ) (h : Header) where
               (both-of beside (rw (same-transit (waysBy t) (waysBy t) clock f h alert none) at d));
         }
 
-    pub replies-so : (b : Told) → waysBy b ≡ onlyFor (h .ingress) S → (r : Answer) (out1 beside1 : List ℕ)
+    pub replies-so : (b : Lookup) → waysBy b ≡ onlyFor (h .ingress) S → (r : Answer) (out1 beside1 : List ℕ)
         → AlertAnswered (waysBy b) clock f h alert a r out out1 beside beside1 → Replies S clock f h alert a r out out1 beside beside1
     replies-so b back r out1 beside1 x =
         record { over = λ t before said d. rw (asks-two alert (waysBy b) (λ e. back), ← said) (x .over (waysBy t) before d) }
 
-    pub replied : (r : Answer) (out1 beside1 : List ℕ) → Replies S clock f h alert a r out out1 beside beside1 → (t : Told) → waysBy t ≡ onlyFor (h .egress) S
+    pub replied : (r : Answer) (out1 beside1 : List ℕ) → Replies S clock f h alert a r out out1 beside beside1 → (t : Lookup) → waysBy t ≡ onlyFor (h .egress) S
         → (before : List ℕ) → Done (transitQuiet (waysBy t) f h alert) a before out → Both (transitAt S clock f h alert) r before out1 beside beside1
     replied r out1 beside1 x t said before d = x .over t before said d
 
 -- a reply asks for the ingress alone
-module _ (S : Ways) (f : List ℕ) (h : Header) (t : Told) (said : waysBy t ≡ onlyFor (h .ingress) S) (r : Answer) (out out1 : List ℕ) where
+module _ (S : Ways) (f : List ℕ) (h : Header) (t : Lookup) (said : waysBy t ≡ onlyFor (h .ingress) S) (r : Answer) (out out1 : List ℕ) where
   same-error : (code : ℕ) → faulted S f h code ≡ faulted (waysBy t) f h code
   unfolding faulted returnPath errorReply replyRest replyInner link
   same-error code = sym (ap (λ (y : Ways). faulted y f h code) said)
@@ -294,8 +293,8 @@ module _ (S : Ways) (f : List ℕ) (h : Header) (t : Told) (said : waysBy t ≡ 
 
 pub ruleset back-laws = (needs, back-error, back-echo)
 
--- what is told has the edition, and a frame can be forwarded by it
-pub said-forwardable : (S : Ways) (t : Told) (f : List ℕ) (h : Header) (alert : Alert) (d : ℕ) → waysBy t ≡ onlyFor d S → Forwardable (S .rfc7179) f h alert
+-- what is lookup has the edition, and a frame can be forwarded by it
+pub said-forwardable : (S : Ways) (t : Lookup) (f : List ℕ) (h : Header) (alert : Alert) (d : ℕ) → waysBy t ≡ onlyFor d S → Forwardable (S .rfc7179) f h alert
     → Forwardable (t .rfc7179) f h alert
 said-forwardable S t f h alert d said x = rw (ap (λ (y : Ways). y .rfc7179) said) x
 

@@ -13,13 +13,13 @@ use Rattle.rules.specs as rules
 use rules.Octets.{if_then_else_, be16, part}
 use rules.Options.{Taken, Fault, TlvOption, Options, options, fault, keyOf, lengthOf, optionSize, optionFirst, optionAt, optionsFrom, optionsOf}
 use rules.Options.{some-key, ie, hopByHopCritical, ingressToEgressCritical, chbh, cite, summarized, draftRead, draftStops}
-use Rattle.rules.proofs.TestLaws.{and-no, and-yes, or-no, or-assoc}
+use Rattle.rules.proofs.TestLaws.{and-no, and-yes, or-no, or-assoc, apart}
 use Rattle.rules.proofs.OptionLaws.{option-reserved, option-past, option-below, option-equal, option-taken, option-read, options-end, options-fault}
 use Rattle.rules.proofs.OptionLaws.{options-on}
 use Rattle.handler.specs
 use specs.declared.options.{Cursor.Cursor, AreaRead.AreaRead}
 use specs.declared.options.AreaRead.the-variants.{Read, Faulty}
-use specs.Shapes.{readBy, ended, foundBy, walkOf, judgedBy}
+use specs.Shapes.{readBy, ended, foundBy, walkOf, areaReadOf}
 use specs.Treatment.{Treats, transitDiscards, egressDiscards}
 use Rattle.rules.specs.Options as O
 
@@ -144,7 +144,7 @@ module _ (area : List ℕ) (c : Cursor) (w : Walking area c) where
       walk-next : (length area - d .at < length area - c .at) × Walking area d
       walk-next =
           by-read (optionAt area (c .floor) (c .at))
-          (λ m q f. let z : _≡_ {A = ℕ} 0 1 = cc in absurd (omega arith))
+          (λ m q f. apart cc)
           (λ key size next f.
           let its = option-read area (c .floor) (c .at) key size next f in
           let fuel : suc (w .fuel - 1) ≡ w .fuel = omega arith in
@@ -178,7 +178,7 @@ area-short area h = rw (options-end (length area) area 0 4 h)
 
 -- the whole area, by the walk's end and the two summary tests
 module _ (area : List ℕ) (read : AreaRead) (is : foundBy read ≡ walkOf false false (optionsOf area)) where
-  pub area-faulty : (number place : ℕ) → read ≡ Faulty number place → judgedBy read ≡ draftRead area
+  pub area-faulty : (number place : ℕ) → read ≡ Faulty number place → areaReadOf read ≡ draftRead area
   unfolding draftRead summarized
   area-faulty number place e = by-options (optionsOf area) (λ m q f. cc) (λ os f. cc)
 

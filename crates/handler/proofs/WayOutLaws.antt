@@ -1,4 +1,4 @@
--- The way out that a caller asks for (T-11): by what is told of one destination, by settings octets, and by a store. By cases of the record
+-- The way out that a caller asks for (T-11): by what is lookup of one destination, by settings octets, and by a store. By cases of the record
 -- that rules.
 use mathlib.Core.Path.{_≡_, refl, sym, _∙_}
 use mathlib.Core.List.{List}
@@ -15,16 +15,16 @@ use rules.declared.NextHop.{NextHop}
 use rules.declared.Ruling.the-variants.{Found, Absent}
 use Rattle.rules.proofs.{OctetLaws.put-none, FrameLaws.length-link, FrameLaws.link-most}
 use Rattle.handler.specs
-use specs.declared.judged.Judged.{Judged}
-use specs.declared.way.{Told.Told, WayOut.WayOut}
-use specs.{Shapes.linkSize, Shapes.waysBy, Shapes.onlyFor, Shapes.WayDone, Keys.JudgedBy}
+use specs.declared.validation.Validated.{Validated}
+use specs.declared.way.{Lookup.Lookup, WayOut.WayOut}
+use specs.{Shapes.linkSize, Shapes.waysBy, Shapes.onlyFor, Shapes.WayDone, Keys.ValidatedBy}
 use Rattle.stores.specs.Store.{storeGood, waysIn, wayOutIn, Whole}
 use Rattle.stores.proofs.PlaceLaws.{good-whole}
 use Rattle.handler.proofs.ScanLaws.{settings-none, settings-some}
 use Rattle.rules.specs.WayOut as W
 
--- T-11, by what is told of one destination
-module _ (t : Told) (out : List ℕ) where
+-- T-11, by what is lookup of one destination
+module _ (t : Lookup) (out : List ℕ) where
   abbrev asked : W.WayOut
   asked = wayOutBy (waysBy t) 0 (length out)
 
@@ -50,26 +50,26 @@ out-fits S q k long = omega (arith, long, link-most S q)
 
 pub ruleset way-out-laws = (needs, out-none, out-short, out-written, out-fits)
 
--- and by settings octets or a store, of which it is told
+-- and by settings octets or a store, of which it is lookup
 one-asked : (S : Ways) (d room : ℕ) → wayOutBy (onlyFor d S) 0 room ≡ wayOutBy S d room
 unfolding wayOutBy link
 one-asked S d room = refl
 
-module _ (t : Told) (d : ℕ) (S : Ways) (said : waysBy t ≡ onlyFor d S) (out : List ℕ) (r : WayOut) (out′ : List ℕ) where
-  told-way : WayDone (wayOutBy (waysBy t) 0 (length out)) r out out′ → WayDone (wayOutBy S d (length out)) r out out′
-  told-way w = rw (said, one-asked S d (length out)) at w
+module _ (t : Lookup) (d : ℕ) (S : Ways) (said : waysBy t ≡ onlyFor d S) (out : List ℕ) (r : WayOut) (out′ : List ℕ) where
+  lookup-way : WayDone (wayOutBy (waysBy t) 0 (length out)) r out out′ → WayDone (wayOutBy S d (length out)) r out out′
+  lookup-way w = rw (said, one-asked S d (length out)) at w
 
-module _ (settings : List ℕ) (d : ℕ) (out : List ℕ) (j : Judged) (is : JudgedBy settings d j) (r : WayOut) where
+module _ (settings : List ℕ) (d : ℕ) (out : List ℕ) (j : Validated) (is : ValidatedBy settings d j) (r : WayOut) where
   pub settings-no-way : not (j .good) ≡ true → r ≡ record { number = 1; length = 0 } → WayDone (wayOut settings d (length out)) r out out
   unfolding wayOut
   settings-no-way n e = rw (wayOut, settings-none settings d j is n) (record { answer = e; after = sym (put-none out 0) })
 
-  pub settings-way : not (j .good) ≡ false → (out′ : List ℕ) → WayDone (wayOutBy (waysBy (j .told)) 0 (length out)) r out out′
+  pub settings-way : not (j .good) ≡ false → (out′ : List ℕ) → WayDone (wayOutBy (waysBy (j .lookup)) 0 (length out)) r out out′
       → WayDone (wayOut settings d (length out)) r out out′
   unfolding wayOut
   settings-way n out′ w =
       rw (wayOut, settings-some settings d j is n)
-      (told-way (j .told) d (waysOf (settingsRead settings)) (is .tells (not-false (j .good) n)) out r out′ w)
+      (lookup-way (j .lookup) d (waysOf (settingsRead settings)) (is .finds (not-false (j .good) n)) out r out′ w)
 
 pub store-whole : (store : List ℕ) {ok : Bool} → ok ≡ storeGood store → not ok ≡ false → Whole store
 store-whole store {ok} is n = good-whole store (sym is ∙ not-false ok n)
@@ -79,10 +79,10 @@ module _ (store : List ℕ) (d : ℕ) (out : List ℕ) {ok : Bool} (is : ok ≡ 
   unfolding wayOutIn
   store-no-way n e = rw (← is, not-true ok n) (record { answer = e; after = sym (put-none out 0) })
 
-  pub store-way : not ok ≡ false → (t : Told) (out′ : List ℕ) → WayDone (wayOutBy (waysBy t) 0 (length out)) r out out′
+  pub store-way : not ok ≡ false → (t : Lookup) (out′ : List ℕ) → WayDone (wayOutBy (waysBy t) 0 (length out)) r out out′
       → waysBy t ≡ onlyFor d (waysIn store) → WayDone (wayOutIn store d (length out)) r out out′
   unfolding wayOutIn
-  store-way n t out′ w said = rw (← is, not-false ok n) (told-way t d (waysIn store) said out r out′ w)
+  store-way n t out′ w said = rw (← is, not-false ok n) (lookup-way t d (waysIn store) said out r out′ w)
 
 pub ruleset trill-way-out-laws = (needs, settings-no-way, settings-way)
 

@@ -8,16 +8,16 @@ use Rattle.rules.specs.Campus.{known}
 use Rattle.rules.specs.declared.Header.{Header}
 use Rattle.rules.specs.declared.Alert.{Alert}
 use Rattle.handler.specs.declared.answers.Answer.{Answer}
-use Rattle.handler.specs.declared.way.Told.{Told}
+use Rattle.handler.specs.declared.way.Lookup.{Lookup}
 use Rattle.handler.specs.Shapes.{waysBy, onlyFor, Done}
 use Rattle.handler.specs.Tasks.{transitQuiet, transitAt, Both}
 
--- what good settings have told that were asked for a destination
-pub record ToldOf (s : List ℕ) (d : ℕ) (t : Told) : Type 0 where
+-- what is looked up in good settings for a destination
+pub record LookupOf (s : List ℕ) (d : ℕ) (t : Lookup) : Type 0 where
   pub good : known (settingsOf s) ≡ true
-  pub told : waysBy t ≡ onlyFor d (waysOf (settingsRead s))
+  pub lookup : waysBy t ≡ onlyFor d (waysOf (settingsRead s))
 
--- with what is replied to an alert the answer without it, by what is told of the egress, is that of the switch
+-- with what is replied to an alert the answer without it, by what is looked up for the egress, is that of the switch
 pub record Replies (S : Ways) (clock f : List ℕ) (h : Header) (alert : Alert) (a r : Answer) (out out′ beside beside′ : List ℕ) : Type 0 where
-  pub over : (t : Told) (before : List ℕ) → waysBy t ≡ onlyFor (h .egress) S → Done (transitQuiet (waysBy t) f h alert) a before out
+  pub over : (t : Lookup) (before : List ℕ) → waysBy t ≡ onlyFor (h .egress) S → Done (transitQuiet (waysBy t) f h alert) a before out
       → Both (transitAt S clock f h alert) r before out′ beside beside′

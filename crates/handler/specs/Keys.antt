@@ -1,4 +1,4 @@
--- The keys of the records met so far, and the filter in front of them: how settings are judged in one pass.
+-- The keys of the records met so far, and the filter in front of them: how settings are validated in one pass.
 use Prim.Native.Nat.{ℕ, suc, _+_, _*_, _/_, _%_, _≤_, _<_}
 use mathlib.Core.Path.{_≡_}
 use mathlib.Core.List.{List, [], _∷_, _++_}
@@ -12,8 +12,8 @@ use Rattle.rules.specs.Campus.{known}
 use Rattle.rules.specs.declared.NextHop.{NextHop}
 use Rattle.rules.specs.declared.Ruling.the-variants.{Absent}
 use Rattle.octets.specs.Flags.{flagBy}
-use Rattle.handler.specs.declared.judged.Scan.{Scan}
-use Rattle.handler.specs.declared.judged.Judged.{Judged}
+use Rattle.handler.specs.declared.validation.Scan.{Scan}
+use Rattle.handler.specs.declared.validation.Validated.{Validated}
 use Rattle.handler.specs.Shapes.{ruledBy, noFlags, flaggedBy, FoldedFrom, waysBy, onlyFor}
 
 -- destination above serial: two records of one destination with equal serials have one key
@@ -67,7 +67,7 @@ keysWith keys tag v = if eqb tag 2 then withKey keys v else keys
 
 -- whether a record or field is taken; then the first r keys are `met`
 pub record Taking (good : Bool) (met : List ℕ) (taken : Bool) (r : ℕ) (keys seen : List ℕ) : Type 0 where
-  pub judged : good ≡ taken
+  pub validated : good ≡ taken
   pub now-met : taken ≡ true → take r keys ≡ met
   pub kept : taken ≡ true → Kept keys seen r
 
@@ -81,7 +81,7 @@ pub record Scanned (s : List ℕ) (from d : ℕ) (r : Scan) : Type 0 where
   pub ruled : r .good ≡ true → FoldedFrom (ruledBy d) Absent s from (r .best)
   pub flagged : r .good ≡ true → FoldedFrom flaggedBy noFlags s from (r .flags)
 
--- settings octets judged, and what they say of one destination if they are good
-pub record JudgedBy (s : List ℕ) (d : ℕ) (r : Judged) : Type 0 where
-  pub judged : r .good ≡ known (settingsOf s)
-  pub tells : r .good ≡ true → waysBy (r .told) ≡ onlyFor d (waysOf (settingsRead s))
+-- settings octets validated, and what they say of one destination if they are good
+pub record ValidatedBy (s : List ℕ) (d : ℕ) (r : Validated) : Type 0 where
+  pub validated : r .good ≡ known (settingsOf s)
+  pub finds : r .good ≡ true → waysBy (r .lookup) ≡ onlyFor d (waysOf (settingsRead s))

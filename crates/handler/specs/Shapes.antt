@@ -22,9 +22,9 @@ use Rattle.rules.specs.declared.FrameRead.the-variants.{Trill}
 use Rattle.handler.specs.declared.answers.Answer.{Answer}
 use Rattle.handler.specs.declared.answers.Refusal.{Refusal}
 use Rattle.handler.specs.declared.answers.Refusal.the-variants.{Refused, Passed}
-use Rattle.handler.specs.declared.judged.Flags.{Flags}
+use Rattle.handler.specs.declared.validation.Flags.{Flags}
 use Rattle.handler.specs.declared.way.Own.{Own}
-use Rattle.handler.specs.declared.way.Told.{Told}
+use Rattle.handler.specs.declared.way.Lookup.{Lookup}
 use Rattle.handler.specs.declared.way.WayOut.{WayOut}
 use Rattle.handler.specs.declared.options.Cursor.{Cursor}
 use Rattle.handler.specs.declared.options.AreaRead.{AreaRead}
@@ -82,15 +82,15 @@ besideBy a written via =
 abbrev pub ownOf : Ways → Own
 ownOf S = record { nickname = S .nickname; mac = S .mac }
 
--- what a handling is told, which asks for the next hop of one destination only
-abbrev pub waysBy : Told → Ways
+-- what a handling looks up, which asks for the next hop of one destination only
+abbrev pub waysBy : Lookup → Ways
 waysBy t = record { nickname = t .own .nickname; mac = t .own .mac; strip = t .strip; rfc7179 = t .rfc7179; hop = λ d. t .hop }
 
 abbrev pub viaOf : Ruling → ℕ
 viaOf Absent = 0
 viaOf (Found r) = r .neighbour
 
-abbrev pub neighbourOf : Told → ℕ
+abbrev pub neighbourOf : Lookup → ℕ
 neighbourOf t = viaOf (t .hop)
 
 -- the record that rules, and the flags, once one more field is read
@@ -137,9 +137,9 @@ abbrev pub walkOf : Bool → Bool → Options → Walk
 walkOf hop egress (fault number place) = stopped number place
 walkOf hop egress (options os) = ended (hop || some-key hopByHopCritical os) (egress || some-key ingressToEgressCritical os)
 
-abbrev pub judgedBy : AreaRead → O.AreaRead
-judgedBy (Read c) = O.WellFormed
-judgedBy (Faulty number place) = O.Faulty number place
+abbrev pub areaReadOf : AreaRead → O.AreaRead
+areaReadOf (Read c) = O.WellFormed
+areaReadOf (Faulty number place) = O.Faulty number place
 
 -- what stays of one option, and of all
 abbrev pub keptIf : Bool → List ℕ → List ℕ
@@ -197,8 +197,8 @@ abbrev pub foreignBy : ℕ → Bool
 foreignBy ethertype = not (eqb ethertype ethertypeChannel) && not (eqb ethertype ethertypeIsIs)
 
 -- the codes that a message may keep from being sent
-abbrev pub quenchedBy : ℕ → Bool
-quenchedBy code = eqb code 4 || eqb code 5
+abbrev pub silencedBySl : ℕ → Bool
+silencedBySl code = eqb code 4 || eqb code 5
 
 -- a frame that was read and of which neither 17 nor 18 is given
 pub record Ready (f : List ℕ) (h : Header) : Type 0 where

@@ -28,14 +28,14 @@ use Rattle.handler.specs.declared.handling.Task.{Task}
 use Rattle.handler.specs.declared.handling.Task.the-variants.{Answered, Forward, Error, Echo}
 use Rattle.handler.specs.declared.handling.Received.{Received}
 use Rattle.handler.specs.declared.handling.Received.the-variants as R
-use Rattle.handler.specs.Shapes.{answerOf, ownOf, judgedBy, Ready, Done}
+use Rattle.handler.specs.Shapes.{answerOf, ownOf, areaReadOf, Ready, Done}
 
 -- the area by the edition
 abbrev pub areaReadBy : Bool → List ℕ → O.AreaRead
 areaReadBy rfc7179 area = if rfc7179 then extensionRead area else draftRead area
 
 abbrev pub ReadBy : Bool → List ℕ → AreaRead → Type 0
-ReadBy rfc7179 area r = judgedBy r ≡ areaReadBy rfc7179 area
+ReadBy rfc7179 area r = areaReadOf r ≡ areaReadBy rfc7179 area
 
 abbrev pub stopsBy : Bool → Bool → List ℕ → Bool
 stopsBy rfc7179 egress area = if rfc7179 then extensionStops egress (flagsWord area) else draftStops egress area
@@ -74,7 +74,7 @@ doneAt S clock f h (Forward alert) = transitAt S clock f h alert
 doneAt S clock f h (Error code) = faulted S f h code
 doneAt S clock f h Echo = echoed S clock f h
 
--- transit without what is replied to an alert: a fault is dropped while no reply tells of it
+-- transit without what is replied to an alert: a fault is dropped while no reply is made
 abbrev pub alertRefusal : Alert → Refusal
 alertRefusal NoAlert = Passed
 alertRefusal (AlertFault code) = Refused 25
@@ -181,7 +181,7 @@ pub record Both (a : A.Handled) (r : Answer) (out out′ beside beside′ : List
   pub after-beside : beside′ ≡ put beside 0 (a .beside)
 
 -- what is replied to an alert makes of the answer without it, at every switch, the one with it
-pub record FaultTold (B : Ways) (f : List ℕ) (h : Header) (code : ℕ) (a r : Answer) (out out′ : List ℕ) : Type 0 where
+pub record FaultAnswered (B : Ways) (f : List ℕ) (h : Header) (code : ℕ) (a r : Answer) (out out′ : List ℕ) : Type 0 where
   pub over : (T : Ways) (clock before : List ℕ) → Done (transitQuiet T f h (AlertFault code)) a before out
       → Done (transitBy T B clock f h (AlertFault code)) r before out′
 

@@ -3,7 +3,7 @@ use rules::ChannelRead;
 ghost use mathlib.Core.Path.{_≡_};
 ghost use Prim.Native.Nat.{_/_, _%_};
 ghost use Rattle.rules.specs.Channel as C;
-ghost use Rattle.handler.specs.Shapes.{foreignBy, quenchedBy};
+ghost use Rattle.handler.specs.Shapes.{foreignBy, silencedBySl};
 
 // The channel header's words: CHV 4, protocol 12; SL, MH, NA and nine more flags, ERR 4.
 fn chv(w: u16) -> u16
@@ -53,8 +53,8 @@ fn foreign(ethertype: u16) -> bool
 }
 
 // The codes that a message may keep from being sent.
-fn quenched(code: u8) -> bool
-    ensures { λ r. ⌜ r ≡ quenchedBy code ⌝ }
+fn silenced_by_sl(code: u8) -> bool
+    ensures { λ r. ⌜ r ≡ silencedBySl code ⌝ }
 {
     if code == 4 {
         return true;
@@ -115,7 +115,7 @@ pub fn channel_read(inner: &[u8]) -> ChannelRead
 pub fn silenced(code: u8, inner: &[u8]) -> bool
     ensures { λ r. ⌜ r ≡ C.silenced code (now (inner .entry)) ⌝ }
 {
-    if !quenched(code) {
+    if !silenced_by_sl(code) {
         return false;
     }
     let flags = octets::be16(inner, 20);

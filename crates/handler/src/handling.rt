@@ -10,8 +10,8 @@ use crate::options;
 use crate::options::AreaRead;
 use crate::reply;
 use crate::way;
+use crate::way::Lookup;
 use crate::way::Own;
-use crate::way::Told;
 use rules::Alert;
 use rules::ChannelRead;
 use rules::FrameRead;
@@ -31,7 +31,7 @@ ghost use Rattle.rules.specs.Channel.{bodyOf, channelRead};
 ghost use Rattle.rules.specs.Handling as Rules;
 ghost use Rattle.rules.specs.declared.FrameRead.the-variants.{Trill};
 ghost use Rattle.handler.specs.Shapes.{Ready, Replied, Done, waysBy};
-ghost use Rattle.handler.specs.Tasks.{ReadBy, stopsBy, alertBy, alertRefusal, wantedBy, askedBy, asksBack, transitQuiet, EchoIn, FaultTold, EchoAnswered, AlertAnswered, Forwardable, Comes, Routes, Receives, Receiving};
+ghost use Rattle.handler.specs.Tasks.{ReadBy, stopsBy, alertBy, alertRefusal, wantedBy, askedBy, asksBack, transitQuiet, EchoIn, FaultAnswered, EchoAnswered, AlertAnswered, Forwardable, Comes, Routes, Receives, Receiving};
 
 // A frame as received: an answer with nothing written, or a TRILL frame of which none of 10 to 18 is given.
 pub enum Received {
@@ -309,7 +309,7 @@ fn alert_refusal(alert: Alert) -> Refusal
 }
 
 // 21, 25 and 26, 29 and 50, without what is replied to an alert.
-pub fn transit(t: Told, f: &[u8], h: Header, alert: Alert, out: &mut [u8]) -> Answer
+pub fn transit(t: Lookup, f: &[u8], h: Header, alert: Alert, out: &mut [u8]) -> Answer
     requires { ⌜ Forwardable (t .rfc7179) (now f) h alert × (2048 ≤ length (now out)) ⌝ }
     ensures { λ r. ⌜ Done (transitQuiet (waysBy t) (now (f .entry)) h alert) r (now (out .entry)) (now (out .exit)) ⌝ }
 {
@@ -324,7 +324,7 @@ pub fn transit(t: Told, f: &[u8], h: Header, alert: Alert, out: &mut [u8]) -> An
 }
 
 // 29 and 50.
-fn send(t: Told, r: NextHop, f: &[u8], h: Header, out: &mut [u8]) -> Answer
+fn send(t: Lookup, r: NextHop, f: &[u8], h: Header, out: &mut [u8]) -> Answer
     requires { ⌜ (t .rfc7179 ≡ false → draftRead (areaOf (now f) h) ≡ WellFormed) × Ready (now f) h × (2048 ≤ length (now out)) ⌝ }
     ensures { λ a. ⌜ Done (Rules.onward (waysBy t) r (now (f .entry)) h [] 0) a (now (out .entry)) (now (out .exit)) ⌝ }
 {
@@ -335,7 +335,7 @@ fn send(t: Told, r: NextHop, f: &[u8], h: Header, out: &mut [u8]) -> Answer
 }
 
 // 29 and 50, with the area as it is.
-fn send_whole(t: Told, r: NextHop, f: &[u8], h: Header, out: &mut [u8]) -> Answer
+fn send_whole(t: Lookup, r: NextHop, f: &[u8], h: Header, out: &mut [u8]) -> Answer
     requires { ⌜ (areaSent (waysBy t) (areaOf (now f) h) ≡ areaOf (now f) h) × Ready (now f) h × (2048 ≤ length (now out)) ⌝ }
     ensures { λ a. ⌜ Done (Rules.onward (waysBy t) r (now (f .entry)) h [] 0) a (now (out .entry)) (now (out .exit)) ⌝ }
 {
@@ -349,7 +349,7 @@ fn send_whole(t: Told, r: NextHop, f: &[u8], h: Header, out: &mut [u8]) -> Answe
 }
 
 // The same with another area than the one received.
-fn send_with(t: Told, r: NextHop, area: &[u8], f: &[u8], h: Header, out: &mut [u8]) -> Answer
+fn send_with(t: Lookup, r: NextHop, area: &[u8], f: &[u8], h: Header, out: &mut [u8]) -> Answer
     requires { ⌜ (areaSent (waysBy t) (areaOf (now f) h) ≡ now area) × (length (now area) ≤ 124) × Ready (now f) h × (2048 ≤ length (now out)) ⌝ }
     ensures { λ a. ⌜ Done (Rules.onward (waysBy t) r (now (f .entry)) h [] 0) a (now (out .entry)) (now (out .exit)) ⌝ }
 {
@@ -364,7 +364,7 @@ fn send_with(t: Told, r: NextHop, area: &[u8], f: &[u8], h: Header, out: &mut [u
 }
 
 // Stripped aside: 29 looks at how long the frame is then, and writes nothing.
-fn send_stripped(t: Told, r: NextHop, f: &[u8], h: Header, out: &mut [u8]) -> Answer
+fn send_stripped(t: Lookup, r: NextHop, f: &[u8], h: Header, out: &mut [u8]) -> Answer
     requires { ⌜ (areaSent (waysBy t) (areaOf (now f) h) ≡ stripped (areaOf (now f) h)) × (4 ≤ length (areaOf (now f) h))
         × (draftRead (areaOf (now f) h) ≡ WellFormed) × Ready (now f) h × (2048 ≤ length (now out)) ⌝ }
     ensures { λ a. ⌜ Done (Rules.onward (waysBy t) r (now (f .entry)) h [] 0) a (now (out .entry)) (now (out .exit)) ⌝ }
@@ -377,7 +377,7 @@ fn send_stripped(t: Told, r: NextHop, f: &[u8], h: Header, out: &mut [u8]) -> An
 }
 
 // Whether anything can be stripped: in edition 1, where the area has an option.
-fn strips(t: Told, h: Header) -> bool
+fn strips(t: Lookup, h: Header) -> bool
     ensures { λ r. ⌜ r ≡ (leb 2 (opLength (h .word)) && (t .strip && not (t .rfc7179))) ⌝ }
 {
     if header::op_length(h.word) < 2 {
@@ -390,7 +390,7 @@ fn strips(t: Told, h: Header) -> bool
 }
 
 // The reply of 53 and how long it is, 0 for 25.
-fn faulted(t: Told, f: &[u8], h: Header, code: u8, out: &mut [u8]) -> usize
+fn faulted(t: Lookup, f: &[u8], h: Header, code: u8, out: &mut [u8]) -> usize
     requires { ⌜ Ready (now f) h × (576 ≤ length (now out)) ⌝ }
     ensures { λ n. ⌜ Replied (Rules.faulted (waysBy t) (now (f .entry)) h code .octets) n (now (out .entry)) (now (out .exit)) ⌝ }
 {
@@ -406,7 +406,7 @@ fn faulted(t: Told, f: &[u8], h: Header, code: u8, out: &mut [u8]) -> usize
 }
 
 // The reply of 54 and how long it is, 0 for 28.
-fn echoed(t: Told, clock: &[u8], f: &[u8], h: Header, out: &mut [u8]) -> usize
+fn echoed(t: Lookup, clock: &[u8], f: &[u8], h: Header, out: &mut [u8]) -> usize
     requires { ⌜ EchoIn (now f) h × (length (now clock) ≡ 6) × Ready (now f) h × (576 ≤ length (now out)) ⌝ }
     ensures { λ n. ⌜ Replied (Rules.echoed (waysBy t) (now (clock .entry)) (now (f .entry)) h .octets) n (now (out .entry)) (now (out .exit)) ⌝ }
 {
@@ -423,7 +423,7 @@ fn echoed(t: Told, clock: &[u8], f: &[u8], h: Header, out: &mut [u8]) -> usize
 }
 
 // 53, or 25.
-pub fn error_answer(t: Told, f: &[u8], h: Header, code: u8, out: &mut [u8]) -> Answer
+pub fn error_answer(t: Lookup, f: &[u8], h: Header, code: u8, out: &mut [u8]) -> Answer
     requires { ⌜ Ready (now f) h × (576 ≤ length (now out)) ⌝ }
     ensures { λ r. ⌜ Done (Rules.faulted (waysBy t) (now (f .entry)) h code) r (now (out .entry)) (now (out .exit)) ⌝ }
 {
@@ -432,7 +432,7 @@ pub fn error_answer(t: Told, f: &[u8], h: Header, code: u8, out: &mut [u8]) -> A
 }
 
 // 54, or 28.
-pub fn echo_answer(t: Told, clock: &[u8], f: &[u8], h: Header, out: &mut [u8]) -> Answer
+pub fn echo_answer(t: Lookup, clock: &[u8], f: &[u8], h: Header, out: &mut [u8]) -> Answer
     requires { ⌜ EchoIn (now f) h × (length (now clock) ≡ 6) × Ready (now f) h × (576 ≤ length (now out)) ⌝ }
     ensures { λ r. ⌜ Done (Rules.echoed (waysBy t) (now (clock .entry)) (now (f .entry)) h) r (now (out .entry)) (now (out .exit)) ⌝ }
 {
@@ -440,10 +440,10 @@ pub fn echo_answer(t: Told, clock: &[u8], f: &[u8], h: Header, out: &mut [u8]) -
     answers::replied(28, 54, n, way::neighbour(t))
 }
 
-// 53 or 25 in place of 50, once there is a next hop; `b` is told of the ingress.
-fn tell_fault(a: Answer, b: Told, f: &[u8], h: Header, code: u8, out: &mut [u8]) -> Answer
+// 53 or 25 in place of 50, once there is a next hop; `b` is looked up for the ingress.
+fn answer_fault(a: Answer, b: Lookup, f: &[u8], h: Header, code: u8, out: &mut [u8]) -> Answer
     requires { ⌜ Ready (now f) h × (576 ≤ length (now out)) ⌝ }
-    ensures { λ r. ⌜ FaultTold (waysBy b) (now (f .entry)) h code a r (now (out .entry)) (now (out .exit)) ⌝ }
+    ensures { λ r. ⌜ FaultAnswered (waysBy b) (now (f .entry)) h code a r (now (out .entry)) (now (out .exit)) ⌝ }
 {
     if a.number == 21 {
         return a;
@@ -453,7 +453,7 @@ fn tell_fault(a: Answer, b: Told, f: &[u8], h: Header, code: u8, out: &mut [u8])
 }
 
 // An echo reply beside 50.
-fn answer_echo(a: Answer, b: Told, clock: &[u8], f: &[u8], h: Header, beside: &mut [u8]) -> Answer
+fn answer_echo(a: Answer, b: Lookup, clock: &[u8], f: &[u8], h: Header, beside: &mut [u8]) -> Answer
     requires { ⌜ EchoIn (now f) h × (length (now clock) ≡ 6) × Ready (now f) h × (576 ≤ length (now beside)) ⌝ }
     ensures { λ r. ⌜ EchoAnswered (waysBy b) (now (clock .entry)) (now (f .entry)) h a r (now (beside .entry)) (now (beside .exit)) ⌝ }
 {
@@ -464,10 +464,10 @@ fn answer_echo(a: Answer, b: Told, clock: &[u8], f: &[u8], h: Header, beside: &m
     answers::with_beside(a, n, way::neighbour(b))
 }
 
-// What is replied to an alert, once all else is done; `b` is told of the ingress.
+// What is replied to an alert, once all else is done; `b` is looked up for the ingress.
 pub fn answer_alert(
     a: Answer,
-    b: Told,
+    b: Lookup,
     clock: &[u8],
     f: &[u8],
     h: Header,
@@ -480,7 +480,7 @@ pub fn answer_alert(
 {
     match alert {
         Alert::NoAlert => a,
-        Alert::AlertFault { code } => tell_fault(a, b, f, h, code, out),
+        Alert::AlertFault { code } => answer_fault(a, b, f, h, code, out),
         Alert::AlertErr => a,
         Alert::AlertRequest => answer_echo(a, b, clock, f, h, beside),
     }

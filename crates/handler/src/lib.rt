@@ -5,18 +5,18 @@ mod extension;
 mod forward;
 mod handling;
 mod header;
-mod judged;
 mod options;
 mod reply;
 mod settings;
 mod store;
 mod treatment;
+mod validation;
 mod way;
 
 use crate::handling::Received;
 use crate::handling::Task;
+use crate::way::Lookup;
 use crate::way::Own;
-use crate::way::Told;
 pub use answers::Answer;
 use rules::Alert;
 use rules::Header;
@@ -32,7 +32,7 @@ ghost use Rattle.rules.specs.Handling.{faulted, echoed, routed, handled};
 ghost use Rattle.stores.specs.Store.{handledIn, wayOutIn, waysIn, Whole};
 ghost use Rattle.handler.specs.Shapes.{ownOf, Ready, Done, WayDone};
 ghost use Rattle.handler.specs.Tasks.{EchoIn, Forwardable, wantedBy, transitAt, Both};
-ghost use Rattle.handler.specs.Calls.{ToldOf, Replies};
+ghost use Rattle.handler.specs.Calls.{LookupOf, Replies};
 
 #[no_mangle]
 pub extern "C" fn trill_handle(
@@ -46,28 +46,28 @@ pub extern "C" fn trill_handle(
 {
     let own = settings::own_of(settings);
     let received = handling::receive(own, clock, frame, out.len(), beside.len());
-    let j = judged::judge(settings, own, handling::asked(own.nickname, received));
+    let j = validation::validate(settings, own, handling::asked(own.nickname, received));
     if !j.good {
         return answers::dropped(1);
     }
-    let t = j.told;
+    let t = j.lookup;
     match received {
         Received::Answered(a) => a,
-        Received::Trill(h) => handle_told(settings, t, clock, frame, h, out, beside),
+        Received::Trill(h) => handle_by(settings, t, clock, frame, h, out, beside),
     }
 }
 
-// A frame of which none of 10 to 18 is given, once good settings have told what it asks for.
-fn handle_told(
+// A frame of which none of 10 to 18 is given, by what was looked up in good settings.
+fn handle_by(
     settings: &[u8],
-    t: Told,
+    t: Lookup,
     clock: &[u8],
     frame: &[u8],
     h: Header,
     out: &mut [u8],
     beside: &mut [u8],
 ) -> Answer
-    requires { ⌜ ToldOf (now settings) (wantedBy (t .own .nickname) h) t × Ready (now frame) h × (length (now clock) ≡ 6) × (2048 ≤ length (now out)) × (576 ≤ length (now beside)) ⌝ }
+    requires { ⌜ LookupOf (now settings) (wantedBy (t .own .nickname) h) t × Ready (now frame) h × (length (now clock) ≡ 6) × (2048 ≤ length (now out)) × (576 ≤ length (now beside)) ⌝ }
     ensures { λ r. ⌜ Both (routed (waysOf (settingsRead (now (settings .entry)))) (now (clock .entry)) (now (frame .entry)) h) r (now (out .entry)) (now (out .exit)) (now (beside .entry)) (now (beside .exit)) ⌝ }
 {
     let task = handling::route(t.own.nickname, t.rfc7179, frame, h);
@@ -82,7 +82,7 @@ fn handle_told(
 // A transit frame; an alert may ask for a reply too.
 fn forward_by(
     settings: &[u8],
-    t: Told,
+    t: Lookup,
     clock: &[u8],
     frame: &[u8],
     h: Header,
@@ -90,7 +90,7 @@ fn forward_by(
     out: &mut [u8],
     beside: &mut [u8],
 ) -> Answer
-    requires { ⌜ ToldOf (now settings) (h .egress) t × Forwardable (t .rfc7179) (now frame) h alert × (length (now clock) ≡ 6) × (2048 ≤ length (now out)) × (576 ≤ length (now beside)) ⌝ }
+    requires { ⌜ LookupOf (now settings) (h .egress) t × Forwardable (t .rfc7179) (now frame) h alert × (length (now clock) ≡ 6) × (2048 ≤ length (now out)) × (576 ≤ length (now beside)) ⌝ }
     ensures { λ r. ⌜ Both (transitAt (waysOf (settingsRead (now (settings .entry)))) (now (clock .entry)) (now (frame .entry)) h alert) r (now (out .entry)) (now (out .exit)) (now (beside .entry)) (now (beside .exit)) ⌝ }
 {
     let a = handling::transit(t, frame, h, alert, out);
@@ -117,8 +117,8 @@ fn reply_by(
     ensures { λ r. ⌜ Replies (waysOf (settingsRead (now (settings .entry)))) (now (clock .entry)) (now (frame .entry)) h alert a r
         (now (out .entry)) (now (out .exit)) (now (beside .entry)) (now (beside .exit)) ⌝ }
 {
-    let j = judged::judge(settings, own, h.ingress);
-    let b = j.told;
+    let j = validation::validate(settings, own, h.ingress);
+    let b = j.lookup;
     handling::answer_alert(a, b, clock, frame, h, alert, out, beside)
 }
 
@@ -139,12 +139,12 @@ pub fn handle_prepared(
     let received = handling::receive(own, clock, frame, out.len(), beside.len());
     match received {
         Received::Answered(a) => a,
-        Received::Trill(h) => handle_received(store, own, clock, frame, h, out, beside),
+        Received::Trill(h) => handle_in(store, own, clock, frame, h, out, beside),
     }
 }
 
 // A frame of which none of 10 to 18 is given, by a good store.
-fn handle_received(
+fn handle_in(
     store: &[u64],
     own: Own,
     clock: &[u8],
@@ -171,7 +171,7 @@ fn error_in(store: &[u64], own: Own, frame: &[u8], h: Header, code: u8, out: &mu
     ensures { λ r. ⌜ Done (faulted (waysIn (now (store .entry))) (now (frame .entry)) h code) r (now (out .entry)) (now (out .exit)) ⌝ }
 {
     let place = store::place_in(store, h.ingress);
-    let t = store::told(store, own, h.ingress, place);
+    let t = store::lookup(store, own, h.ingress, place);
     handling::error_answer(t, frame, h, code, out)
 }
 
@@ -181,7 +181,7 @@ fn echo_in(store: &[u64], own: Own, clock: &[u8], frame: &[u8], h: Header, out: 
     ensures { λ r. ⌜ Done (echoed (waysIn (now (store .entry))) (now (clock .entry)) (now (frame .entry)) h) r (now (out .entry)) (now (out .exit)) ⌝ }
 {
     let place = store::place_in(store, h.ingress);
-    let t = store::told(store, own, h.ingress, place);
+    let t = store::lookup(store, own, h.ingress, place);
     handling::echo_answer(t, clock, frame, h, out)
 }
 
@@ -200,7 +200,7 @@ fn forward_in(
     ensures { λ r. ⌜ Both (transitAt (waysIn (now (store .entry))) (now (clock .entry)) (now (frame .entry)) h alert) r (now (out .entry)) (now (out .exit)) (now (beside .entry)) (now (beside .exit)) ⌝ }
 {
     let place = store::place_in(store, h.egress);
-    let t = store::told(store, own, h.egress, place);
+    let t = store::lookup(store, own, h.egress, place);
     let a = handling::transit(t, frame, h, alert, out);
     if !handling::asks_back(alert) {
         return a;
@@ -225,7 +225,7 @@ fn reply_in(
         (now (out .entry)) (now (out .exit)) (now (beside .entry)) (now (beside .exit)) ⌝ }
 {
     let place = store::place_in(store, h.ingress);
-    let b = store::told(store, own, h.ingress, place);
+    let b = store::lookup(store, own, h.ingress, place);
     handling::answer_alert(a, b, clock, frame, h, alert, out, beside)
 }
 
@@ -235,11 +235,11 @@ pub extern "C" fn trill_way_out(settings: &[u8], destination: u16, out: &mut [u8
     ensures { λ r. ⌜ WayDone (wayOut (now (settings .entry)) destination (length (now (out .entry)))) r (now (out .entry)) (now (out .exit)) ⌝ }
 {
     let own = settings::own_of(settings);
-    let j = judged::judge(settings, own, destination);
+    let j = validation::validate(settings, own, destination);
     if !j.good {
         return way::no_way(1);
     }
-    let t = j.told;
+    let t = j.lookup;
     way::way_out(t, out)
 }
 
@@ -251,6 +251,6 @@ pub fn way_out_prepared(store: &[u64], destination: u16, out: &mut [u8]) -> WayO
     }
     let own = store::own_of(store);
     let place = store::place_in(store, destination);
-    let t = store::told(store, own, destination, place);
+    let t = store::lookup(store, own, destination, place);
     way::way_out(t, out)
 }

@@ -7,7 +7,7 @@ ghost use lib.ListN.{length};
 ghost use Rattle.rules.specs.Octets.{put};
 ghost use Rattle.rules.specs.Options as O;
 ghost use Rattle.rules.specs.Options.{WellFormed};
-ghost use Rattle.handler.specs.Shapes.{readBy, foundBy, judgedBy, walkOf, keptIf, keptFrom};
+ghost use Rattle.handler.specs.Shapes.{readBy, foundBy, areaReadOf, walkOf, keptIf, keptFrom};
 ghost use Rattle.handler.specs.Treatment.{Treats, transitDiscards, egressDiscards};
 
 const LENGTH_RESERVED: u8 = 119;
@@ -160,7 +160,7 @@ pub fn missing(needed: bool, there: bool) -> bool
 // 34 and 35, after all options.
 fn summarized(area: &[u8], read: AreaRead) -> AreaRead
     requires { ⌜ foundBy read ≡ walkOf false false (O.optionsOf (now area)) ⌝ }
-    ensures { λ r. ⌜ judgedBy r ≡ O.draftRead (now (area .entry)) ⌝ }
+    ensures { λ r. ⌜ areaReadOf r ≡ O.draftRead (now (area .entry)) ⌝ }
 {
     let AreaRead::Read(end) = read else {
         return read;
@@ -182,7 +182,7 @@ fn summarized(area: &[u8], read: AreaRead) -> AreaRead
 
 // The whole area, or the first fault.
 pub fn read_area(area: &[u8]) -> AreaRead
-    ensures { λ r. ⌜ judgedBy r ≡ O.draftRead (now (area .entry)) ⌝ }
+    ensures { λ r. ⌜ areaReadOf r ≡ O.draftRead (now (area .entry)) ⌝ }
 {
     if area.len() <= 4 {
         return AreaRead::Read(START);

@@ -1,7 +1,7 @@
 // The two replies.
 use crate::way;
+use crate::way::Lookup;
 use crate::way::Own;
-use crate::way::Told;
 use rules::Header;
 use rules::NextHop;
 ghost use mathlib.Core.Path.{_≡_};
@@ -123,7 +123,7 @@ fn write_echo(own: Own, h: Header, clock: &[u8], body: &[u8], out: &mut [u8], at
 }
 
 // Writes an error reply towards a next hop and says how long it is.
-pub fn error_reply(t: Told, r: NextHop, f: &[u8], h: Header, code: u8, out: &mut [u8]) -> usize
+pub fn error_reply(t: Lookup, r: NextHop, f: &[u8], h: Header, code: u8, out: &mut [u8]) -> usize
     requires { ⌜ Ready (now f) h × (576 ≤ length (now out)) ⌝ }
     ensures { λ n. ⌜ Replied (errorReply (waysBy t) r (now (f .entry)) h code) n (now (out .entry)) (now (out .exit)) ⌝ }
 {
@@ -134,7 +134,7 @@ pub fn error_reply(t: Told, r: NextHop, f: &[u8], h: Header, code: u8, out: &mut
 
 // Writes an echo reply towards a next hop and says how long it is.
 pub fn echo_reply(
-    t: Told,
+    t: Lookup,
     r: NextHop,
     h: Header,
     clock: &[u8],

@@ -1,8 +1,8 @@
 // A prepared store: the settings of one switch in words. 0 own nickname; 1 own MAC above the TRILL Ethertype; 2 strip flag, and above it the
 // edition less 1; 3 number of records;
 // from 4 on the records, two words each, in order of destination and serial; from 132 on 256 hints, eight to a word.
+use crate::way::Lookup;
 use crate::way::Own;
-use crate::way::Told;
 use rules::NextHop;
 use rules::Ruling;
 ghost use mathlib.Core.Path.{_≡_};
@@ -159,13 +159,13 @@ pub fn rfc7179(w: &[u64]) -> bool
     w[2] / 2 % 2 == 1
 }
 
-// What a handling is told that asks for the next hop of `d`, by its place. Places are searched in one function and the rest is made where it
+// What a handling looks up that asks for the next hop of `d`, by its place. Places are searched in one function and the rest is made where it
 // is used, in registers.
-pub fn told(w: &[u64], own: Own, d: u16, place: usize) -> Told
+pub fn lookup(w: &[u64], own: Own, d: u16, place: usize) -> Lookup
     requires { ⌜ Whole (now w) × (own ≡ ownOf (waysIn (now w))) × (place ≡ placeIn (now w) (countIn (now w)) d) ⌝ }
     ensures { λ r. ⌜ waysBy r ≡ onlyFor d (waysIn (now (w .entry))) ⌝ }
 {
-    Told {
+    Lookup {
         own: own,
         strip: w[2] % 2 == 1,
         rfc7179: rfc7179(w),

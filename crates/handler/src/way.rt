@@ -1,4 +1,4 @@
-// What a handling is told of settings, and the way out: from the record that rules to the link header written.
+// What a handling looks up in settings, and the way out: from the record that rules to the link header written.
 use rules::NextHop;
 use rules::Ruling;
 ghost use mathlib.Core.Path.{_≡_};
@@ -18,7 +18,7 @@ pub struct Own {
 }
 
 // With the strip flag, the edition, and the next hop for the one destination that is asked for.
-pub struct Told {
+pub struct Lookup {
     pub own: Own,
     pub strip: bool,
     pub rfc7179: bool,
@@ -57,7 +57,7 @@ fn write_macs(to: u64, own: u64, out: &mut [u8])
 }
 
 // Writes the link header towards a next hop and says how long it is.
-pub fn write_link(t: Told, r: NextHop, out: &mut [u8]) -> usize
+pub fn write_link(t: Lookup, r: NextHop, out: &mut [u8]) -> usize
     requires { ⌜ linkSize (r .vlan) ≤ length (now out) ⌝ }
     ensures { λ n. ⌜ (n ≡ length (link (waysBy t) r)) × (now (out .exit) ≡ put (now (out .entry)) 0 (link (waysBy t) r)) ⌝ }
 {
@@ -73,7 +73,7 @@ pub fn write_link(t: Told, r: NextHop, out: &mut [u8]) -> usize
 }
 
 // The next hop back: "No return path: the ingress is our own nickname or has no next hop."
-pub fn return_path(t: Told, ingress: u16) -> Ruling
+pub fn return_path(t: Lookup, ingress: u16) -> Ruling
     ensures { λ r. ⌜ r ≡ returnPath (waysBy t) ingress ⌝ }
 {
     if ingress == t.own.nickname {
@@ -83,7 +83,7 @@ pub fn return_path(t: Told, ingress: u16) -> Ruling
 }
 
 // The neighbour of the next hop, 0 where there is none.
-pub fn neighbour(t: Told) -> u16
+pub fn neighbour(t: Lookup) -> u16
     ensures { λ r. ⌜ r ≡ neighbourOf t ⌝ }
 {
     let hop = t.hop;
@@ -110,7 +110,7 @@ pub fn no_way(number: u32) -> WayOut
 }
 
 // The link header of the record that rules, written where it fits; 21 comes before 2.
-pub fn way_out(t: Told, out: &mut [u8]) -> WayOut
+pub fn way_out(t: Lookup, out: &mut [u8]) -> WayOut
     ensures { λ r. ⌜ WayDone (wayOutBy (waysBy t) 0 (length (now (out .entry)))) r (now (out .entry)) (now (out .exit)) ⌝ }
 {
     let hop = t.hop;

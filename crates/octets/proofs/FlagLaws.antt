@@ -1,4 +1,4 @@
--- The value of a strip flag or an edition as the code judges it, one law for each way out, and that such a flag goes with settings by its length and
+-- The value of a strip flag or an edition as the code checks it, one law for each way out, and that such a flag goes with settings by its length and
 -- its value alone. By cases of the tag and of the tests.
 use mathlib.Core.Path.{_≡_}
 use mathlib.Core.List.{List}

@@ -69,7 +69,7 @@ module _ (settings clock : List ℕ) (room besideRoom : ℕ) (w : List ℕ) (k :
   pub starts-few : length w < 168 → Started settings clock room besideRoom w w 2
   starts-few a =
       record {
-        told = simp tests;
+        answered = simp tests;
         refused = λ _. refl;
         same-length = refl;
         begun = λ b. absurd (omega arith);
@@ -83,12 +83,12 @@ module _ (settings clock : List ℕ) (room besideRoom : ℕ) (w : List ℕ) (k :
   starts a w1 p r n prepared is m same w′ e =
       let l : storeWords ≤ length (drop 4 w) = rw length-drop (omega arith) in
       record {
-        told = simp (tests, ← prepared-bad settings (length (drop 4 w)) l, ← prepared .told) is;
+        answered = simp (tests, ← prepared-bad settings (length (drop 4 w)) l, ← prepared .answered) is;
         refused = λ b. absurd (omega arith);
         same-length = rw (e, length-drop) (omega arith);
         begun = λ b. rw (e, m);
         clock-kept = clock-kept clock k;
-        store = λ b. rw e (rw (prepared .told) at prepared);
+        store = λ b. rw e (rw (prepared .answered) at prepared);
       }
 
 pub ruleset start-laws = (needs, starts-few, starts)

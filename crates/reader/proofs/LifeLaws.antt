@@ -182,7 +182,7 @@ module _ (l : Life) where
   start-is : l .start ≡ startRefusal (settingsBad (l .settings)) (length (l .clock)) (l .room) (l .besideRoom)
   start-is =
       let enough = l .enough in
-      made .told ∙ simp tests
+      made .answered ∙ simp tests
 
   small : l .start < 64
   small = rw start-is (start-small (settingsBad (l .settings)) (length (l .clock)) (l .room) (l .besideRoom))

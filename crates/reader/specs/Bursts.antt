@@ -64,7 +64,7 @@ earlyAtStart settings clock room besideRoom = startRefusal (settingsBad settings
 -- What a start answers and leaves. Too few words are answered 2, and stay. Else the first four words are these, and what the store's words are is free
 -- but for what they mean (`Prepared`): they handle every frame as the settings do. The words behind them stay.
 pub record Started (settings clock : List ℕ) (room besideRoom : ℕ) (w w′ : List ℕ) (r : ℕ) : Type 0 where
-  pub told : r ≡ (if ltb (length w) readerWords then 2 else earlyAtStart settings clock room besideRoom)
+  pub answered : r ≡ (if ltb (length w) readerWords then 2 else earlyAtStart settings clock room besideRoom)
   pub refused : length w < readerWords → w′ ≡ w
   pub same-length : length w′ ≡ length w
   pub begun : readerWords ≤ length w → take 4 w′ ≡ be48 clock 0 ∷ 0 ∷ r ∷ 0 ∷ []

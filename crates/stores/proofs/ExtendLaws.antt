@@ -187,9 +187,9 @@ module _ (P : ℕ → List ℕ → Type 0) (w : List ℕ) (tag : ℕ) (v : List 
 
 -- WHAT A FIELD DOES to words that stand for settings: the code, and the words where it is taken
 module _ (w : List ℕ) (T : Settings) (s : Stands w T) (ample : Ample w) (v : List ℕ) where
-  pub record-judged : extending w 2 v ≡ recordBy T v
+  pub record-checked : extending w 2 v ≡ recordBy T v
   unfolding extending recordCode
-  record-judged =
+  record-checked =
       let opened = ample .opened in
       by-order (countIn w) 64
       (λ h.
@@ -197,9 +197,9 @@ module _ (w : List ℕ) (T : Settings) (s : Stands w T) (ample : Ample w) (v : L
       simp (recordCode, s .records .count, room-yes, tests, met-is w (hopOf v) h room (fitting v) (s .records)))
       (λ h. simp (recordCode, s .records .count, room-full, tests))
 
-  pub flag-judged : (tag : ℕ) → (tag ≡ 2 → ⊥) → extending w tag v ≡ flagBy tag v
+  pub flag-checked : (tag : ℕ) → (tag ≡ 2 → ⊥) → extending w tag v ≡ flagBy tag v
   unfolding extending flagCode
-  flag-judged tag n =
+  flag-checked tag n =
       let opened = ample .opened in
       simp (extending, flagCode, tests)
 
@@ -223,8 +223,8 @@ pub extending-continues : (w : List ℕ) (T : Settings) → Stands w T → Ample
 unfolding continues
 extending-continues w T s ample tag v =
     by-equal tag 2
-    (λ e. rw (e, record-judged w T s ample v) (simp (coded, Bool·not-not, and-yes, and-assoc)))
-    (λ n. rw (flag-judged w T s ample v tag n) (flag-continues T tag v n))
+    (λ e. rw (e, record-checked w T s ample v) (simp (coded, Bool·not-not, and-yes, and-assoc)))
+    (λ n. rw (flag-checked w T s ample v tag n) (flag-continues T tag v n))
 
 -- a store opened for a switch
 none-stands : (u : List ℕ) → StandsFor u 0 []

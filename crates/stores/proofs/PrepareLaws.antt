@@ -375,11 +375,11 @@ module _ (s : List ℕ) (from : ℕ) (w : List ℕ) where
             let same : next - (at + 3) ≡ size = omega (arith, its) in
             rw same at step
 
-        judges : (T : Settings) → Stands v T → eqb r 0 ≡ continues T (field tag value)
-        judges T st = rw (stepped .code) (extending-continues v T st (roomy-ample (l .roomy)) tag value)
+        checks : (T : Settings) → Stands v T → eqb r 0 ≡ continues T (field tag value)
+        checks T st = rw (stepped .code) (extending-continues v T st (roomy-ample (l .roomy)) tag value)
 
         pub filling-bad : (r ≡ 0 → ⊥) → Fills s from w false u
-        filling-bad n = stopped (field tag value) (fieldsAt s next) on (λ T st. sym (judges T st) ∙ ne-eqb r 0 n) u
+        filling-bad n = stopped (field tag value) (fieldsAt s next) on (λ T st. sym (checks T st) ∙ ne-eqb r 0 n) u
 
         pub filling-on : r ≡ 0 → Filling s from w u next
         filling-on n =
@@ -390,7 +390,7 @@ module _ (s : List ℕ) (from : ℕ) (w : List ℕ) where
                   (record { size = extended-long v tag value ∙ l .roomy .size; most = extended-few v tag value (l .roomy .most) });
               left = λ T st.
                   let x = l .left T st in
-                  let ok : continues (x .read) (field tag value) ≡ true = sym (judges (x .read) (x .stands)) ∙ eq-eqb r 0 n in
+                  let ok : continues (x .read) (field tag value) ≡ true = sym (checks (x .read) (x .stands)) ∙ eq-eqb r 0 n in
                   record {
                     read = withField (x .read) (field tag value);
                     decides = rw (← from-on (x .read) (field tag value) (fieldsAt s next) ok, ← on) (x .decides);
@@ -507,15 +507,15 @@ known-so w (some T) ok f t = record { its = T; is = refl; stands = f .1 }
 module _ (s store w : List ℕ) (ok : Bool) (f : Filled w (settingsOf s) ok) where
   refusal : (r : ℕ) → 0 < r → r ≡ preparing s (length store) → Prepared s store store r
   refusal r z e =
-      record { told = e; refused = λ n. refl; says = λ T n. absurd (omega arith); handles = λ n. absurd (omega arith); beyond = refl }
+      record { answered = e; refused = λ n. refl; says = λ T n. absurd (omega arith); handles = λ n. absurd (omega arith); beyond = refl }
 
   pub prepared-bad : not ok ≡ true → Prepared s store store 1
   unfolding preparing
-  prepared-bad n = refusal 1 (omega arith) (told (settingsOf s) refl f)
+  prepared-bad n = refusal 1 (omega arith) (answered (settingsOf s) refl f)
     where
-      told : (o : Option Settings) → settingsOf s ≡ o → Filled w o ok → 1 ≡ preparing s (length store)
-      told none e g = rw (preparing, e)
-      told (some T) e g = cc (not-true ok n, g .0)
+      answered : (o : Option Settings) → settingsOf s ≡ o → Filled w o ok → 1 ≡ preparing s (length store)
+      answered none e g = rw (preparing, e)
+      answered (some T) e g = cc (not-true ok n, g .0)
 
   module _ (n : not ok ≡ false) where
     its-known : Known w (settingsOf s)
@@ -536,7 +536,7 @@ module _ (s store w : List ℕ) (ok : Bool) (f : Filled w (settingsOf s) ok) whe
         let size : length out ≡ length store = rw p (length-put store 0 w (omega arith)) in
         let good = is-good out T st (settings-named s T e) (omega (arith, st .records .ordered .few)) in
         record {
-          told = simp (preparing, e, tests);
+          answered = simp (preparing, e, tests);
           refused = λ z. absurd (z refl);
           says = λ U z g. (good, says out T st ∙ ap waysOf (cc (sym e ∙ g)));
           handles = λ z clock r b frame. rw (good, says out T st) (sym (settings-good s clock r b frame T e));

@@ -155,7 +155,7 @@ preparing settings words = elim (S.settingsOf settings) [ none ↦ 1 | some T �
 -- and what it leaves. A refusal leaves the words as they were. Else the first 164 words are free but for what they mean: the store is good, says
 -- what the settings say, and so handles every frame as the settings octets do; the words behind them stay.
 pub record Prepared (settings store store′ : List ℕ) (r : ℕ) : Type 0 where
-  pub told : r ≡ preparing settings (length store)
+  pub answered : r ≡ preparing settings (length store)
   pub refused : (r ≡ 0 → ⊥) → store′ ≡ store
   pub says : (T : S.Settings) → r ≡ 0 → S.settingsOf settings ≡ some T → (storeGood store′ ≡ true) × (waysIn store′ ≡ S.waysOf T)
   pub handles : r ≡ 0 → (clock : List ℕ) (room besideRoom : ℕ) (f : List ℕ)

@@ -1,0 +1,10 @@
+-- `handle_by` meets its contract, by one law for each task.
+use Rattle.handler.proofs
+use proofs.ScanLaws.{handle-by-laws as laws}
+use proofs.handle_by as fn
+
+pub handle-by-spec : {M : Type 1} → fn.Statement.statement M
+handle-by-spec = fn.Tie.close (fn.Tie.spec
+    (λ c _. search laws) (λ c. search laws) (λ c. search laws) (λ c _. search laws) (λ c. search laws) (λ c _. search laws) (λ c. search laws)
+    (λ c _. search laws) (λ c. search laws) (λ c. search laws) (λ c. search laws) (λ c. search laws) (λ c. search laws) (λ c. search laws)
+    (λ c. search laws) (λ c. search laws))

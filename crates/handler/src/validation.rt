@@ -1,0 +1,260 @@
+// Whether settings octets are good (document 01, "Settings"): one tag 1 field, then tag 2, 3 and 6 fields; anything else is bad.
+use crate::settings;
+use crate::way::Lookup;
+use crate::way::Own;
+use rules::FieldRead;
+use rules::Ruling;
+ghost use mathlib.Core.Path.{_≡_};
+ghost use mathlib.Core.Bool.{true, false, _||_, not};
+ghost use Prim.Native.Nat.{_+_, _<_, _≤_};
+ghost use lib.ListN.{length, take};
+ghost use Rattle.rules.specs.Fields.{field};
+ghost use Rattle.rules.specs.Settings as S;
+ghost use Rattle.handler.specs.Keys.{keyOf, mixOf, slotBy, markBy, coversBy, markedBy, keyMet, Kept, hopTaken, withKey, Taking, Scanned, ValidatedBy};
+ghost use Rattle.octets.specs.Flags.{flagTag};
+ghost use Rattle.stores.specs.Store.{unlessWithdrawn};
+ghost use Rattle.handler.specs.Shapes.{ownOf, flaggedBy};
+
+// Destination above serial.
+fn key_of(v: &[u8]) -> u64
+    ensures { λ r. ⌜ r ≡ keyOf (S.hopOf (now (v .entry))) ⌝ }
+{
+    (octets::be16(v, 0) as u64) << 32 | octets::be32(v, 10) as u64
+}
+
+// The multipliers spread keys whose destinations, serials or both go up by one.
+fn mix(key: u64) -> u64
+    requires { ⌜ key < 281474976710656 ⌝ }
+    ensures { λ r. ⌜ r ≡ mixOf key ⌝ }
+{
+    (key >> 32) * 0x85EBCA6B + (key & 0xFFFFFFFF) * 0x9E3779B1
+}
+
+// A place for a key among 256.
+fn slot_of(mixed: u64) -> usize
+    ensures { λ r. ⌜ (r ≡ slotBy mixed) × (r < 256) ⌝ }
+{
+    (mixed >> 24) as usize % 256
+}
+
+// What a key leaves in its slot if it is the first there, 1 to 128.
+fn mark_of(mixed: u64) -> u8
+    ensures { λ r. ⌜ r ≡ markBy mixed ⌝ }
+{
+    (mixed >> 16 & 127) as u8 + 1
+}
+
+// What stands in a slot once one more key is there.
+fn marked(old: u8, mark: u8) -> u8
+    ensures { λ r. ⌜ r ≡ markedBy old mark ⌝ }
+{
+    if old == 0 { mark } else { 255 }
+}
+
+// Whether a key is among the first n.
+fn met(keys: &[u64], n: usize, key: u64) -> bool
+    requires { ⌜ n ≤ length (now keys) ⌝ }
+    ensures { λ r. ⌜ r ≡ keyMet key (take n (now (keys .entry))) ⌝ }
+{
+    let mut found = false;
+    let mut i = 0;
+    while i < n {
+        found = either(found, keys[i] == key);
+        i += 1;
+    }
+    found
+}
+
+fn either(a: bool, b: bool) -> bool
+    ensures { λ r. ⌜ r ≡ (a || b) ⌝ }
+{
+    if a { true } else { b }
+}
+
+// Another key's mark alone in the slot, or none, shows that no earlier record has this key; only else is there a look at them all.
+fn fresh(keys: &[u64], n: usize, key: u64, old: u8, mark: u8) -> bool
+    requires { ⌜ (n ≤ length (now keys)) × (coversBy old mark ≡ false → keyMet key (take n (now keys)) ≡ false) ⌝ }
+    ensures { λ r. ⌜ r ≡ not (keyMet key (take n (now (keys .entry)))) ⌝ }
+{
+    if old != mark {
+        if old != 255 {
+            return true;
+        }
+    }
+    !met(keys, n, key)
+}
+
+// Whether the record in `v` goes with the n before it; then its key is kept.
+fn admit(keys: &mut [u64], seen: &mut [u8], n: usize, v: &[u8]) -> bool
+    requires { ⌜ Kept (now keys) (now seen) n ⌝ }
+    ensures { λ r. ⌜ Taking (hopTaken (take n (now (keys .entry))) n (now (v .entry))) (withKey (take n (now (keys .entry))) (now (v .entry))) r (n + 1) (now (keys .exit)) (now (seen .exit)) ⌝ }
+{
+    if !octets::hop_size(v.len()) {
+        return false;
+    }
+    if !octets::hop_good(v) {
+        return false;
+    }
+    if n == 64 {
+        return false;
+    }
+    let key = key_of(v);
+    let mixed = mix(key);
+    let slot = slot_of(mixed);
+    let mark = mark_of(mixed);
+    let old = seen[slot];
+    if !fresh(keys, n, key, old, mark) {
+        return false;
+    }
+    keys[n] = key;
+    seen[slot] = marked(old, mark);
+    true
+}
+
+// What the flags among the fields say.
+pub struct Flags {
+    pub strip: bool,
+    pub rfc7179: bool,
+}
+
+// The flags once one more is seen.
+fn flagged(flags: Flags, tag: u8, v: &[u8]) -> Flags
+    requires { ⌜ flagTag tag ≡ true ⌝ }
+    ensures { λ r. ⌜ r ≡ flaggedBy flags (field tag (now (v .entry))) ⌝ }
+{
+    if tag == 3 {
+        return Flags {
+            strip: octets::octet(v, 0) != 0,
+            rfc7179: flags.rfc7179,
+        };
+    }
+    Flags {
+        strip: flags.strip,
+        rfc7179: octets::octet(v, 0) == 2,
+    }
+}
+
+// What one pass over the fields finds: whether they are good, and then the flags and the record that rules for a destination.
+pub struct Scan {
+    pub good: bool,
+    pub flags: Flags,
+    pub best: Ruling,
+}
+
+const NO_FLAGS: Flags = Flags {
+    strip: false,
+    rfc7179: false,
+};
+
+fn scan_from(s: &[u8], from: usize, d: u16) -> Scan
+    requires { ⌜ from ≤ length (now s) ⌝ }
+    ensures { λ r. ⌜ Scanned (now (s .entry)) from d r ⌝ }
+{
+    let mut keys = [0u64; 64];
+    let mut seen = [0u8; 256];
+    let mut n = 0;
+    let mut best = Ruling::Absent;
+    let mut flags = NO_FLAGS;
+    let mut at = from;
+    while at < s.len() {
+        let FieldRead::Taken {
+            tag,
+            length: _,
+            next,
+        } = octets::field_at(s, at)
+        else {
+            return bad_scan();
+        };
+        let v = &s[at + 3..next];
+        if tag == 2 {
+            if !admit(&mut keys, &mut seen, n, v) {
+                return bad_scan();
+            }
+            n += 1;
+            best = settings::newer(d, best, v);
+            at = next;
+        } else {
+            if octets::flag_code(tag, v) != 0 {
+                return bad_scan();
+            }
+            flags = flagged(flags, tag, v);
+            at = next;
+        }
+    }
+    Scan {
+        good: true,
+        flags: flags,
+        best: best,
+    }
+}
+
+fn bad_scan() -> Scan
+    ensures { λ r. ⌜ r .good ≡ false ⌝ }
+{
+    Scan {
+        good: false,
+        flags: NO_FLAGS,
+        best: Ruling::Absent,
+    }
+}
+
+// "if it is a withdrawal, there is no next hop"
+fn unless_withdrawn(best: Ruling) -> Ruling
+    ensures { λ r. ⌜ r ≡ unlessWithdrawn best ⌝ }
+{
+    let Ruling::Found(r) = best else {
+        return Ruling::Absent;
+    };
+    if r.neighbour == 0 {
+        return Ruling::Absent;
+    }
+    Ruling::Found(r)
+}
+
+// Whether settings are good, and then what a handling looks up that asks for the next hop of `d`.
+pub struct Validated {
+    pub good: bool,
+    pub lookup: Lookup,
+}
+
+fn bad(own: Own) -> Validated
+    ensures { λ r. ⌜ r .good ≡ false ⌝ }
+{
+    Validated {
+        good: false,
+        lookup: Lookup {
+            own: own,
+            strip: false,
+            rfc7179: false,
+            hop: Ruling::Absent,
+        },
+    }
+}
+
+pub fn validate(s: &[u8], own: Own, d: u16) -> Validated
+    requires { ⌜ own ≡ ownOf (S.waysOf (S.settingsRead (now s))) ⌝ }
+    ensures { λ r. ⌜ ValidatedBy (now (s .entry)) d r ⌝ }
+{
+    let FieldRead::Taken {
+        tag,
+        length: _,
+        next,
+    } = octets::field_at(s, 0)
+    else {
+        return bad(own);
+    };
+    if !octets::opens(tag, &s[3..next]) {
+        return bad(own);
+    }
+    let r = scan_from(s, next, d);
+    let best = r.best;
+    Validated {
+        good: r.good,
+        lookup: Lookup {
+            own: own,
+            strip: r.flags.strip,
+            rfc7179: r.flags.rfc7179,
+            hop: unless_withdrawn(best),
+        },
+    }
+}
