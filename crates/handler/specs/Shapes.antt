@@ -61,6 +61,10 @@ deliveredBy number start size = answerOf (A.delivered number start size)
 unfoldable pub refusalBy : ℕ → Refusal
 refusalBy n = if eqb n 0 then Passed else Refused n
 
+-- octets written from a place to where they end, and nothing else
+abbrev pub Wrote : List ℕ → ℕ → ℕ → List ℕ → List ℕ → Type 0
+Wrote octets at end out out′ = (end ≡ at + length octets) × (out′ ≡ put out at octets)
+
 -- a reply of so many octets, or the number that is answered without one
 abbrev pub repliedBy : ℕ → ℕ → ℕ → ℕ → Answer
 repliedBy refusal number written via = if eqb written 0 then droppedBy refusal 0 else wroteBy number written via

@@ -2,11 +2,9 @@
 use crate::header;
 use rules::Header;
 ghost use mathlib.Core.Path.{_≡_};
-ghost use Prim.Native.Nat.{_+_, _<_, _≤_};
-ghost use lib.ListN.{length};
-ghost use Rattle.rules.specs.Octets.{put};
+ghost use Prim.Native.Nat.{_<_};
 ghost use Rattle.rules.specs.Header.{hopCount, areaOf};
-ghost use Rattle.handler.specs.Shapes.{headerOctets, sentBy, Fits, restWith};
+ghost use Rattle.handler.specs.Shapes.{headerOctets, sentBy, Fits, restWith, Wrote};
 
 pub fn header_octets(word: u16, egress: u16, ingress: u16) -> [u8; 6]
     ensures { λ r. ⌜ r ≡ headerOctets word egress ingress ⌝ }
@@ -38,8 +36,7 @@ fn sent_word(w: u16, words: u16) -> u16
 // With another area than the one received; from `at` on, and says where it ends.
 pub fn forward_with(area: &[u8], f: &[u8], h: Header, out: &mut [u8], at: usize) -> usize
     requires { ⌜ Fits (now area) (now f) h (now out) at ⌝ }
-    ensures { λ r. ⌜ (r ≡ at + length (restWith (now (area .entry)) (now (f .entry)) h))
-        × (now (out .exit) ≡ put (now (out .entry)) at (restWith (now (area .entry)) (now (f .entry)) h)) ⌝ }
+    ensures { λ r. ⌜ Wrote (restWith (now (area .entry)) (now (f .entry)) h) at r (now (out .entry)) (now (out .exit)) ⌝ }
 {
     let n = area.len();
     let head = header_octets(sent_word(h.word, (n / 4) as u16), h.egress, h.ingress);
@@ -53,8 +50,7 @@ pub fn forward_with(area: &[u8], f: &[u8], h: Header, out: &mut [u8], at: usize)
 // Area and inner frame as they are, in one.
 pub fn forward_whole(f: &[u8], h: Header, out: &mut [u8], at: usize) -> usize
     requires { ⌜ Fits (areaOf (now f) h) (now f) h (now out) at ⌝ }
-    ensures { λ r. ⌜ (r ≡ at + length (restWith (areaOf (now (f .entry)) h) (now (f .entry)) h))
-        × (now (out .exit) ≡ put (now (out .entry)) at (restWith (areaOf (now (f .entry)) h) (now (f .entry)) h)) ⌝ }
+    ensures { λ r. ⌜ Wrote (restWith (areaOf (now (f .entry)) h) (now (f .entry)) h) at r (now (out .entry)) (now (out .exit)) ⌝ }
 {
     let start = h.place + 6;
     let head = header_octets(

@@ -7,7 +7,7 @@ ghost use lib.ListN.{length};
 ghost use Rattle.rules.specs.Octets.{put};
 ghost use Rattle.rules.specs.Options as O;
 ghost use Rattle.rules.specs.Options.{WellFormed};
-ghost use Rattle.handler.specs.Shapes.{readBy, foundBy, areaReadOf, walkOf, keptIf, keptFrom};
+ghost use Rattle.handler.specs.Shapes.{readBy, foundBy, areaReadOf, walkOf, keptIf, keptFrom, Wrote};
 ghost use Rattle.handler.specs.Treatment.{Treats, transitDiscards, egressDiscards};
 
 const LENGTH_RESERVED: u8 = 119;
@@ -204,8 +204,7 @@ pub fn area_stops(egress: bool, area: &[u8]) -> bool
 // Writes an option from `to` on unless it is stripped, and says where the next one goes.
 fn keep(out: &mut [u8], to: usize, stripped: bool, option: &[u8]) -> usize
     requires { ⌜ to + length (now option) ≤ length (now out) ⌝ }
-    ensures { λ r. ⌜ (r ≡ to + length (keptIf stripped (now (option .entry))))
-        × (now (out .exit) ≡ put (now (out .entry)) to (keptIf stripped (now (option .entry)))) ⌝ }
+    ensures { λ r. ⌜ Wrote (keptIf stripped (now (option .entry))) to r (now (out .entry)) (now (out .exit)) ⌝ }
 {
     if stripped {
         return to;
@@ -228,8 +227,7 @@ pub fn strip_area(area: &[u8], out: &mut [u8], base: usize) -> usize
 // The options alone, from `from` on; says where they end.
 fn strip_options(area: &[u8], table: &[u8; 512], out: &mut [u8], from: usize) -> usize
     requires { ⌜ (O.draftRead (now area) ≡ WellFormed) × (4 ≤ length (now area)) × (from + length (now area) ≤ length (now out) + 4) × Treats (now table) ⌝ }
-    ensures { λ r. ⌜ (r ≡ from + length (keptFrom (O.optionsOf (now (area .entry)))))
-        × (now (out .exit) ≡ put (now (out .entry)) from (keptFrom (O.optionsOf (now (area .entry))))) ⌝ }
+    ensures { λ r. ⌜ Wrote (keptFrom (O.optionsOf (now (area .entry)))) from r (now (out .entry)) (now (out .exit)) ⌝ }
 {
     let mut at = 4;
     let mut to = from;
