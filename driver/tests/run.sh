@@ -50,8 +50,8 @@ counted 'staffripple sanitized' sh ../examples/check "$build/sanitized/staffripp
 results 'README.md' sh tests/readme.sh "$build"
 results 'dissector' sh tests/dissector.sh "$build"
 results 'installed' sh tests/installed.sh "$version"
-# A job in the background ignores interrupts, which these tests send.
-results 'checkout' env --default-signal=INT sh tests/checkout.sh "$PWD/$build"
+# A job in the background ignores interrupts and, by nohup, hangups, which these tests send.
+results 'checkout' env --default-signal=HUP,INT,TERM sh tests/checkout.sh "$PWD/$build"
 
 failed=$(grep -c '^not ok ' "$log")
 echo "driver: $(grep -c '^ok ' "$log") passed, $failed failed"
