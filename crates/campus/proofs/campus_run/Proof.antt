@@ -1,4 +1,4 @@
--- `campus_run` meets its contract, by one law for each need.
+-- Its contract, by one law for each need.
 use Rattle.campus.proofs
 use proofs.DoneLaws.{campus-run-laws as laws}
 use proofs.campus_run as fn

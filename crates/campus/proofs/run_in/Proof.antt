@@ -1,4 +1,4 @@
--- `run_in` meets its contract, by what was read.
+-- Its contract, by what was read.
 use Rattle.campus.proofs
 use proofs.DoneLaws.{run-in-laws as laws}
 use proofs.run_in as fn

@@ -1,4 +1,4 @@
--- `bits_met` meets its contract. The invariant: what was met so far is above the total and the counters passed.
+-- Its contract. The invariant: what was met so far is above the total and the counters passed.
 use Prim.Native.Nat.{_-_}
 use Rattle.counters.proofs
 use proofs.CountLaws.{Meeting, bits-met-laws as laws}

@@ -1,4 +1,4 @@
--- `count` meets its contract, by one law for each way out.
+-- Its contract, by one law for each way out.
 use Rattle.counters.proofs
 use proofs.CountLaws.{count-laws as laws}
 use proofs.count as fn

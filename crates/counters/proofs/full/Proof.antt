@@ -1,4 +1,4 @@
--- `full` meets its contract, by one law for each way out.
+-- Its contract, by one law for each way out.
 use Rattle.counters.proofs
 use proofs.CountLaws.{full-laws as laws}
 use proofs.full as fn

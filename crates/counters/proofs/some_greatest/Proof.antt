@@ -1,4 +1,4 @@
--- `some_greatest` meets its contract. The invariant: what was found so far and the counters not yet seen make up the whole.
+-- Its contract. The invariant: what was found so far and the counters not yet seen make up the whole.
 use Prim.Native.Nat.{_-_}
 use Rattle.counters.proofs
 use proofs.CountLaws.{Scanning, some-greatest-laws as laws}

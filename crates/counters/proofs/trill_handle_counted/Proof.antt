@@ -1,4 +1,4 @@
--- `trill_handle_counted` meets its contract: a walk of its MIR, by hand. The counters' borrow is opened and the array of counters is lent, where it
+-- Its contract: a walk of its MIR, by hand. The counters' borrow is opened and the array of counters is lent, where it
 -- is, to `count`, with the slices; it comes back at its last value, the new total is stored beside it, and the borrow is closed.
 use mathlib.Core.Path.{_≡_, refl, sym, ap, subst}
 use Prim.Native.Nat.{ℕ, _+_, _<_, _^_}

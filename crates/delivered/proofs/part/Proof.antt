@@ -1,4 +1,4 @@
--- `part` meets its contract: the range lies within the frame, or the part is empty.
+-- Its contract: the range lies within the frame, or the part is empty.
 use Rattle.delivered.proofs
 use proofs.PartLaws.{part-laws as laws}
 use proofs.part as fn

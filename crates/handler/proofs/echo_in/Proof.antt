@@ -1,4 +1,4 @@
--- `echo_in` meets its contract, by what is looked up for the ingress.
+-- Its contract, by what is looked up for the ingress.
 use Rattle.handler.proofs
 use proofs.TaskLaws.{back-laws as laws}
 use proofs.echo_in as fn

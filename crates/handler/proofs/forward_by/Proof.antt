@@ -1,4 +1,4 @@
--- `forward_by` meets its contract, by what is looked up for the egress.
+-- Its contract, by what is looked up for the egress.
 use Rattle.handler.proofs
 use proofs.ScanLaws.{forward-by-laws as laws}
 use proofs.forward_by as fn

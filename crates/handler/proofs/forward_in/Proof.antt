@@ -1,4 +1,4 @@
--- `forward_in` meets its contract, by what is looked up for the egress.
+-- Its contract, by what is looked up for the egress.
 use Rattle.handler.proofs
 use proofs.StoreLaws.{forward-in-laws as laws}
 use proofs.forward_in as fn

@@ -1,4 +1,4 @@
--- `handle_by` meets its contract, by one law for each task.
+-- Its contract, by one law for each task.
 use Rattle.handler.proofs
 use proofs.ScanLaws.{handle-by-laws as laws}
 use proofs.handle_by as fn

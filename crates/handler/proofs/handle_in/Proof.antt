@@ -1,4 +1,4 @@
--- `handle_in` meets its contract, by one law for each task.
+-- Its contract, by one law for each task.
 use Rattle.handler.proofs
 use proofs.TaskLaws.{task-laws as laws}
 use proofs.handle_in as fn

@@ -1,4 +1,4 @@
--- `handle_prepared` meets its contract, by one law for each way out.
+-- Its contract, by one law for each way out.
 use Rattle.handler.proofs
 use proofs.StoreLaws.{handle-prepared-laws as laws}
 use proofs.handle_prepared as fn

@@ -1,4 +1,4 @@
--- `reply_by` meets its contract, by whether the alert asks for a reply.
+-- Its contract, by whether the alert asks for a reply.
 use Rattle.handler.proofs
 use proofs.ScanLaws.{reply-by-laws as laws}
 use proofs.reply_by as fn

@@ -1,4 +1,4 @@
--- `reply_in` meets its contract, by whether the alert asks for a reply.
+-- Its contract, by whether the alert asks for a reply.
 use Rattle.handler.proofs
 use proofs.StoreLaws.{reply-in-laws as laws}
 use proofs.reply_in as fn

@@ -1,4 +1,4 @@
--- `trill_handle` meets its contract, by one law for each way out.
+-- Its contract, by one law for each way out.
 use Rattle.handler.proofs
 use proofs.ScanLaws.{trill-handle-laws as laws}
 use proofs.trill_handle as fn

@@ -1,4 +1,4 @@
--- `trill_way_out` meets its contract: bad settings are 1, and good ones tell the way out.
+-- Its contract: bad settings are 1, and good ones tell the way out.
 use Rattle.handler.proofs
 use proofs.WayOutLaws.{trill-way-out-laws as laws}
 use proofs.trill_way_out as fn

@@ -1,4 +1,4 @@
--- `way_out_prepared` meets its contract, by one law for each way out.
+-- Its contract, by one law for each way out.
 use Rattle.handler.proofs
 use proofs.WayOutLaws.{way-out-prepared-laws as laws}
 use proofs.way_out_prepared as fn

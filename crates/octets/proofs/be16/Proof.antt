@@ -1,4 +1,4 @@
--- `be16` meets its contract, by reading at and past the end.
+-- Its contract, by reading at and past the end.
 use Rattle.octets.proofs
 use proofs.Ends.{be16-laws as laws}
 use proofs.be16 as fn

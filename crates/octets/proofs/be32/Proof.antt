@@ -1,4 +1,4 @@
--- `be32` meets its contract, by its two halves and reading past the end.
+-- Its contract, by its two halves and reading past the end.
 use Rattle.octets.proofs
 use proofs.Ends.{be32-laws as laws}
 use proofs.be32 as fn

@@ -1,4 +1,4 @@
--- `be48` meets its contract, by its two parts and reading past the end.
+-- Its contract, by its two parts and reading past the end.
 use Rattle.octets.proofs
 use proofs.Ends.{be48-laws as laws}
 use proofs.be48 as fn

@@ -1,4 +1,4 @@
--- `copy` meets its contract, by arithmetic.
+-- Its contract, by arithmetic.
 use Rattle.octets.proofs
 use proofs.Ends.{copy-laws as laws}
 use proofs.copy as fn

@@ -1,4 +1,4 @@
--- `field_at` meets its contract, by one law of `fieldAt` for each way out.
+-- Its contract, by one law of `fieldAt` for each way out.
 use Rattle.rules.proofs.FieldLaws.{field-at-laws as laws}
 use Rattle.octets.proofs.field_at as fn
 

@@ -1,4 +1,4 @@
--- `fill` meets its contract. The invariant: `out` has the first i octets of `s` in it from `at` on.
+-- Its contract. The invariant: `out` has the first i octets of `s` in it from `at` on.
 use mathlib.Core.Path.{_≡_}
 use Prim.Native.Nat.{_-_, _≤_}
 use lib.ListN.{length}

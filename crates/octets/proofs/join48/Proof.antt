@@ -1,4 +1,4 @@
--- `join48` meets its contract, by `|` of disjoint bits as a sum.
+-- Its contract, by `|` of disjoint bits as a sum.
 use borrow.Author.Needs.{needs}
 use Rattle.octets.proofs
 use proofs.Bits.{join48-or}

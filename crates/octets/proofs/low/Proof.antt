@@ -1,4 +1,4 @@
--- `low` meets its contract, by a mask as a remainder.
+-- Its contract, by a mask as a remainder.
 use mir.Facts.{fits-mask}
 use lib.Bits.{and-mask}
 use Rattle.octets.proofs.low as fn

@@ -1,4 +1,4 @@
--- `octet` meets its contract, by reading at and past the end.
+-- Its contract, by reading at and past the end.
 use Rattle.octets.proofs
 use proofs.Ends.{octet-laws as laws}
 use proofs.octet as fn

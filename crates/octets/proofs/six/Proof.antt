@@ -1,4 +1,4 @@
--- `six` meets its contract, by arithmetic.
+-- Its contract, by arithmetic.
 use Rattle.octets.proofs
 use proofs.Ends.{six-laws as laws}
 use proofs.six as fn

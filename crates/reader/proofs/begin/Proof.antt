@@ -1,4 +1,4 @@
--- `begin` meets its contract: four words set are four words in front.
+-- Its contract: four words set are four words in front.
 use Rattle.reader.proofs
 use proofs.CallLaws.{begin-laws as laws}
 use proofs.begin as fn

@@ -1,4 +1,4 @@
--- `handle_gathered` meets its contract: clock, octets and store are those in the words.
+-- Its contract: clock, octets and store are those in the words.
 use Rattle.reader.proofs
 use proofs.CallLaws.{handle-gathered-laws as laws}
 use proofs.handle_gathered as fn

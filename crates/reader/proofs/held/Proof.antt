@@ -1,4 +1,4 @@
--- `held` meets its contract, by the length of what is taken.
+-- Its contract, by the length of what is taken.
 use Rattle.reader.proofs
 use proofs.CallLaws.{held-laws as laws}
 use proofs.held as fn

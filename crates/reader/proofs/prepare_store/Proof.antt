@@ -1,4 +1,4 @@
--- `prepare_store` meets its contract: the words lent are those from the fifth on.
+-- Its contract: the words lent are those from the fifth on.
 use Rattle.reader.proofs
 use proofs.CallLaws.{prepare-store-laws as laws}
 use proofs.prepare_store as fn

@@ -1,4 +1,4 @@
--- `start_refusal` meets its contract, by its tests in their order.
+-- Its contract, by its tests in their order.
 use Rattle.reader.proofs
 use proofs.CallLaws.{start-refusal-laws as laws}
 use proofs.start_refusal as fn

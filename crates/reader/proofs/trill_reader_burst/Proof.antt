@@ -1,4 +1,4 @@
--- `trill_reader_burst` meets its contract, by its tests in their order and one law for each other way out.
+-- Its contract, by its tests in their order and one law for each other way out.
 use Rattle.reader.specs.Bursts.{burst}
 use Rattle.reader.proofs
 use proofs.CallLaws.{burst-laws as laws}

@@ -1,4 +1,4 @@
--- `trill_reader_mark` meets its contract, by its tests in their order and one law for each other way out.
+-- Its contract, by its tests in their order and one law for each other way out.
 use Rattle.reader.specs.Bursts.{mark}
 use Rattle.reader.proofs
 use proofs.CallLaws.{mark-laws as laws}

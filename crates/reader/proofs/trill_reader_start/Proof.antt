@@ -1,4 +1,4 @@
--- `trill_reader_start` meets its contract, by one law for each way out.
+-- Its contract, by one law for each way out.
 use Rattle.reader.proofs
 use proofs.CallLaws.{start-laws as laws}
 use proofs.trill_reader_start as fn

@@ -1,4 +1,4 @@
--- `text_of` meets its contract: 73,741 octets are room for every text.
+-- Its contract: 73,741 octets are room for every text.
 use borrow.Author.Needs.{needs}
 use Rattle.text.proofs.TextLaws.{text-whole}
 use Rattle.staffripple.proofs.text_of as fn

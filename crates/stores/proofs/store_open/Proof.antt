@@ -1,4 +1,4 @@
--- `store_open` meets its contract, by one law for each way out.
+-- Its contract, by one law for each way out.
 use Rattle.stores.proofs
 use proofs.PrepareLaws.{store-open-laws as laws}
 use proofs.store_open as fn

@@ -1,4 +1,4 @@
--- `trill_prepare` meets its contract, by what was prepared in words of its own.
+-- Its contract, by what was prepared in words of its own.
 use Rattle.stores.proofs
 use proofs.PrepareLaws.{trill-prepare-laws as laws}
 use proofs.trill_prepare as fn

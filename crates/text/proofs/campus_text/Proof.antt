@@ -1,4 +1,4 @@
--- `campus_text` meets its contract: an answer other than 49 says that the trace buffer was large enough.
+-- Its contract: an answer other than 49 says that the trace buffer was large enough.
 use Rattle.text.proofs
 use proofs.TextLaws.{campus-text-laws as laws}
 use proofs.campus_text as fn

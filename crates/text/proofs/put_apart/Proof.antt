@@ -1,4 +1,4 @@
--- `put_apart` meets its contract: what is printed is copied if it fits.
+-- Its contract: what is printed is copied if it fits.
 use Rattle.text.proofs
 use proofs.TextLaws.{put-apart-laws as laws}
 use proofs.put_apart as fn

@@ -1,4 +1,4 @@
--- `put_printed` meets its contract, by the room that any text of so many lines has.
+-- Its contract, by the room that any text of so many lines has.
 use Rattle.text.proofs
 use proofs.TextLaws.{put-printed-laws as laws}
 use proofs.put_printed as fn

@@ -1,4 +1,4 @@
--- `text_of` meets its contract: what the run leaves is what is printed.
+-- Its contract: what the run leaves is what is printed.
 use Rattle.text.proofs
 use proofs.TextLaws.{text-of-laws as laws}
 use proofs.text_of as fn

@@ -1,4 +1,4 @@
--- `clocked` meets its contract, by the tag.
+-- Its contract, by the tag.
 use Rattle.campus.proofs
 use proofs.ReadLaws.{clocked-laws as laws}
 use proofs.reading.clocked as fn

@@ -1,4 +1,4 @@
--- `code_after` meets its contract: one law for each return.
+-- Its contract: one law for each return.
 use Rattle.campus.proofs
 use proofs.ReadLaws.{code-after-laws as laws}
 use proofs.reading.code_after as fn

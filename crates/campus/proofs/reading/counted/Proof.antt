@@ -1,4 +1,4 @@
--- `counted` meets its contract, by the tag.
+-- Its contract, by the tag.
 use Rattle.campus.proofs
 use proofs.ReadLaws.{counted-laws as laws}
 use proofs.reading.counted as fn

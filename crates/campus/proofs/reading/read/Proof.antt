@@ -1,4 +1,4 @@
--- `read` meets its contract, by the invariant that the words stand for the switches read, and the rest decides as all do.
+-- Its contract, by the invariant that the words stand for the switches read, and the rest decides as all do.
 use Prim.Native.Nat.{_-_}
 use lib.ListN.{length}
 use Rattle.campus.proofs

@@ -1,4 +1,4 @@
--- `in_any` meets its contract, by what the frame is read as.
+-- Its contract, by what the frame is read as.
 use Rattle.campus.proofs
 use proofs.RunLaws.{in-any-laws as laws}
 use proofs.received.in_any as fn

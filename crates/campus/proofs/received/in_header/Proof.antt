@@ -1,4 +1,4 @@
--- `in_header` meets its contract: a frame that is readable is as long as its header says.
+-- Its contract: a frame that is readable is as long as its header says.
 use native.Mathlib.Omega.{arith}
 use Rattle.campus.proofs
 use proofs.RunLaws.{readable-long, in-header-laws as laws}

@@ -1,4 +1,4 @@
--- `link_length` meets its contract, by the two octets where a tag may stand.
+-- Its contract, by the two octets where a tag may stand.
 use Rattle.campus.proofs
 use proofs.RunLaws.{link-length-laws as laws}
 use proofs.received.link_length as fn

@@ -1,4 +1,4 @@
--- `received` meets its contract: an answer above 11 says that the frame is readable.
+-- Its contract: an answer above 11 says that the frame is readable.
 use Rattle.campus.proofs
 use proofs.RunLaws.{received-laws as laws}
 use proofs.received.received as fn

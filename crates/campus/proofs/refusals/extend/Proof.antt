@@ -1,4 +1,4 @@
--- `extend` meets its contract, by the latest switch.
+-- Its contract, by the latest switch.
 use Rattle.campus.proofs
 use proofs.ReadLaws.{extend-laws as laws}
 use proofs.refusals.extend as fn

@@ -1,4 +1,4 @@
--- `length_good` meets its contract, by one law for each tag.
+-- Its contract, by one law for each tag.
 use Rattle.rules.proofs.FieldLaws.{length-good-laws as laws}
 use Rattle.campus.proofs.refusals.length_good as fn
 

@@ -1,4 +1,4 @@
--- `nickname_known` meets its contract, by what is found.
+-- Its contract, by what is found.
 use borrow.Author.Needs.{needs}
 use Rattle.campus.proofs.refusals.nickname_known as fn
 

@@ -1,4 +1,4 @@
--- `open` meets its contract, by one law for each way out.
+-- Its contract, by one law for each way out.
 use Rattle.campus.proofs
 use proofs.ReadLaws.{open-laws as laws}
 use proofs.refusals.open as fn

@@ -1,4 +1,4 @@
--- `place_good` meets its contract, by the tag.
+-- Its contract, by the tag.
 use Rattle.campus.proofs
 use proofs.ReadLaws.{place-good-laws as laws}
 use proofs.refusals.place_good as fn

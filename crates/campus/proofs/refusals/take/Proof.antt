@@ -1,4 +1,4 @@
--- `take` meets its contract, by one law for each way out.
+-- Its contract, by one law for each way out.
 use Rattle.campus.proofs
 use proofs.ReadLaws.{take-laws as laws}
 use proofs.refusals.take as fn

@@ -1,4 +1,4 @@
--- `between` meets its contract: the range lies in order within the octets, or there are none.
+-- Its contract: the range lies in order within the octets, or there are none.
 use Rattle.campus.proofs
 use proofs.ReadLaws.{between-laws as laws}
 use proofs.running.between as fn

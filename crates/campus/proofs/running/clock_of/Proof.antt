@@ -1,4 +1,4 @@
--- `clock_of` meets its contract, by one law for each need.
+-- Its contract, by one law for each need.
 use Rattle.campus.proofs
 use proofs.DoneLaws.{clock-of-laws as laws}
 use proofs.running.clock_of as fn

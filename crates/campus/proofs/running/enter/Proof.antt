@@ -1,4 +1,4 @@
--- `enter` meets its contract: the nickname entered is the switch's.
+-- Its contract: the nickname entered is the switch's.
 use borrow.Author.Needs.{needs}
 use Rattle.campus.proofs.running.enter as fn
 

@@ -1,4 +1,4 @@
--- `first_waiting` meets its contract, by one law for each need.
+-- Its contract, by one law for each need.
 use Rattle.campus.proofs
 use proofs.QueueLaws.{first-waiting-laws as laws}
 use proofs.running.first_waiting as fn

@@ -1,4 +1,4 @@
--- `front` meets its contract: a part that lies within has its length.
+-- Its contract: a part that lies within has its length.
 use Rattle.campus.proofs
 use proofs.QueueLaws.{front-laws as laws}
 use proofs.running.front as fn

@@ -1,4 +1,4 @@
--- `go_on` meets its contract, by one law for each need.
+-- Its contract, by one law for each need.
 use Rattle.campus.proofs
 use proofs.QueueLaws.{onward-laws as laws}
 use proofs.running.go_on as fn

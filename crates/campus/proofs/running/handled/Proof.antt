@@ -1,4 +1,4 @@
--- `handled` meets its contract, by one law for each need.
+-- Its contract, by one law for each need.
 use Rattle.campus.proofs
 use proofs.RunLaws.{handled-laws as laws}
 use proofs.running.handled as fn

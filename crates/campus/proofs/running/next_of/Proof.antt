@@ -1,4 +1,4 @@
--- `next_of` meets its contract, by one law for each need.
+-- Its contract, by one law for each need.
 use Rattle.campus.proofs
 use proofs.QueueLaws.{next-of-laws as laws}
 use proofs.running.next_of as fn

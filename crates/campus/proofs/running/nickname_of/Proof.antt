@@ -1,4 +1,4 @@
--- `nickname_of` meets its contract, by one law for each need.
+-- Its contract, by one law for each need.
 use Rattle.campus.proofs
 use proofs.RunLaws.{nickname-of-laws as laws}
 use proofs.running.nickname_of as fn

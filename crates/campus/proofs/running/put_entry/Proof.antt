@@ -1,4 +1,4 @@
--- `put_entry` meets its contract: the eight octets are the entry's, and there is room for them.
+-- Its contract: the eight octets are the entry's, and there is room for them.
 use Rattle.campus.proofs
 use proofs.RunLaws.{put-entry-laws as laws}
 use proofs.running.put_entry as fn

@@ -1,4 +1,4 @@
--- `put_slot` meets its contract: two copies, one behind the other, are one. One law for each need.
+-- Its contract: two copies, one behind the other, are one. One law for each need.
 use Rattle.campus.proofs
 use proofs.QueueLaws.{put-slot-laws as laws}
 use proofs.running.put_slot as fn

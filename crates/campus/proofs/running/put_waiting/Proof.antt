@@ -1,4 +1,4 @@
--- `put_waiting` meets its contract, by one law for each need.
+-- Its contract, by one law for each need.
 use Rattle.campus.proofs
 use proofs.QueueLaws.{put-waiting-laws as laws}
 use proofs.running.put_waiting as fn

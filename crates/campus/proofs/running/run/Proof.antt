@@ -1,4 +1,4 @@
--- `run` meets its contract, by one law for each need.
+-- Its contract, by one law for each need.
 use Rattle.campus.proofs
 use proofs.DoneLaws.{run-laws as laws}
 use proofs.running.run as fn

@@ -1,4 +1,4 @@
--- `run_from` meets its contract, by the invariant that the states so far are traced, and the run from here, with the replies that wait, is the
+-- Its contract, by the invariant that the states so far are traced, and the run from here, with the replies that wait, is the
 -- rest of the whole.
 use Prim.Native.Nat.{_-_}
 use Rattle.campus.proofs

@@ -1,4 +1,4 @@
--- `sent_to` meets its contract, by one law for each way out.
+-- Its contract, by one law for each way out.
 use Rattle.campus.proofs
 use proofs.QueueLaws.{sent-to-laws as laws}
 use proofs.running.sent_to as fn

@@ -1,4 +1,4 @@
--- `step` meets its contract, by one law for each need.
+-- Its contract, by one law for each need.
 use Rattle.campus.proofs
 use proofs.RunLaws.{step-laws as laws}
 use proofs.running.step as fn

@@ -1,4 +1,4 @@
--- `turn` meets its contract, by one law for each need.
+-- Its contract, by one law for each need.
 use Rattle.campus.proofs
 use proofs.RunLaws.{turn-onward, turn-laws as laws}
 use proofs.running.turn as fn

@@ -1,4 +1,4 @@
--- `wait` meets its contract, by one law for each need.
+-- Its contract, by one law for each need.
 use Rattle.campus.proofs
 use proofs.QueueLaws.{wait-laws as laws}
 use proofs.running.wait as fn

@@ -1,4 +1,4 @@
--- `writes_reply` meets its contract, by its two tests.
+-- Its contract, by its two tests.
 use borrow.Author.Tests.{ne-eqb}
 use Rattle.campus.proofs.running.writes_reply as fn
 

@@ -1,4 +1,4 @@
--- `edition_2` meets its contract, by the invariant that the later switches have edition 1.
+-- Its contract, by the invariant that the later switches have edition 1.
 use Rattle.campus.proofs
 use proofs.StoresLaws.{Editions, edition-2-laws as laws}
 use proofs.switches.edition_2 as fn

@@ -1,4 +1,4 @@
--- `end_of` meets its contract, by whether there is a switch.
+-- Its contract, by whether there is a switch.
 use Rattle.campus.proofs
 use proofs.StoresLaws.{end-of-laws as laws}
 use proofs.switches.end_of as fn

@@ -1,4 +1,4 @@
--- `extend` meets its contract, by the part lent.
+-- Its contract, by the part lent.
 use Rattle.campus.proofs
 use proofs.StoresLaws.{part-laws as laws}
 use proofs.switches.extend as fn

@@ -1,4 +1,4 @@
--- `find` meets its contract, by the invariant that the switch is among the first i or nowhere.
+-- Its contract, by the invariant that the switch is among the first i or nowhere.
 use Rattle.campus.proofs
 use proofs.StoresLaws.{Seeking, find-laws as laws}
 use proofs.switches.find as fn

@@ -1,4 +1,4 @@
--- `replied` meets its contract, by whether there is a reply.
+-- Its contract, by whether there is a reply.
 use Rattle.handler.proofs
 use proofs.Stages.{if-laws as laws}
 use proofs.answers.replied as fn

@@ -1,4 +1,4 @@
--- `channel_read` meets its contract, by one law of `channelRead` for each way out.
+-- Its contract, by one law of `channelRead` for each way out.
 use Rattle.handler.proofs
 use proofs.ChannelLaws.{channel-read-laws as laws}
 use proofs.channel.channel_read as fn

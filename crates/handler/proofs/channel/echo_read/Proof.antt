@@ -1,4 +1,4 @@
--- `echo_read` meets its contract, by one law of `echoRead` for each way out.
+-- Its contract, by one law of `echoRead` for each way out.
 use Rattle.handler.proofs
 use proofs.ChannelLaws.{echo-read-laws as laws}
 use proofs.channel.echo_read as fn

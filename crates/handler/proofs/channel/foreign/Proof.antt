@@ -1,4 +1,4 @@
--- `foreign` meets its contract, by its test.
+-- Its contract, by its test.
 use Rattle.handler.proofs
 use proofs.ChannelLaws.{foreign-laws as laws}
 use proofs.channel.foreign as fn

@@ -1,4 +1,4 @@
--- `na` meets its contract, by a mask as a remainder.
+-- Its contract, by a mask as a remainder.
 use lib.Bits.{and-mask}
 use Prim.Native.Nat.{_/_}
 use Rattle.handler.proofs.channel.na as fn

@@ -1,4 +1,4 @@
--- `protocol` meets its contract, by a mask as a remainder.
+-- Its contract, by a mask as a remainder.
 use lib.Bits.{and-mask}
 use Rattle.handler.proofs.channel.protocol as fn
 

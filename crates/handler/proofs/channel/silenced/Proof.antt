@@ -1,4 +1,4 @@
--- `silenced` meets its contract, by one law of `silenced` for each way out.
+-- Its contract, by one law of `silenced` for each way out.
 use Rattle.handler.proofs
 use proofs.ChannelLaws.{silenced-laws as laws}
 use proofs.channel.silenced as fn

@@ -1,4 +1,4 @@
--- `silenced_by_sl` meets its contract, by its test.
+-- Its contract, by its test.
 use Rattle.handler.proofs
 use proofs.ChannelLaws.{silenced-by-sl-laws as laws}
 use proofs.channel.silenced_by_sl as fn

@@ -1,4 +1,4 @@
--- `flag_unsummarized` meets its contract, by its tests in their order.
+-- Its contract, by its tests in their order.
 use Rattle.rules.specs.Extension.{flagUnsummarized}
 use Rattle.handler.proofs
 use proofs.ExtensionLaws.{three-laws as laws}

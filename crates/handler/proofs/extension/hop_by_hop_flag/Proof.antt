@@ -1,4 +1,4 @@
--- `hop_by_hop_flag` meets its contract: a mask is a remainder.
+-- Its contract: a mask is a remainder.
 use Prim.Native.Nat.{_/_, _^_}
 use lib.Bits.{and-mask}
 use Rattle.handler.proofs.extension.hop_by_hop_flag as fn

@@ -1,4 +1,4 @@
--- `refused` meets its contract, by its tests in their order.
+-- Its contract, by its tests in their order.
 use borrow.Author.Needs.{needs}
 use Rattle.handler.proofs.extension.refused as fn
 

@@ -1,4 +1,4 @@
--- `stops` meets its contract, by its tests in their order.
+-- Its contract, by its tests in their order.
 use Rattle.handler.proofs
 use proofs.ExtensionLaws.{stops-laws as laws}
 use proofs.extension.stops as fn

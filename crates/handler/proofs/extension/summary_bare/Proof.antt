@@ -1,4 +1,4 @@
--- `summary_bare` meets its contract, by its tests in their order.
+-- Its contract, by its tests in their order.
 use Rattle.rules.specs.Extension.{summaryBare}
 use Rattle.handler.proofs
 use proofs.ExtensionLaws.{three-laws as laws}

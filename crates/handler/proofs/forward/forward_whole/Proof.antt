@@ -1,4 +1,4 @@
--- `forward_whole` meets its contract: the header, and the rest in one copy.
+-- Its contract: the header, and the rest in one copy.
 use Rattle.handler.proofs
 use proofs.Stages.{forward-laws as laws}
 use proofs.forward.forward_whole as fn

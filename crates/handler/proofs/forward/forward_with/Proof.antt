@@ -1,4 +1,4 @@
--- `forward_with` meets its contract: three writes side by side are one.
+-- Its contract: three writes side by side are one.
 use Rattle.handler.proofs
 use proofs.Stages.{forward-laws as laws}
 use proofs.forward.forward_with as fn

@@ -1,4 +1,4 @@
--- `header_octets` meets its contract: each octet by what `high` and `low` ensure.
+-- Its contract: each octet by what `high` and `low` ensure.
 use borrow.Author.Needs.{needs}
 use Rattle.handler.proofs.forward.header_octets as fn
 

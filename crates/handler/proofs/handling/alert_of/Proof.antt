@@ -1,4 +1,4 @@
--- `alert_of` meets its contract, by its tests in their order.
+-- Its contract, by its tests in their order.
 use Rattle.handler.proofs
 use proofs.RouteLaws.{alert-of-laws as laws}
 use proofs.handling.alert_of as fn

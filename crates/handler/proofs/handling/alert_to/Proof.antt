@@ -1,4 +1,4 @@
--- `alert_to` meets its contract, by the cases of the message.
+-- Its contract, by the cases of the message.
 use Rattle.rules.specs.Handling.{alertTo}
 use Rattle.handler.proofs
 use proofs.RouteLaws.{alert-to-laws as laws}

@@ -1,4 +1,4 @@
--- `answer_alert` meets its contract, by one law for each alert.
+-- Its contract, by one law for each alert.
 use Rattle.handler.proofs
 use proofs.TaskLaws.{answer-alert-laws as laws}
 use proofs.handling.answer_alert as fn

@@ -1,4 +1,4 @@
--- `answer_echo` meets its contract, by whether the frame was forwarded.
+-- Its contract, by whether the frame was forwarded.
 use Rattle.handler.proofs
 use proofs.TaskLaws.{answer-echo-laws as laws}
 use proofs.handling.answer_echo as fn

@@ -1,4 +1,4 @@
--- `answer_fault` meets its contract, by the answer so far.
+-- Its contract, by the answer so far.
 use Rattle.handler.proofs
 use proofs.TaskLaws.{answer-fault-laws as laws}
 use proofs.handling.answer_fault as fn

@@ -1,4 +1,4 @@
--- `area_stops` meets its contract, by the edition.
+-- Its contract, by the edition.
 use borrow.Author.Needs.{needs}
 use Rattle.handler.proofs.handling.area_stops as fn
 

@@ -1,4 +1,4 @@
--- `asked` meets its contract, by what was received.
+-- Its contract, by what was received.
 use Rattle.handler.proofs
 use proofs.RouteLaws.{asked-laws as laws}
 use proofs.handling.asked as fn

@@ -1,4 +1,4 @@
--- `channel_message` meets its contract, by its tests in their order.
+-- Its contract, by its tests in their order.
 use Rattle.handler.proofs
 use proofs.RouteLaws.{channel-message-laws as laws}
 use proofs.handling.channel_message as fn

@@ -1,4 +1,4 @@
--- `channelled` meets its contract, by the cases of the message.
+-- Its contract, by the cases of the message.
 use Rattle.rules.specs.Handling.{channelled}
 use Rattle.handler.proofs
 use proofs.RouteLaws.{channelled-laws as laws}

@@ -1,4 +1,4 @@
--- `decapsulated` meets its contract, by its tests in their order.
+-- Its contract, by its tests in their order.
 use Rattle.handler.proofs
 use proofs.RouteLaws.{decapsulated-laws as laws}
 use proofs.handling.decapsulated as fn

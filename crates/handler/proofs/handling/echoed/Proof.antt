@@ -1,4 +1,4 @@
--- `echoed` meets its contract, by the next hop back that was found.
+-- Its contract, by the next hop back that was found.
 use Rattle.handler.proofs
 use proofs.StageLaws.{echoed-laws as laws}
 use proofs.handling.echoed as fn

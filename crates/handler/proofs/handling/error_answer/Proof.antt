@@ -1,4 +1,4 @@
--- `error_answer` meets its contract, by whether a reply is made.
+-- Its contract, by whether a reply is made.
 use Rattle.handler.proofs
 use proofs.TaskLaws.{reply-answer-laws as laws}
 use proofs.handling.error_answer as fn

@@ -1,4 +1,4 @@
--- `faulted` meets its contract, by the next hop back that was found.
+-- Its contract, by the next hop back that was found.
 use Rattle.handler.proofs
 use proofs.StageLaws.{faulted-laws as laws}
 use proofs.handling.faulted as fn

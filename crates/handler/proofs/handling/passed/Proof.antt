@@ -1,4 +1,4 @@
--- `passed` meets its contract, by the refusal of the header.
+-- Its contract, by the refusal of the header.
 use Rattle.handler.proofs
 use proofs.RouteLaws.{passed-laws as laws}
 use proofs.handling.passed as fn

@@ -1,4 +1,4 @@
--- `read` meets its contract, by the cases of the frame.
+-- Its contract, by the cases of the frame.
 use Rattle.handler.proofs
 use proofs.RouteLaws.{read-laws as laws}
 use proofs.handling.read as fn

@@ -1,4 +1,4 @@
--- `read_area` meets its contract, by the edition.
+-- Its contract, by the edition.
 use Rattle.handler.proofs
 use proofs.RouteLaws.{read-area-laws as laws}
 use proofs.handling.read_area as fn

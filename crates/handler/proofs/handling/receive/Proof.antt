@@ -1,4 +1,4 @@
--- `receive` meets its contract, by its tests in their order.
+-- Its contract, by its tests in their order.
 use Rattle.handler.proofs
 use proofs.RouteLaws.{receive-laws as laws}
 use proofs.handling.receive as fn

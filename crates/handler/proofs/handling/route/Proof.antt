@@ -1,4 +1,4 @@
--- `route` meets its contract, by the area and our role.
+-- Its contract, by the area and our role.
 use Rattle.handler.proofs
 use proofs.RouteLaws.{route-laws as laws}
 use proofs.handling.route as fn

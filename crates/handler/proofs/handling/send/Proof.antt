@@ -1,4 +1,4 @@
--- `send` meets its contract, by the area that is sent.
+-- Its contract, by the area that is sent.
 use Rattle.handler.proofs
 use proofs.StageLaws.{send-laws as laws}
 use proofs.handling.send as fn

@@ -1,4 +1,4 @@
--- `send_stripped` meets its contract: what was stripped aside is the area that is sent.
+-- Its contract: what was stripped aside is the area that is sent.
 use Rattle.handler.proofs
 use proofs.StageLaws.{send-stripped-laws as laws}
 use proofs.handling.send_stripped as fn

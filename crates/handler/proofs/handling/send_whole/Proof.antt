@@ -1,4 +1,4 @@
--- `send_whole` meets its contract, by how long the frame is.
+-- Its contract, by how long the frame is.
 use Rattle.handler.proofs
 use proofs.StageLaws.{send-whole-laws as laws}
 use proofs.handling.send_whole as fn

@@ -1,4 +1,4 @@
--- `send_with` meets its contract, by how long the frame is with that area.
+-- Its contract, by how long the frame is with that area.
 use Rattle.handler.proofs
 use proofs.StageLaws.{send-with-laws as laws}
 use proofs.handling.send_with as fn

@@ -1,4 +1,4 @@
--- `strips` meets its contract, by its tests in their order.
+-- Its contract, by its tests in their order.
 use Rattle.handler.proofs
 use proofs.StageLaws.{strips-laws as laws}
 use proofs.handling.strips as fn

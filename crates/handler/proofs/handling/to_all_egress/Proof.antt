@@ -1,4 +1,4 @@
--- `to_all_egress` meets its contract, by what was read.
+-- Its contract, by what was read.
 use borrow.Author.Needs.{needs}
 use Rattle.handler.proofs.handling.to_all_egress as fn
 

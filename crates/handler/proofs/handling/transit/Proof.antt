@@ -1,4 +1,4 @@
--- `transit` meets its contract, by one law for each way out.
+-- Its contract, by one law for each way out.
 use Rattle.handler.proofs
 use proofs.TaskLaws.{transit-laws as laws}
 use proofs.handling.transit as fn

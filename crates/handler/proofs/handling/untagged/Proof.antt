@@ -1,4 +1,4 @@
--- `untagged` meets its contract, by the tests of `untaggedBy` in their order.
+-- Its contract, by the tests of `untaggedBy` in their order.
 use Rattle.handler.proofs
 use proofs.ChannelLaws.{untagged-laws as laws}
 use proofs.handling.untagged as fn

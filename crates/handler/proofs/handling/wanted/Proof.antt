@@ -1,4 +1,4 @@
--- `wanted` meets its contract, by our role.
+-- Its contract, by our role.
 use Rattle.handler.proofs
 use proofs.RouteLaws.{wanted-laws as laws}
 use proofs.handling.wanted as fn

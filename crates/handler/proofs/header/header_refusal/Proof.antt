@@ -1,4 +1,4 @@
--- `header_refusal` meets its contract, by one law of `headerRefusal` for each way out.
+-- Its contract, by one law of `headerRefusal` for each way out.
 use Rattle.handler.proofs
 use proofs.Refusals.{refusal-laws as laws}
 use proofs.header.header_refusal as fn

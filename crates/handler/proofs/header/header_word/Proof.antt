@@ -1,4 +1,4 @@
--- `header_word` meets its contract, by `|` of disjoint bits as a sum.
+-- Its contract, by `|` of disjoint bits as a sum.
 use mathlib.Core.Path.{_≡_}
 use Prim.Native.Nat.{ℕ, _+_, _*_, _%_, _<_}
 use native.Mathlib.Omega.{arith}

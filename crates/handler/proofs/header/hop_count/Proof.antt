@@ -1,4 +1,4 @@
--- `hop_count` meets its contract, by a mask as a remainder.
+-- Its contract, by a mask as a remainder.
 use lib.Bits.{and-mask}
 use Rattle.handler.proofs.header.hop_count as fn
 

@@ -1,4 +1,4 @@
--- `to_mac` meets its contract, by the two parts of a MAC.
+-- Its contract, by the two parts of a MAC.
 use Rattle.rules.proofs.HeaderLaws.{to-mac-laws as laws}
 use Rattle.handler.proofs.header.to_mac as fn
 

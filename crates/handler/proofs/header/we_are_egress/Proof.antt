@@ -1,4 +1,4 @@
--- `we_are_egress` meets its contract, by its tests in their order.
+-- Its contract, by its tests in their order.
 use Rattle.rules.proofs.HeaderLaws.{we-are-egress-laws as laws}
 use Rattle.handler.proofs.header.we_are_egress as fn
 

@@ -1,4 +1,4 @@
--- `area_stops` meets its contract, by what the calls ensure.
+-- Its contract, by what the calls ensure.
 use Rattle.handler.proofs
 use proofs.Walks.{area-stops-laws as laws}
 use proofs.options.area_stops as fn

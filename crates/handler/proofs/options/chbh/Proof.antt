@@ -1,4 +1,4 @@
--- `chbh` meets its contract, by a mask as a remainder.
+-- Its contract, by a mask as a remainder.
 use Prim.Native.Nat.{_/_}
 use lib.Bits.{and-mask}
 use borrow.Author.Needs.{needs}

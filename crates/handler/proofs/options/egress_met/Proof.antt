@@ -1,4 +1,4 @@
--- `egress_met` meets its contract, by its tests.
+-- Its contract, by its tests.
 use Rattle.handler.proofs
 use proofs.Walks.{egress-met-laws as laws}
 use proofs.options.egress_met as fn

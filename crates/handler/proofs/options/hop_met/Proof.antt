@@ -1,4 +1,4 @@
--- `hop_met` meets its contract, by its test.
+-- Its contract, by its test.
 use borrow.Author.Needs.{needs}
 use Rattle.handler.proofs.options.hop_met as fn
 

@@ -1,4 +1,4 @@
--- `keep` meets its contract, by what stays of one option.
+-- Its contract, by what stays of one option.
 use Rattle.handler.proofs
 use proofs.Strips.{keep-laws as laws}
 use proofs.options.keep as fn

@@ -1,4 +1,4 @@
--- `length_of` meets its contract, by a mask as a remainder.
+-- Its contract, by a mask as a remainder.
 use mir.Facts.{fits-mask}
 use lib.Bits.{and-mask}
 use Rattle.handler.proofs.options.length_of as fn

@@ -1,4 +1,4 @@
--- `option_at` meets its contract, by one law for each way out.
+-- Its contract, by one law for each way out.
 use Rattle.handler.proofs
 use proofs.Walks.{option-at-laws as laws}
 use proofs.options.option_at as fn

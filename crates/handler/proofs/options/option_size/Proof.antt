@@ -1,4 +1,4 @@
--- `option_size` meets its contract: the mask and the definition agree at each of the 128 Lengths, by one computed test.
+-- Its contract: the mask and the definition agree at each of the 128 Lengths, by one computed test.
 use mathlib.Core.Path.{_≡_, refl}
 use Prim.Native.Nat.{ℕ, _+_, _<_}
 use borrow.Author.{Needs.needs, Tests.eqb-true}

@@ -1,4 +1,4 @@
--- `read_area` meets its contract: an area without options, or the walk and the summary tests.
+-- Its contract: an area without options, or the walk and the summary tests.
 use Rattle.handler.proofs
 use proofs.Walks.{read-area-laws as laws}
 use proofs.options.read_area as fn

@@ -1,4 +1,4 @@
--- `strip_area` meets its contract: the first word, and behind it what is kept of the options.
+-- Its contract: the first word, and behind it what is kept of the options.
 use Rattle.handler.proofs
 use proofs.Strips.{strip-area-laws as laws}
 use proofs.options.strip_area as fn

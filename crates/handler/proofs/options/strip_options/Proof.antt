@@ -1,4 +1,4 @@
--- `strip_options` meets its contract. The invariant: what was written, and what is kept of the options from here on, is what is kept in all.
+-- Its contract. The invariant: what was written, and what is kept of the options from here on, is what is kept in all.
 use Prim.Native.Nat.{_-_}
 use lib.ListN.{length}
 use Rattle.handler.proofs

@@ -1,4 +1,4 @@
--- `summarized` meets its contract, by its tests in their order.
+-- Its contract, by its tests in their order.
 use Rattle.handler.proofs
 use proofs.Walks.{summarized-laws as laws}
 use proofs.options.summarized as fn

@@ -1,4 +1,4 @@
--- `walk_area` meets its contract. The invariant: what the walk finds from here on, with what was met so far, is what it finds in all.
+-- Its contract. The invariant: what the walk finds from here on, with what was met so far, is what it finds in all.
 use Prim.Native.Nat.{_-_}
 use lib.ListN.{length}
 use Rattle.handler.proofs

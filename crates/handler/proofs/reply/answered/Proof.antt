@@ -1,4 +1,4 @@
--- `answered` meets its contract, by a mask as a remainder.
+-- Its contract, by a mask as a remainder.
 use Prim.Native.Nat.{_%_}
 use native.Mathlib.Omega.{arith}
 use lib.Bits.{and-mask}

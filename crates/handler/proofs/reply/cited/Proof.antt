@@ -1,4 +1,4 @@
--- `cited` meets its contract, by one law for each way out.
+-- Its contract, by one law for each way out.
 use Rattle.handler.proofs
 use proofs.Stages.{cited-laws as laws}
 use proofs.reply.cited as fn

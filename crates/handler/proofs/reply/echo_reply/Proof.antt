@@ -1,4 +1,4 @@
--- `echo_reply` meets its contract: what is written behind the link header makes one write.
+-- Its contract: what is written behind the link header makes one write.
 use Rattle.handler.proofs
 use proofs.StageLaws.{reply-laws as laws}
 use proofs.reply.echo_reply as fn

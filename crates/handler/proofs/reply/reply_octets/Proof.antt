@@ -1,4 +1,4 @@
--- `reply_octets` meets its contract: each octet by what `six`, `high` and `low` ensure.
+-- Its contract: each octet by what `six`, `high` and `low` ensure.
 use Rattle.handler.proofs
 use proofs.Stages.{reply-octets-laws as laws}
 use proofs.reply.reply_octets as fn

@@ -1,4 +1,4 @@
--- `write_echo` meets its contract: head and body are one write, by the law of the echo.
+-- Its contract: head and body are one write, by the law of the echo.
 use Rattle.handler.proofs
 use proofs.Stages.{write-echo-laws as laws}
 use proofs.reply.write_echo as fn

@@ -1,4 +1,4 @@
--- `write_echo_body` meets its contract: the first octet and the rest are one write.
+-- Its contract: the first octet and the rest are one write.
 use Rattle.handler.proofs
 use proofs.Stages.{write-echo-body-laws as laws}
 use proofs.reply.write_echo_body as fn

@@ -1,4 +1,4 @@
--- `write_error` meets its contract: the two copies are one write, by the law of the error.
+-- Its contract: the two copies are one write, by the law of the error.
 use Rattle.handler.proofs
 use proofs.Stages.{write-error-laws as laws}
 use proofs.reply.write_error as fn

@@ -1,4 +1,4 @@
--- `write_received` meets its contract: the two copies are one write, by the law of what is received.
+-- Its contract: the two copies are one write, by the law of what is received.
 use Rattle.handler.proofs
 use proofs.Stages.{write-received-laws as laws}
 use proofs.reply.write_received as fn

@@ -1,4 +1,4 @@
--- `write_times` meets its contract: the two writes are one, by the law of times.
+-- Its contract: the two writes are one, by the law of times.
 use Rattle.handler.proofs
 use proofs.Stages.{write-times-laws as laws}
 use proofs.reply.write_times as fn

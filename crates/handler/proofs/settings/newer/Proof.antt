@@ -1,4 +1,4 @@
--- `newer` meets its contract, by one law of `newer` for each way out.
+-- Its contract, by one law of `newer` for each way out.
 use Rattle.handler.proofs
 use proofs.ScanLaws.{newer-laws as laws}
 use proofs.settings.newer as fn

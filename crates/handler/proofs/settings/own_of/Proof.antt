@@ -1,4 +1,4 @@
--- `own_of` meets its contract: the fields behind the first keep nickname and MAC.
+-- Its contract: the fields behind the first keep nickname and MAC.
 use Rattle.handler.proofs
 use proofs.ScanLaws.{own-of-laws as laws}
 use proofs.settings.own_of as fn

@@ -1,4 +1,4 @@
--- `good` meets its contract, by its tests in their order.
+-- Its contract, by its tests in their order.
 use Rattle.handler.proofs
 use proofs.StoreLaws.{store-good-laws as laws}
 use proofs.store.good as fn

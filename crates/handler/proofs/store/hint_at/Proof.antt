@@ -1,4 +1,4 @@
--- `hint_at` meets its contract, by the length of the store.
+-- Its contract, by the length of the store.
 use Rattle.handler.proofs
 use proofs.StoreLaws.{hint-at-laws as laws}
 use proofs.store.hint_at as fn

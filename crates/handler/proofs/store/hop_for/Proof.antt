@@ -1,4 +1,4 @@
--- `hop_for` meets its contract, by its tests in their order.
+-- Its contract, by its tests in their order.
 use Rattle.handler.proofs
 use proofs.StoreLaws.{hop-for-laws as laws}
 use proofs.store.hop_for as fn

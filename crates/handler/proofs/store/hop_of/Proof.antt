@@ -1,4 +1,4 @@
--- `hop_of` meets its contract, field by field.
+-- Its contract, field by field.
 use borrow.Author.Needs.{needs}
 use Rattle.handler.proofs.store.hop_of as fn
 

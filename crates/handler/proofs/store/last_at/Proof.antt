@@ -1,4 +1,4 @@
--- `last_at` meets its contract, by its tests in their order.
+-- Its contract, by its tests in their order.
 use Rattle.handler.proofs
 use proofs.StoreLaws.{last-at-laws as laws}
 use proofs.store.last_at as fn

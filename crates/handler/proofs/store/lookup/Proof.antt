@@ -1,4 +1,4 @@
--- `lookup` meets its contract, field by field.
+-- Its contract, field by field.
 use Rattle.handler.proofs
 use proofs.StoreLaws.{store-lookup-laws as laws}
 use proofs.store.lookup as fn

@@ -1,4 +1,4 @@
--- `place_in` meets its contract, by whether the hint is taken.
+-- Its contract, by whether the hint is taken.
 use Rattle.handler.proofs
 use proofs.StoreLaws.{place-in-laws as laws}
 use proofs.store.place_in as fn

@@ -1,4 +1,4 @@
--- `search` meets its contract: six steps.
+-- Its contract: six steps.
 use borrow.Author.Needs.{needs}
 use Rattle.handler.proofs.store.search as fn
 

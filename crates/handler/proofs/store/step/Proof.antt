@@ -1,4 +1,4 @@
--- `step` meets its contract, by its tests in their order.
+-- Its contract, by its tests in their order.
 use Rattle.handler.proofs
 use proofs.StoreLaws.{step-laws as laws}
 use proofs.store.step as fn

@@ -1,4 +1,4 @@
--- `is_flow_id` meets its contract, by its two tests.
+-- Its contract, by its two tests.
 use Rattle.handler.proofs
 use proofs.TreatmentLaws.{flow-id-laws as laws}
 use proofs.treatment.is_flow_id as fn

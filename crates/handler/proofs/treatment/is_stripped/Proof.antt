@@ -1,4 +1,4 @@
--- `is_stripped` meets its contract: the test beside the table, then the entry.
+-- Its contract: the test beside the table, then the entry.
 use Rattle.handler.proofs
 use proofs.TreatmentLaws.{stripped-laws as laws}
 use proofs.treatment.is_stripped as fn

@@ -1,4 +1,4 @@
--- `treatments` meets its contract: the table agrees with the flag definitions, by one test computed over its 512 keys.
+-- Its contract: the table agrees with the flag definitions, by one test computed over its 512 keys.
 use borrow.Author.Needs.{needs}
 use Rattle.rules.specs.Options.{implemented, strippable}
 use Rattle.handler.proofs

@@ -1,4 +1,4 @@
--- `admit` meets its contract, by one law for each way out.
+-- Its contract, by one law for each way out.
 use Rattle.handler.proofs
 use proofs.ValidationLaws.{admit-laws as laws}
 use proofs.validation.admit as fn

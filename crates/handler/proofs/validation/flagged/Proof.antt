@@ -1,4 +1,4 @@
--- `flagged` meets its contract, by the tag.
+-- Its contract, by the tag.
 use Rattle.handler.proofs
 use proofs.ScanLaws.{flagged-laws as laws}
 use proofs.validation.flagged as fn

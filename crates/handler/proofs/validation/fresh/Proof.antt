@@ -1,4 +1,4 @@
--- `fresh` meets its contract: what the place shows by the requirement, all else by the scan.
+-- Its contract: what the place shows by the requirement, all else by the scan.
 use mathlib.Core.{Path.sym, Path.ap, Bool.not}
 use borrow.Author.Needs.{needs}
 use Rattle.handler.proofs

@@ -1,4 +1,4 @@
--- `key_of` meets its contract, by `|` of disjoint bits as a sum.
+-- Its contract, by `|` of disjoint bits as a sum.
 use Rattle.handler.proofs
 use proofs.ValidationLaws.{key-of-laws as laws}
 use proofs.validation.key_of as fn

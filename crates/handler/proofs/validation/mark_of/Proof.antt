@@ -1,4 +1,4 @@
--- `mark_of` meets its contract, by arithmetic.
+-- Its contract, by arithmetic.
 use Prim.Native.Nat.{_/_}
 use native.Mathlib.Omega.{arith}
 use lib.Bits.{and-mask}

@@ -1,4 +1,4 @@
--- `marked` meets its contract, by its test.
+-- Its contract, by its test.
 use Rattle.handler.specs.Keys.{markedBy}
 use Rattle.handler.proofs
 use proofs.Stages.{if-laws as laws}

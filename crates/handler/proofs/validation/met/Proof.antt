@@ -1,4 +1,4 @@
--- `met` meets its contract. The invariant: what was found, or is found from place i on, is whether the key is met.
+-- Its contract. The invariant: what was found, or is found from place i on, is whether the key is met.
 use mathlib.Core.{Path._≡_, Bool._||_}
 use Prim.Native.Nat.{_-_, _≤_}
 use lib.{ListN.take, Seq.slice}

@@ -1,4 +1,4 @@
--- `mix` meets its contract, by arithmetic.
+-- Its contract, by arithmetic.
 use native.Mathlib.Omega.{arith}
 use lib.Bits.{and-mask}
 use Rattle.handler.specs.Keys.{mixOf}

@@ -1,4 +1,4 @@
--- `scan_from` meets its contract. The invariant: what was read is validated, and folded to the record that rules and the flags.
+-- Its contract. The invariant: what was read is validated, and folded to the record that rules and the flags.
 use Prim.Native.Nat.{_-_}
 use lib.ListN.{length}
 use Rattle.handler.proofs

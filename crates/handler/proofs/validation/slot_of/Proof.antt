@@ -1,4 +1,4 @@
--- `slot_of` meets its contract, by arithmetic.
+-- Its contract, by arithmetic.
 use borrow.Author.Needs.{needs}
 use Rattle.handler.specs.Keys.{slotBy}
 use Rattle.handler.proofs.validation.slot_of as fn

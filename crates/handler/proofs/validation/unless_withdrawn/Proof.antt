@@ -1,4 +1,4 @@
--- `unless_withdrawn` meets its contract, by the cases of the record.
+-- Its contract, by the cases of the record.
 use Rattle.stores.specs.Store.{unlessWithdrawn}
 use Rattle.handler.proofs
 use proofs.ScanLaws.{unless-withdrawn-laws as laws}

@@ -1,4 +1,4 @@
--- `validate` meets its contract, by one law for each way out.
+-- Its contract, by one law for each way out.
 use Rattle.handler.proofs
 use proofs.ScanLaws.{validate-laws as laws}
 use proofs.validation.validate as fn

@@ -1,4 +1,4 @@
--- `link_length` meets its contract, by the VLAN.
+-- Its contract, by the VLAN.
 use Rattle.handler.proofs
 use proofs.Stages.{if-laws as laws}
 use proofs.way.link_length as fn

@@ -1,4 +1,4 @@
--- `return_path` meets its contract, by the cases of the ingress.
+-- Its contract, by the cases of the ingress.
 use Rattle.rules.specs.Channel.{returnPath}
 use Rattle.handler.proofs
 use proofs.Stages.{if-laws as laws}

@@ -1,4 +1,4 @@
--- `way_out` meets its contract, by one law for each way out.
+-- Its contract, by one law for each way out.
 use Rattle.handler.proofs
 use proofs.WayOutLaws.{way-out-laws as laws}
 use proofs.way.way_out as fn

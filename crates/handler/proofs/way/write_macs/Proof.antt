@@ -1,4 +1,4 @@
--- `write_macs` meets its contract, two writes side by side being one.
+-- Its contract, two writes side by side being one.
 use Rattle.handler.proofs
 use proofs.Stages.{write-macs-laws as laws}
 use proofs.way.write_macs as fn

@@ -1,4 +1,4 @@
--- `link_length` meets its contract, by its tests in their order.
+-- Its contract, by its tests in their order.
 use Rattle.rules.proofs.FrameLaws.{link-length-laws as laws}
 use Rattle.octets.proofs.link.link_length as fn
 

@@ -1,4 +1,4 @@
--- `read_frame` meets its contract, by one law of `readFrame` for each way out.
+-- Its contract, by one law of `readFrame` for each way out.
 use Rattle.rules.proofs.FrameLaws.{read-frame-laws as laws}
 use Rattle.octets.proofs.link.read_frame as fn
 

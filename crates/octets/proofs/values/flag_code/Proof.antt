@@ -1,4 +1,4 @@
--- `flag_code` meets its contract, by its tests in their order.
+-- Its contract, by its tests in their order.
 use Rattle.octets.proofs
 use proofs.Cases.{test-laws as laws}
 use proofs.values.flag_code as fn

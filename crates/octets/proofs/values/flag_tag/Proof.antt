@@ -1,4 +1,4 @@
--- `flag_tag` meets its contract, by the tag.
+-- Its contract, by the tag.
 use Rattle.octets.specs.Flags.{flagTag}
 use Rattle.octets.proofs
 use proofs.Cases.{test-laws as laws}

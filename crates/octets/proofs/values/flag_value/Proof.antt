@@ -1,4 +1,4 @@
--- `flag_value` meets its contract, by the tag.
+-- Its contract, by the tag.
 use Rattle.octets.proofs
 use proofs.FlagLaws.{flag-value-laws as laws}
 use proofs.values.flag_value as fn

@@ -1,4 +1,4 @@
--- `hop_good` meets its contract, by one law for each way out.
+-- Its contract, by one law for each way out.
 use Rattle.octets.proofs
 use proofs.Hops.{hop-good-laws as laws}
 use proofs.values.hop_good as fn

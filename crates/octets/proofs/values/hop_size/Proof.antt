@@ -1,4 +1,4 @@
--- `hop_size` meets its contract, by its tests in their order.
+-- Its contract, by its tests in their order.
 use Rattle.octets.proofs
 use proofs.Cases.{test-laws as laws}
 use proofs.values.hop_size as fn

@@ -1,4 +1,4 @@
--- `mac_good` meets its contract, by one law of `macGood` for each way out.
+-- Its contract, by one law of `macGood` for each way out.
 use Rattle.octets.proofs
 use proofs.Macs.{mac-good-laws as laws}
 use proofs.values.mac_good as fn

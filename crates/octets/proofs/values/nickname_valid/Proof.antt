@@ -1,4 +1,4 @@
--- `nickname_valid` meets its contract, by its tests in their order.
+-- Its contract, by its tests in their order.
 use Rattle.octets.proofs
 use proofs.Macs.{nickname-valid-laws as laws}
 use proofs.values.nickname_valid as fn

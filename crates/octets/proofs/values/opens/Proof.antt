@@ -1,4 +1,4 @@
--- `opens` meets its contract, by its tests in their order.
+-- Its contract, by its tests in their order.
 use Rattle.rules.specs.{Fields.lengthGood, Settings.opens}
 use Rattle.octets.proofs
 use proofs.Cases.{test-laws as laws}

@@ -1,4 +1,4 @@
--- `switch_good` meets its contract, by its tests in their order.
+-- Its contract, by its tests in their order.
 use Rattle.octets.proofs
 use proofs.Macs.{switch-good-laws as laws}
 use proofs.values.switch_good as fn

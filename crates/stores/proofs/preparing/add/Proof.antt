@@ -1,4 +1,4 @@
--- `add` meets its contract, by one law for each way out.
+-- Its contract, by one law for each way out.
 use Rattle.stores.proofs
 use proofs.PrepareLaws.{add-laws as laws}
 use proofs.preparing.add as fn

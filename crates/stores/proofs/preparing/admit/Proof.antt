@@ -1,4 +1,4 @@
--- `admit` meets its contract, by one law for each way out.
+-- Its contract, by one law for each way out.
 use Rattle.stores.proofs
 use proofs.PrepareLaws.{admit-laws as laws}
 use proofs.preparing.admit as fn

@@ -1,4 +1,4 @@
--- `copy` meets its contract. The invariant: the first i words are written.
+-- Its contract. The invariant: the first i words are written.
 use mathlib.Core.Path.{_≡_}
 use Prim.Native.Nat.{_-_, _≤_}
 use lib.ListN.{length}

@@ -1,4 +1,4 @@
--- `count` meets its contract, by its tests in their order.
+-- Its contract, by its tests in their order.
 use Rattle.stores.specs.Extend.{roomIn, countBy}
 use Rattle.octets.proofs.Cases.{test-laws as laws}
 use Rattle.stores.proofs.preparing.count as fn

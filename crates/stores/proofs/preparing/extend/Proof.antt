@@ -1,4 +1,4 @@
--- `extend` meets its contract, by the tag.
+-- Its contract, by the tag.
 use Rattle.stores.proofs
 use proofs.PrepareLaws.{extend-laws as laws}
 use proofs.preparing.extend as fn

@@ -1,4 +1,4 @@
--- `fill` meets its contract: hints change nothing of what the words stand for.
+-- Its contract: hints change nothing of what the words stand for.
 use Rattle.stores.proofs
 use proofs.PrepareLaws.{fill-laws as laws}
 use proofs.preparing.fill as fn

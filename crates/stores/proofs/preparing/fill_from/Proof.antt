@@ -1,4 +1,4 @@
--- `fill_from` meets its contract. The invariant: the words stand for what was read, and the fields from `at` on decide as all do.
+-- Its contract. The invariant: the words stand for what was read, and the fields from `at` on decide as all do.
 use Prim.Native.Nat.{_-_}
 use lib.ListN.{length}
 use Rattle.stores.proofs

@@ -1,4 +1,4 @@
--- `flag` meets its contract, by one law for each way out.
+-- Its contract, by one law for each way out.
 use Rattle.stores.proofs
 use proofs.PrepareLaws.{flag-laws as laws}
 use proofs.preparing.flag as fn

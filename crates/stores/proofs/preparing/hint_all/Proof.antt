@@ -1,4 +1,4 @@
--- `hint_all` meets its contract. The invariant: no word before the hints has moved.
+-- Its contract. The invariant: no word before the hints has moved.
 use Prim.Native.Nat.{_-_}
 use Rattle.stores.specs.Store.{Hinted}
 use Rattle.stores.proofs

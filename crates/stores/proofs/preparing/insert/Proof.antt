@@ -1,4 +1,4 @@
--- `insert` meets its contract, by whether the rank was met.
+-- Its contract, by whether the rank was met.
 use Rattle.stores.proofs
 use proofs.PrepareLaws.{insert-laws as laws}
 use proofs.preparing.insert as fn

@@ -1,4 +1,4 @@
--- `key_of` meets its contract: bits set side by side are a sum.
+-- Its contract: bits set side by side are a sum.
 use Rattle.stores.proofs
 use proofs.PrepareLaws.{value-of-laws as laws}
 use proofs.preparing.key_of as fn

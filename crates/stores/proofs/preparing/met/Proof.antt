@@ -1,4 +1,4 @@
--- `met` meets its contract, by its tests in their order.
+-- Its contract, by its tests in their order.
 use Rattle.stores.specs.Insert.{metAt}
 use Rattle.octets.proofs.Cases.{test-laws as laws}
 use Rattle.stores.proofs.preparing.met as fn

@@ -1,4 +1,4 @@
--- `open` meets its contract, word by word.
+-- Its contract, word by word.
 use Rattle.stores.proofs
 use proofs.PrepareLaws.{open-laws as laws}
 use proofs.preparing.open as fn

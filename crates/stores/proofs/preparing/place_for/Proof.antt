@@ -1,4 +1,4 @@
--- `place_for` meets its contract. The invariant: the place is among the first i records.
+-- Its contract. The invariant: the place is among the first i records.
 use Rattle.stores.proofs
 use proofs.PrepareLaws.{Placing, place-for-laws as laws}
 use proofs.preparing.place_for as fn

@@ -1,4 +1,4 @@
--- `prepare` meets its contract, by one law of `settingsOf` for each way out.
+-- Its contract, by one law of `settingsOf` for each way out.
 use Rattle.stores.proofs
 use proofs.PrepareLaws.{prepare-laws as laws}
 use proofs.preparing.prepare as fn

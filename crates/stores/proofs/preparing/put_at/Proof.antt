@@ -1,4 +1,4 @@
--- `put_at` meets its contract, by the words moved and the two written.
+-- Its contract, by the words moved and the two written.
 use Rattle.stores.proofs
 use proofs.PrepareLaws.{put-at-laws as laws}
 use proofs.preparing.put_at as fn

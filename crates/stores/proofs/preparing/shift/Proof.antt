@@ -1,4 +1,4 @@
--- `shift` meets its contract. The invariant: the words from i on are moved.
+-- Its contract. The invariant: the words from i on are moved.
 use Rattle.stores.proofs
 use proofs.PrepareLaws.{Moving, shift-laws as laws}
 use proofs.preparing.shift as fn

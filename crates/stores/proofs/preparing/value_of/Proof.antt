@@ -1,4 +1,4 @@
--- `value_of` meets its contract: the neighbour below the MAC.
+-- Its contract: the neighbour below the MAC.
 use Rattle.stores.proofs
 use proofs.PrepareLaws.{value-of-laws as laws}
 use proofs.preparing.value_of as fn

@@ -1,4 +1,4 @@
--- `hex_digit` meets its contract, by the law of each case.
+-- Its contract, by the law of each case.
 use Rattle.text.proofs
 use proofs.PrintLaws.{hex-digit-laws as laws}
 use proofs.printing.hex_digit as fn

@@ -1,4 +1,4 @@
--- `letter` meets its contract, by the law of each case.
+-- Its contract, by the law of each case.
 use Rattle.text.proofs
 use proofs.PrintLaws.{letter-laws as laws}
 use proofs.printing.letter as fn

@@ -1,4 +1,4 @@
--- `line_tail` meets its contract, octet by octet.
+-- Its contract, octet by octet.
 use borrow.Author.Needs.{needs}
 use Rattle.text.proofs.printing.line_tail as fn
 

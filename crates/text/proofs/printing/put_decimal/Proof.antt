@@ -1,4 +1,4 @@
--- `put_decimal` meets its contract: the digits are those of its decimal text. One law for each need.
+-- Its contract: the digits are those of its decimal text. One law for each need.
 use Rattle.text.proofs
 use proofs.PrintLaws.{put-decimal-laws as laws}
 use proofs.printing.put_decimal as fn

@@ -1,4 +1,4 @@
--- `put_line` meets its contract: the answer between the line's other parts.
+-- Its contract: the answer between the line's other parts.
 use Rattle.text.proofs
 use proofs.PrintLaws.{put-line-laws as laws}
 use proofs.printing.put_line as fn

@@ -1,4 +1,4 @@
--- `put_lines` meets its contract. The invariant: the lines so far are written, and those from here on are the rest of all.
+-- Its contract. The invariant: the lines so far are written, and those from here on are the rest of all.
 use Prim.Native.Nat.{_-_}
 use Rattle.text.proofs
 use proofs.PrintLaws.{Writing, put-lines-laws as laws}

@@ -1,4 +1,4 @@
--- `put_number` meets its contract, by one law for each need.
+-- Its contract, by one law for each need.
 use Rattle.text.proofs
 use proofs.PrintLaws.{put-number-laws as laws}
 use proofs.printing.put_number as fn

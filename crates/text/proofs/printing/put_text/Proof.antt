@@ -1,4 +1,4 @@
--- `put_text` meets its contract, by one law for each need.
+-- Its contract, by one law for each need.
 use Rattle.text.proofs
 use proofs.PrintLaws.{put-text-laws as laws}
 use proofs.printing.put_text as fn
