@@ -6,7 +6,7 @@ use rules.Handling.{transit, alerted, untagged, toAllEgressRBridges, channelMess
 use mathlib.Core.Path.{_≡_, refl, sym, ap, _∙_}
 use mathlib.Core.List.{List}
 use mathlib.Core.Bool.{Bool, true, false, not, _&&_, _||_, cond}
-use Prim.Native.Nat.{ℕ, suc, _≤_, _<_}
+use Prim.Native.Nat.{ℕ, suc, _+_, _*_, _≤_, _<_}
 use native.Mathlib.Omega.{arith}
 use borrow.Author.Needs.{needs}
 use borrow.Author.Tests.{lt-leb, le-leb, not-true, not-false}
@@ -15,7 +15,7 @@ use ruleLaws.{TestLaws.by-test, OptionLaws.area-number, FrameLaws.header-passed}
 use lib.Dec.{eqb}
 use lib.ListN.{length, take, drop, length-drop, length-take}
 use rules.{Octets.be16, Octets.be32, Settings.Ways, Options.WellFormed, Options.draftRead, Channel.bodyOf, Channel.channelRead}
-use rules.Header.{innerStart, areaOf, innerOf, readFrame, headerRefusal, weAreEgress}
+use rules.Header.{opLength, innerStart, areaOf, innerOf, readFrame, headerRefusal, weAreEgress}
 use rules.Extension.{flagsWord, criticalAlert, nonCriticalAlert, flagUnsummarized, summaryBare, extensionRead, extensionStops, areaRead, areaStops}
 use rules.declared.{NextHop.NextHop, Header.Header, FrameRead.FrameRead, ChannelRead.ChannelRead, Alert.Alert}
 use rules.declared.FrameRead.the-variants.{Trill, Unreadable}
@@ -26,15 +26,15 @@ use ruleLaws.HandlingLaws.{echo-ranged, channel-echo, inner-short, inner-untagge
 use ruleLaws.HandlingLaws.{routed-stopped, routed-egress, routed-transit, handling-unread, handling-refused, handling-routed, clock-bad, room-short}
 use ruleLaws.HandlingLaws.{beside-short, frame-long, frame-handled}
 use Rattle.handler.specs
-use specs.declared.answers.{Refusal.Refusal, Answer.Answer}
+use specs.declared.answers.Refusal.{Refusal}
 use specs.declared.answers.Refusal.the-variants.{Refused, Passed}
-use specs.Shapes.{refusalBy, answerOf, areaReadOf, Ready}
+use specs.Shapes.{refusalBy, areaReadOf, Ready}
 use proofs.Refusals.{refused-is, passed-is}
 use specs.declared.way.Own.{Own}
 use specs.declared.options.{Cursor.Cursor, AreaRead.AreaRead}
 use specs.declared.options.AreaRead.the-variants.{Read, Faulty}
 use specs.declared.handling.{Task.Task, Received.Received}
-use specs.declared.handling.Task.the-variants.{Answered, Forward, Error, Echo}
+use specs.declared.handling.Task.the-variants.{Dropped, Answered, Forward, Error, Echo}
 use specs.Tasks.{areaReadBy, ReadBy, stopsBy, alertBy, alertedBy, transitBy, wantedBy, askedBy, Answerable, Left, Ends, Comes, Role, Routes, Receives, Lent}
 use specs.Tasks.{Receiving}
 use Rattle.rules.specs.Options as O
@@ -116,12 +116,6 @@ module _ (rfc7179 : Bool) (area inner : List ℕ) where
 
 pub ruleset alert-of-laws = (needs, alert-draft, alert-none, alert-other, alert-so)
 
--- a task of the egress that is an answer
-module _ {f : List ℕ} {h : Header} {stage : Ways → List ℕ → A.Handled} {r : Answer} where
-  comes-so : (n start size : ℕ) → ((S : Ways) (clock : List ℕ) → stage S clock ≡ A.delivered n start size) → r ≡ answerOf (A.delivered n start size)
-      → Comes f h stage (Answered r)
-  comes-so n start size e is = record { same = λ S clock. e S clock ∙ rw is; ends = rw is (refl, refl) }
-
 -- what a channel message comes to, by what it is found to be
 module _ (f : List ℕ) (h : Header) (inner : List ℕ) (held : inner ≡ innerOf f h) (read : ChannelRead) (is : read ≡ channelRead inner) where
   abbrev Channel : Task → Type 0
@@ -137,9 +131,8 @@ module _ (f : List ℕ) (h : Header) (inner : List ℕ) (held : inner ≡ innerO
       let ranged = echo-ranged (bodyOf (innerOf f h)) (channel-echo (innerOf f h) (cc)) in
       record { same = λ S clock. cc; ends = ((ranged .0, ranged .1), ready) }
 
-  pub found-dropped : (n : ℕ) (r : Answer) → r ≡ answerOf (A.dropped n) → (c : ChannelRead) → read ≡ c
-      → ((S : Ways) (clock : List ℕ) → channelled S clock f h c ≡ A.dropped n) → Channel (Answered r)
-  found-dropped n r its c e so = comes-so n 0 0 (λ S clock. cc (so S clock)) its
+  pub found-dropped : (n : ℕ) (c : ChannelRead) → read ≡ c → ((S : Ways) (clock : List ℕ) → channelled S clock f h c ≡ A.dropped n) → Channel (Dropped n)
+  found-dropped n c e so = record { same = λ S clock. cc (so S clock); ends = Prim.tt }
 
 pub ruleset channelled-laws = (needs, ready, inner-held, found-fault, found-request, found-dropped)
 
@@ -148,30 +141,30 @@ module _ (f : List ℕ) (h : Header) (inner : List ℕ) (held : inner ≡ innerO
   abbrev Egress : Task → Type 0
   Egress t = Comes f h (λ S clock. decapsulated S clock f h) t
 
-  pub egress-short : (r : Answer) → r ≡ answerOf (A.dropped 22) → length inner < 18 → Egress (Answered r)
-  egress-short r is a = comes-so 22 0 0 (λ S clock. inner-short S clock f h (rw held at a)) is
+  pub egress-short : length inner < 18 → Egress (Dropped 22)
+  egress-short a = record { same = λ S clock. inner-short S clock f h (rw held at a); ends = Prim.tt }
+
+  -- delivered in whole
+  up : (n start size : ℕ) → Ready f h → start ≡ innerStart h → size ≡ length inner
+      → ((S : Ways) (clock : List ℕ) → decapsulated S clock f h ≡ A.delivered n (innerStart h) (length (innerOf f h))) → Egress (Answered n start size)
+  up n start size is i z e =
+      rw (z, held, i) (record { same = e; ends = (omega (arith, is .area-whole, is .short), omega (arith, length-drop (innerStart h) f, is .short)) })
 
   module _ (a : 18 ≤ length inner) (tag : Bool) (t : tag ≡ untagged inner) where
-    pub egress-untagged : (r : Answer) → r ≡ answerOf (A.dropped 23) → tag ≡ true → Egress (Answered r)
-    egress-untagged r is b = comes-so 23 0 0 (λ S clock. inner-untagged S clock f h (rw held at a) (cc)) is
+    pub egress-untagged : tag ≡ true → Egress (Dropped 23)
+    egress-untagged b = record { same = λ S clock. inner-untagged S clock f h (rw held at a) (cc); ends = Prim.tt }
 
     module _ (b : tag ≡ false) (all : Bool) (m : all ≡ toAllEgressRBridges inner) where
-      pub egress-any : (r : Answer) → r ≡ answerOf (A.dropped 24) → not all ≡ true → h .egress ≡ 0xFFC0 → Egress (Answered r)
-      egress-any r is n e = comes-so 24 0 0 (λ S clock. inner-any S clock f h (rw held at a) (cc) e (cc (not-true all n))) is
+      pub egress-any : not all ≡ true → h .egress ≡ 0xFFC0 → Egress (Dropped 24)
+      egress-any n e = record { same = λ S clock. inner-any S clock f h (rw held at a) (cc) e (cc (not-true all n)); ends = Prim.tt }
 
-      pub egress-delivered : (r : Answer) (start : ℕ) → start ≡ innerStart h → r ≡ answerOf (A.delivered 51 start (length inner)) → not all ≡ true
-          → (h .egress ≡ 0xFFC0 → ⊥) → Egress (Answered r)
-      egress-delivered r start i is n e =
-          comes-so 51 (innerStart h) (length (innerOf f h))
-          (λ S clock. inner-delivered S clock f h (rw held at a) (cc) e (cc (not-true all n))) (rw (held, i) at is)
+      pub egress-delivered : not all ≡ true → (h .egress ≡ 0xFFC0 → ⊥) → Ready f h → (start size : ℕ) → start ≡ innerStart h → size ≡ length inner
+          → Egress (Answered 51 start size)
+      egress-delivered n e is start size i z = up 51 start size is i z (λ S clock. inner-delivered S clock f h (rw held at a) (cc) e (cc (not-true all n)))
 
       module _ (n : not all ≡ false) (word : ℕ) (w : word ≡ be16 inner 16) where
-        pub egress-up : (r : Answer) (start : ℕ) → start ≡ innerStart h → r ≡ answerOf (A.delivered 52 start (length inner)) → word ≡ 0x22F4
-            → Egress (Answered r)
-        egress-up r start i is e =
-            comes-so 52 (innerStart h) (length (innerOf f h))
-            (λ S clock. inner-up S clock f h (rw held at a) (cc) (cc (not-false all n)) (cc))
-            (rw (held, i) at is)
+        pub egress-up : word ≡ 0x22F4 → Ready f h → (start size : ℕ) → start ≡ innerStart h → size ≡ length inner → Egress (Answered 52 start size)
+        egress-up e is start size i z = up 52 start size is i z (λ S clock. inner-up S clock f h (rw held at a) (cc) (cc (not-false all n)) (cc))
 
         pub egress-channel : (task : Task) → (word ≡ 0x22F4 → ⊥) → Comes f h (λ S clock. channelled S clock f h (channelRead (innerOf f h))) task → Egress task
         egress-channel task e d =
@@ -192,22 +185,21 @@ area-near true area n p e = extended (flagUnsummarized (flagsWord area) || (eqb 
     extended true x = let z : 0 ≡ p = cc x in omega (arith, z)
     extended false x = let z : 0 ≡ suc (length area) = cc x in omega arith
 
-pub route-place : (p n : ℕ) (read : AreaRead) → read ≡ Faulty n p → (rfc7179 : Bool) (area : List ℕ) → ReadBy rfc7179 area read → length area ≤ 2048 → p ≤ 2048
-route-place p n read e rfc7179 area a short = omega (arith, area-near rfc7179 area n p (sym a ∙ ap areaReadOf e))
-
-pub part-short : (f : List ℕ) (n k : ℕ) → length f ≤ 2048 → length (take n (drop k f)) ≤ 2048
-part-short f n k short = omega (arith, length-take n (drop k f), length-drop k f)
-
 module _ (nickname : ℕ) (rfc7179 : Bool) (f : List ℕ) (h : Header) (area : List ℕ) (held : area ≡ areaOf f h) (read : AreaRead)
     (a : ReadBy rfc7179 area read) where
-  pub route-faulty : (r : Answer) (n p : ℕ) → read ≡ Faulty n p → r ≡ answerOf (A.droppedAt n p) → Routes nickname rfc7179 f h (Answered r)
+  pub route-faulty : Ready f h → (n p : ℕ) → read ≡ Faulty n p → Routes nickname rfc7179 f h (Answered n p 0)
   unfolding areaRead
-  route-faulty r n p e is = record { same = λ S clock named two. routed-faulty S clock f h n p (cc) ∙ rw is; left = rw is (refl, refl); role = Prim.tt }
+  route-faulty is n p e =
+      let near = area-near rfc7179 area n p (sym a ∙ ap areaReadOf e) in
+      record { same = λ S clock named two. routed-faulty S clock f h n p (cc); left = (omega (arith, near, short), omega arith); role = Prim.tt }
+    where
+      short : length area ≤ 2048
+      short = rw held (omega (arith, is .short, length-take (4 * opLength (h .word)) (drop (h .place + 6) f), length-drop (h .place + 6) f))
 
   module _ (c : Cursor) (w : read ≡ Read c) (egress : Bool) (e : egress ≡ weAreEgress nickname h) (stops : Bool) (b : stops ≡ stopsBy rfc7179 egress area) where
-    pub route-stopped : (r : Answer) → r ≡ answerOf (A.dropped 20) → stops ≡ true → Routes nickname rfc7179 f h (Answered r)
+    pub route-stopped : stops ≡ true → Routes nickname rfc7179 f h (Dropped 20)
     unfolding areaRead areaStops
-    route-stopped r is x = record { same = λ S clock named two. routed-stopped S clock f h (cc) (cc) ∙ rw is; left = rw is (refl, refl); role = Prim.tt }
+    route-stopped x = record { same = λ S clock named two. routed-stopped S clock f h (cc) (cc); left = Prim.tt; role = Prim.tt }
 
     module _ (x : stops ≡ false) where
       pub route-egress : (t : Task) → egress ≡ true → Comes f h (λ S clock. decapsulated S clock f h) t → Routes nickname rfc7179 f h t
@@ -220,7 +212,8 @@ module _ (nickname : ℕ) (rfc7179 : Bool) (f : List ℕ) (h : Header) (area : L
           }
         where
           ended : (t : Task) → Ends f h t → Left rfc7179 f h t × Role nickname h t
-          ended (Answered r) k = (k, Prim.tt)
+          ended (Dropped n) k = (k, Prim.tt)
+          ended (Answered n start size) k = (k, Prim.tt)
           ended (Forward alert) k = absurd k
           ended (Error code) k = (k, sym e ∙ y)
           ended Echo k = (k, sym e ∙ y)
@@ -271,15 +264,15 @@ module _ (nickname : ℕ) (rfc7179 : Bool) (f : List ℕ) (h : Header) (area : L
           alike S clock r AlertErr = refl
           alike S clock r AlertRequest = refl
 
-pub ruleset route-laws = (needs, ready, area-held, inner-held, route-place, part-short, route-faulty, route-stopped, route-egress, route-transit)
+pub ruleset route-laws = (needs, ready, area-held, inner-held, route-faulty, route-stopped, route-egress, route-transit)
 
 -- 12 to 18
 module _ (f : List ℕ) (h : Header) (is : readFrame f ≡ Trill h) (own : Own) where
   module _ (refusal : Refusal) (is-refusal : refusal ≡ refusalBy (headerRefusal (own .mac) f h)) where
-    pub frame-refused : (n : ℕ) → refusal ≡ Refused n → (r : Answer) → r ≡ answerOf (A.dropped n) → Receives own f (R.Answered r)
-    frame-refused n e r d =
+    pub frame-refused : (n : ℕ) → refusal ≡ Refused n → Receives own f (R.Refused n)
+    frame-refused n e =
         let x = refused-is (headerRefusal (own .mac) f h) (sym is-refusal ∙ e) in
-        record { same = λ S clock o. handling-refused S clock f h is (rw o at (x .1)) ∙ rw (d, rw o at (x .0)); got = rw d (refl, refl) }
+        record { same = λ S clock o. handling-refused S clock f h is (rw o at (x .1)) ∙ rw (rw o at (x .0)); got = Prim.tt }
 
     pub frame-passed : refusal ≡ Passed → length f ≤ 2048 → Receives own f (R.Trill h)
     frame-passed e short =
@@ -295,8 +288,8 @@ pub ruleset passed-laws = (needs, frame-near, frame-refused, frame-passed)
 
 -- 10 and 11
 module _ (f : List ℕ) (read : FrameRead) (is : read ≡ readFrame f) (own : Own) where
-  pub frame-unread : (n : ℕ) (r : Answer) → read ≡ Unreadable n → r ≡ answerOf (A.dropped n) → Receives own f (R.Answered r)
-  frame-unread n r e u = record { same = λ S clock o. handling-unread S clock f n (sym is ∙ e) ∙ rw u; got = rw u (refl, refl) }
+  pub frame-unread : (n : ℕ) → read ≡ Unreadable n → Receives own f (R.Refused n)
+  frame-unread n e = record { same = λ S clock o. handling-unread S clock f n (sym is ∙ e); got = Prim.tt }
 
   pub frame-trill : (h : Header) → read ≡ Trill h → readFrame f ≡ Trill h
   frame-trill h e = sym is ∙ e
@@ -305,16 +298,15 @@ pub ruleset read-laws = (needs, frame-unread, frame-trill)
 
 -- 1, 2, 37 and 3
 module _ (own : Own) (clock f : List ℕ) (room besideRoom : ℕ) where
-  pub received-dropped : (n : ℕ) (r : Answer) → r ≡ answerOf (A.dropped n) → ((S : Ways) → handledWith S clock room besideRoom f ≡ A.dropped n)
-      → Receiving own clock f room besideRoom (R.Answered r)
-  received-dropped n r is w = record { same = λ S o. w S ∙ rw is; got = rw is (refl, refl); lent = Prim.tt }
+  pub received-dropped : (n : ℕ) → ((S : Ways) → handledWith S clock room besideRoom f ≡ A.dropped n) → Receiving own clock f room besideRoom (R.Refused n)
+  received-dropped n w = record { same = λ S o. w S; got = Prim.tt; lent = Prim.tt }
 
   pub received-read : (r : Received) → Receives own f r → length clock ≡ 6 → 2048 ≤ room → 576 ≤ besideRoom → length f ≤ 2048
       → Receiving own clock f room besideRoom r
   received-read r d a b c short = record { same = λ S o. frame-handled S clock room besideRoom f a b c short ∙ d .same S clock o; got = d .got; lent = lends r }
     where
       lends : (r : Received) → Lent clock room besideRoom r
-      lends (R.Answered x) = Prim.tt
+      lends (R.Refused n) = Prim.tt
       lends (R.Trill h) = (a, b, c)
 
 pub ruleset receive-laws = (needs, received-dropped, clock-bad, room-short, beside-short, frame-long, received-read)

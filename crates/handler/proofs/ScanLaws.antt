@@ -32,13 +32,13 @@ use Rattle.rules.proofs.FirstLaws.{opened-field, first, switch-fold, settings-c
 use Rattle.octets.specs.Flags.{flagTag, flagBy}
 use specs.declared.validation.{Flags.Flags, Scan.Scan, Validated.Validated}
 use specs.declared.answers.Answer.{Answer}
-use specs.declared.handling.Received.the-variants.{Answered, Trill}
+use specs.declared.handling.Received.the-variants.{Refused, Trill}
 use mathlib.Core.Option.{Option, none, some}
 use specs.Calls.{LookupOf}
 use Rattle.octets.proofs.FlagLaws.{flag-is}
 use Rattle.stores.specs.Store.{unlessWithdrawn}
 use Rattle.stores.proofs.LookupLaws.{next-hop}
-use proofs.TaskLaws.{both-of, kept, finds, task-laws, back-error, back-echo, replies-none, replies-so, replied, said-forwardable}
+use proofs.TaskLaws.{both-of, finds, task-laws, back-error, back-echo, replies-none, replies-so, replied, said-forwardable}
 use Rattle.rules.specs.Answer as A
 use Rattle.handler.proofs.ValidationLaws as J
 
@@ -275,7 +275,7 @@ module _ (s clock f out beside : List ℕ) (d : ℕ) (j : Validated) (is : Valid
   abbrev answer : A.Handled
   answer = handled s clock (length out) (length beside) f
 
-  pub trill-bad : not (j .good) ≡ true → (r : Answer) → r ≡ droppedBy 1 0 → Both answer r out out beside beside
+  pub trill-bad : not (j .good) ≡ true → (r : Answer) → r ≡ droppedBy 1 → Both answer r out out beside beside
   trill-bad n r e = rw (settings-bad s clock (length out) (length beside) f (settings-none s d j is n)) (both-of beside (done-dropped 1 refl e))
 
   module _ (n : not (j .good) ≡ false) (own : Own) (o : own ≡ ownOf (switchAt s)) (received : Received)
@@ -283,8 +283,8 @@ module _ (s clock f out beside : List ℕ) (d : ℕ) (j : Validated) (is : Valid
     comes : answer ≡ receivedBy (switchAt s) clock f received
     comes = settings-good s clock (length out) (length beside) f (settingsRead s) (settings-some s d j is n) ∙ x .same (switchAt s) o
 
-    pub trill-early : (a : Answer) → received ≡ Answered a → Both answer a out out beside beside
-    trill-early a e = rw (comes, e) (both-of beside (kept a out (rw e at (x .got))))
+    pub trill-early : (n : ℕ) → received ≡ Refused n → (a : Answer) → a ≡ droppedBy n → Both answer a out out beside beside
+    trill-early n e a is = rw (comes, e) (both-of beside (done-dropped n refl is))
 
     module _ (h : Header) (e : received ≡ Trill h) where
       pub trill-lookup : d ≡ askedBy (own .nickname) received → LookupOf s (wantedBy (j .lookup .own .nickname) h) (j .lookup)

@@ -67,8 +67,11 @@ held-most k lent whole h held = rw held h
 
 -- the answers with nothing written
 module _ {a : A.Handled} {r : Answer} {out : List ℕ} where
+  pub done-unwritten : (n start size : ℕ) → a ≡ A.delivered n start size → r ≡ answerOf (A.delivered n start size) → Done a r out out
+  done-unwritten n start size e is = rw e (record { answer = is; after = sym (put-none out 0); alone = refl })
+
   pub done-dropped : (n : ℕ) → a ≡ A.dropped n → r ≡ answerOf (A.dropped n) → Done a r out out
-  done-dropped n e is = rw e (record { answer = is; after = sym (put-none out 0); alone = refl })
+  done-dropped n = done-unwritten n 0 0
 
 -- by a next hop
 pub by-hop : {X : Type 0} (R : Ruling) → (R ≡ Absent → X) → ((r : NextHop) → R ≡ Found r → X) → X

@@ -19,9 +19,9 @@ use Rattle.handler.specs
 use specs.declared.answers.Answer.{Answer}
 use specs.declared.way.Own.{Own}
 use specs.declared.handling.Received.{Received}
-use specs.declared.handling.Received.the-variants.{Answered, Trill}
+use specs.declared.handling.Received.the-variants.{Refused, Trill}
 use specs.{Shapes.droppedBy, Shapes.ownOf, Shapes.onlyFor, Shapes.waysBy, Tasks.receivedBy, Tasks.Receiving, Tasks.Both}
-use proofs.TaskLaws.{both-of, kept, finds, replies-none, replies-so, replied, said-forwardable}
+use proofs.TaskLaws.{both-of, finds, replies-none, replies-so, replied, said-forwardable}
 use Rattle.stores.proofs.PlaceLaws.{good-whole, step-past, step-up, step-stay, place-hinted, place-searched, for-past, for-other}
 use Rattle.stores.specs.Store.{nicknameIn, countIn, destAt, hopOf, hopAt, lastAt, hintAt, placeIn, hopFor, waysIn, storeGood, handledIn, Whole}
 use Rattle.rules.specs.Answer as A
@@ -119,7 +119,7 @@ module _ (w clock f out beside : List ℕ) (ok : Bool) (is : ok ≡ storeGood w)
   abbrev answer : A.Handled
   answer = handledIn w clock (length out) (length beside) f
 
-  pub store-bad : not ok ≡ true → (r : Answer) → r ≡ droppedBy 1 0 → Both answer r out out beside beside
+  pub store-bad : not ok ≡ true → (r : Answer) → r ≡ droppedBy 1 → Both answer r out out beside beside
   unfolding handledIn
   store-bad n r e = rw (← is, not-true ok n) (both-of beside (done-dropped 1 refl e))
 
@@ -132,8 +132,8 @@ module _ (w clock f out beside : List ℕ) (ok : Bool) (is : ok ≡ storeGood w)
       unfolding handledIn
       comes = rw (← is, not-false ok n) (x .same (waysIn w) o)
 
-      pub store-early : (a : Answer) → received ≡ Answered a → Both answer a out out beside beside
-      store-early a e = rw (comes, e) (both-of beside (kept a out (rw e at (x .got))))
+      pub store-early : (n : ℕ) → received ≡ Refused n → (a : Answer) → a ≡ droppedBy n → Both answer a out out beside beside
+      store-early n e a is = rw (comes, e) (both-of beside (done-dropped n refl is))
 
       pub store-done : (h : Header) → received ≡ Trill h → (r : Answer) (out2 beside2 : List ℕ) → Both (routed (waysIn w) clock f h) r out out2 beside beside2
           → Both answer r out out2 beside beside2

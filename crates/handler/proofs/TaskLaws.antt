@@ -4,7 +4,7 @@ use Rattle.rules.specs as rules
 use rules.Handling.{forwardedRest, forwarded, onward, faulted, echoed, routed}
 use rules.{Extension.areaSent, Octets.if_then_else_, Settings.Ways, Header.innerOf, Link.link}
 use rules.Channel.{replyInner, bodyOf, replyMode, silenced, returnPath, errorReply, echoReply, replyRest, errorBody, echoBody}
-use Rattle.handler.proofs.{StageLaws.by-hop, StageLaws.back, StageLaws.done-dropped}
+use Rattle.handler.proofs.{StageLaws.by-hop, StageLaws.back, StageLaws.done-dropped, StageLaws.done-unwritten}
 use mathlib.Core.Path.{_≡_, refl, sym, ap, _∙_}
 use mathlib.Core.List.{List, [], _++_}
 use mathlib.Core.Bool.{Bool, true, false, not, true≢false}
@@ -24,29 +24,12 @@ use specs.declared.answers.{Refusal.Refusal, Answer.Answer}
 use specs.declared.answers.Refusal.the-variants.{Refused, Passed}
 use specs.declared.way.{Own.Own, Lookup.Lookup}
 use specs.declared.handling.Task.{Task}
-use specs.declared.handling.Task.the-variants.{Answered, Forward, Error, Echo}
-use specs.Tasks.{answerBy, alertRefusal, alertQuiet, transitQuiet, alertedBy, transitBy, transitAt, doneAt, asksBack, Forwardable}
+use specs.declared.handling.Task.the-variants.{Dropped, Answered, Forward, Error, Echo}
+use specs.Tasks.{alertRefusal, alertQuiet, transitQuiet, alertedBy, transitBy, transitAt, doneAt, asksBack, Forwardable}
 use specs.Tasks.{Routes, FaultAnswered, EchoAnswered, AlertAnswered, Both}
 use specs.Calls.{Replies}
 use specs.Shapes.{answerOf, repliedBy, besideBy, viaOf, neighbourOf, ownOf, onlyFor, waysBy, Replied, Done}
 use Rattle.rules.specs.Answer as A
-
--- an answer that writes nothing, from its numbers
-pub kept : (a : Answer) (out : List ℕ) → (a .written ≡ 0) × (a .beside ≡ 0) → Done (answerBy a) a out out
-kept a out z =
-    record { answer = ap (λ (w : ℕ). numbers w (a .beside)) (z .0) ∙ ap (λ (w : ℕ). numbers 0 w) (z .1); after = sym (put-none out 0); alone = refl }
-  where
-    numbers : ℕ → ℕ → Answer
-    numbers w b =
-        record {
-          number = a .number;
-          written = w;
-          start = a .start;
-          length = a .length;
-          neighbour = a .neighbour;
-          beside = b;
-          «beside_neighbour» = a .«beside_neighbour»;
-        }
 
 -- a reply has octets, and goes to the next hop that is lookup
 some-octets : (S : Ways) (r : NextHop) (rest : List ℕ) → eqb (length (link S r ++ rest)) 0 ≡ false
@@ -131,6 +114,12 @@ pub ruleset reply-answer-laws = (needs, error-answered, echo-answered)
 module _ {nickname : ℕ} {rfc7179 : Bool} {f : List ℕ} {h : Header} {task : Task} (x : Routes nickname rfc7179 f h task) where
   pub left-onward : (edition : Bool) → rfc7179 ≡ edition → (alert : Alert) → task ≡ Forward alert → Forwardable edition f h alert
   left-onward edition two alert e = rw (← two) (rw e at (x .left))
+
+  pub left-start : (n start size : ℕ) → task ≡ Answered n start size → start ≤ 2048
+  left-start n start size e = rw e at (x .left) .0
+
+  pub left-size : (n start size : ℕ) → task ≡ Answered n start size → size ≤ 2048
+  left-size n start size e = rw e at (x .left) .1
 
   pub left-18 : task ≡ Echo → 18 ≤ length (bodyOf (innerOf f h))
   left-18 e = rw e at (x .left) .0 .0
@@ -304,8 +293,12 @@ module _ (S : Ways) (clock f : List ℕ) (h : Header) (own : Own) (o : own ≡ o
   comes : routed S clock f h ≡ doneAt S clock f h task
   comes = x .same S clock (ap (λ (y : Own). y .nickname) o) two
 
-  pub task-answered : task ≡ Answered r → Both (routed S clock f h) r out out beside beside
-  task-answered e = rw (comes, e) (both-of beside (kept r out (rw e at (x .left))))
+  pub task-dropped : (n : ℕ) → task ≡ Dropped n → r ≡ answerOf (A.dropped n) → Both (routed S clock f h) r out out beside beside
+  task-dropped n e is = rw (comes, e) (both-of beside (done-dropped n refl is))
+
+  pub task-answered : (n start size : ℕ) → task ≡ Answered n start size → r ≡ answerOf (A.delivered n start size)
+      → Both (routed S clock f h) r out out beside beside
+  task-answered n start size e is = rw (comes, e) (both-of beside (done-unwritten n start size refl is))
 
   module _ (out1 : List ℕ) where
     pub task-forward : (alert : Alert) → task ≡ Forward alert → (beside1 : List ℕ) → Both (transitAt S clock f h alert) r out out1 beside beside1
@@ -318,4 +311,4 @@ module _ (S : Ways) (clock f : List ℕ) (h : Header) (own : Own) (o : own ≡ o
     pub task-echo : task ≡ Echo → Done (echoed S clock f h) r out out1 → Both (routed S clock f h) r out out1 beside beside
     task-echo e d = rw (comes, e) (both-of beside d)
 
-pub ruleset task-laws = (needs, task-answered, task-forward, task-error, task-echo, left-onward, left-18, left-530)
+pub ruleset task-laws = (needs, task-dropped, task-answered, task-forward, task-error, task-echo, left-onward, left-start, left-size, left-18, left-530)

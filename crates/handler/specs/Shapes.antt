@@ -47,15 +47,15 @@ answerOf a =
       «beside_neighbour» = a .besideVia;
     }
 
-abbrev pub droppedBy : ℕ → ℕ → Answer
-droppedBy number place = answerOf (A.droppedAt number place)
+abbrev pub droppedBy : ℕ → Answer
+droppedBy number = answerOf (A.dropped number)
+
+abbrev pub unwrittenBy : ℕ → ℕ → ℕ → Answer
+unwrittenBy number start size = answerOf (A.delivered number start size)
 
 abbrev pub wroteBy : ℕ → ℕ → ℕ → Answer
 wroteBy number written via =
     record { number = number; written = written; start = 0; length = 0; neighbour = via; beside = 0; «beside_neighbour» = 0 }
-
-abbrev pub deliveredBy : ℕ → ℕ → ℕ → Answer
-deliveredBy number start size = answerOf (A.delivered number start size)
 
 -- a refusal by its number, which is 0 where there is none
 unfoldable pub refusalBy : ℕ → Refusal
@@ -67,7 +67,7 @@ Wrote octets at end out out′ = (end ≡ at + length octets) × (out′ ≡ put
 
 -- a reply of so many octets, or the number that is answered without one
 abbrev pub repliedBy : ℕ → ℕ → ℕ → ℕ → Answer
-repliedBy refusal number written via = if eqb written 0 then droppedBy refusal 0 else wroteBy number written via
+repliedBy refusal number written via = if eqb written 0 then droppedBy refusal else wroteBy number written via
 
 -- with a reply of so many octets beside it
 abbrev pub besideBy : Answer → ℕ → ℕ → Answer

@@ -25,7 +25,7 @@ use Rattle.handler.specs.declared.answers.Refusal.the-variants.{Refused,
 use Rattle.handler.specs.declared.way.Own.{Own}
 use Rattle.handler.specs.declared.options.AreaRead.{AreaRead}
 use Rattle.handler.specs.declared.handling.Task.{Task}
-use Rattle.handler.specs.declared.handling.Task.the-variants.{Answered, Forward, Error, Echo}
+use Rattle.handler.specs.declared.handling.Task.the-variants.{Dropped, Answered, Forward, Error, Echo}
 use Rattle.handler.specs.declared.handling.Received.{Received}
 use Rattle.handler.specs.declared.handling.Received.the-variants as R
 use Rattle.handler.specs.Shapes.{answerOf, ownOf, areaReadOf, Ready, Done}
@@ -46,11 +46,6 @@ alertBy rfc7179 area inner =
     then alertTo (criticalAlert (flagsWord area)) (not (stopsBy rfc7179 true area)) (channelRead inner)
     else NoAlert
 
--- an answer that writes nothing, from its numbers
-abbrev pub answerBy : Answer → A.Handled
-answerBy a =
-    record { number = a .number; octets = []; start = a .start; size = a .length; via = a .neighbour; beside = []; besideVia = a .«beside_neighbour» }
-
 -- the reply beside a forwarded frame; `B` is asked for the next hop of the ingress
 abbrev pub besideOf : Ways → Ways → NextHop → List ℕ → List ℕ → Header → A.Handled
 besideOf T B r clock f h = onward T r f h (echoed B clock f h .octets) (echoed B clock f h .via)
@@ -69,7 +64,8 @@ transitAt S = transitBy S S
 
 -- what a task comes to at a switch
 abbrev pub doneAt : Ways → List ℕ → List ℕ → Header → Task → A.Handled
-doneAt S clock f h (Answered a) = answerBy a
+doneAt S clock f h (Dropped number) = A.dropped number
+doneAt S clock f h (Answered number start size) = A.delivered number start size
 doneAt S clock f h (Forward alert) = transitAt S clock f h alert
 doneAt S clock f h (Error code) = faulted S f h code
 doneAt S clock f h Echo = echoed S clock f h
@@ -96,7 +92,7 @@ abbrev pub wantedBy : ℕ → Header → ℕ
 wantedBy nickname h = if weAreEgress nickname h then h .ingress else h .egress
 
 abbrev pub askedBy : ℕ → Received → ℕ
-askedBy nickname (R.Answered a) = 0
+askedBy nickname (R.Refused n) = 0
 askedBy nickname (R.Trill h) = wantedBy nickname h
 
 abbrev pub asksBack : Alert → Bool
@@ -121,14 +117,16 @@ pub record Forwardable (rfc7179 : Bool) (f : List ℕ) (h : Header) (alert : Ale
   pub answerable : Answerable f h alert
 
 abbrev pub Left : Bool → List ℕ → Header → Task → Type 0
-Left rfc7179 f h (Answered a) = (a .written ≡ 0) × (a .beside ≡ 0)
+Left rfc7179 f h (Dropped number) = Unit {0}
+Left rfc7179 f h (Answered number start size) = (start ≤ 2048) × (size ≤ 2048)
 Left rfc7179 f h (Forward alert) = Forwardable rfc7179 f h alert
 Left rfc7179 f h (Error code) = Ready f h
 Left rfc7179 f h Echo = EchoIn f h × Ready f h
 
 -- a task of an egress, which forwards nothing
 abbrev pub Ends : List ℕ → Header → Task → Type 0
-Ends f h (Answered a) = (a .written ≡ 0) × (a .beside ≡ 0)
+Ends f h (Dropped number) = Unit {0}
+Ends f h (Answered number start size) = (start ≤ 2048) × (size ≤ 2048)
 Ends f h (Forward alert) = ⊥
 Ends f h (Error code) = Ready f h
 Ends f h Echo = EchoIn f h × Ready f h
@@ -140,7 +138,8 @@ pub record Comes (f : List ℕ) (h : Header) (stage : Ways → List ℕ → A.Ha
 
 -- a task is that of our role
 abbrev pub Role : ℕ → Header → Task → Type 0
-Role nickname h (Answered a) = Unit {0}
+Role nickname h (Dropped number) = Unit {0}
+Role nickname h (Answered number start size) = Unit {0}
 Role nickname h (Forward alert) = weAreEgress nickname h ≡ false
 Role nickname h (Error code) = weAreEgress nickname h ≡ true
 Role nickname h Echo = weAreEgress nickname h ≡ true
@@ -153,11 +152,11 @@ pub record Routes (nickname : ℕ) (rfc7179 : Bool) (f : List ℕ) (h : Header) 
 
 -- a frame as received, at every switch of a nickname and MAC
 abbrev pub receivedBy : Ways → List ℕ → List ℕ → Received → A.Handled
-receivedBy S clock f (R.Answered a) = answerBy a
+receivedBy S clock f (R.Refused n) = A.dropped n
 receivedBy S clock f (R.Trill h) = routed S clock f h
 
 abbrev pub Got : List ℕ → Received → Type 0
-Got f (R.Answered a) = (a .written ≡ 0) × (a .beside ≡ 0)
+Got f (R.Refused n) = Unit {0}
 Got f (R.Trill h) = Ready f h
 
 pub record Receives (own : Own) (f : List ℕ) (r : Received) : Type 0 where
@@ -166,7 +165,7 @@ pub record Receives (own : Own) (f : List ℕ) (r : Received) : Type 0 where
 
 -- and with the clock and the buffers that are lent
 abbrev pub Lent : List ℕ → ℕ → ℕ → Received → Type 0
-Lent clock room besideRoom (R.Answered a) = Unit {0}
+Lent clock room besideRoom (R.Refused n) = Unit {0}
 Lent clock room besideRoom (R.Trill h) = (length clock ≡ 6) × (2048 ≤ room) × (576 ≤ besideRoom)
 
 pub record Receiving (own : Own) (clock f : List ℕ) (room besideRoom : ℕ) (r : Received) : Type 0 where

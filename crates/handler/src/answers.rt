@@ -1,7 +1,7 @@
 // The answer of one handling, made in one of five ways.
 ghost use mathlib.Core.Path.{_≡_};
 ghost use Prim.Native.Nat.{_≤_};
-ghost use Rattle.handler.specs.Shapes.{droppedBy, wroteBy, deliveredBy, repliedBy, besideBy};
+ghost use Rattle.handler.specs.Shapes.{droppedBy, unwrittenBy, wroteBy, repliedBy, besideBy};
 
 // What the driver is answered. `neighbour` is the one used for what was written, 0 where nothing was; `beside` is the length of a reply made
 // beside a forwarded frame, with its neighbour (document 02, T-09).
@@ -23,21 +23,21 @@ pub enum Refusal {
 }
 
 pub fn dropped(number: u8) -> Answer
-    ensures { λ r. ⌜ r ≡ droppedBy number 0 ⌝ }
+    ensures { λ r. ⌜ r ≡ droppedBy number ⌝ }
 {
-    dropped_at(number, 0)
+    unwritten(number, 0, 0)
 }
 
-// Dropped for what stands at a place of the options area.
-pub fn dropped_at(number: u8, place: usize) -> Answer
-    requires { ⌜ place ≤ 2048 ⌝ }
-    ensures { λ r. ⌜ r ≡ droppedBy number place ⌝ }
+// With nothing written: where an option is at fault, or where the inner frame is that is delivered.
+pub fn unwritten(number: u8, start: usize, length: usize) -> Answer
+    requires { ⌜ (start ≤ 2048) × (length ≤ 2048) ⌝ }
+    ensures { λ r. ⌜ r ≡ unwrittenBy number start length ⌝ }
 {
     Answer {
         number: number as u16,
         written: 0,
-        start: place as u16,
-        length: 0,
+        start: start as u16,
+        length: length as u16,
         neighbour: 0,
         beside: 0,
         beside_neighbour: 0,
@@ -54,21 +54,6 @@ pub fn wrote(number: u8, written: usize, neighbour: u16) -> Answer
         start: 0,
         length: 0,
         neighbour: neighbour,
-        beside: 0,
-        beside_neighbour: 0,
-    }
-}
-
-pub fn delivered(number: u8, start: usize, length: usize) -> Answer
-    requires { ⌜ (start ≤ 2048) × (length ≤ 2048) ⌝ }
-    ensures { λ r. ⌜ r ≡ deliveredBy number start length ⌝ }
-{
-    Answer {
-        number: number as u16,
-        written: 0,
-        start: start as u16,
-        length: length as u16,
-        neighbour: 0,
         beside: 0,
         beside_neighbour: 0,
     }

@@ -33,17 +33,27 @@ ghost use Rattle.rules.specs.declared.FrameRead.the-variants.{Trill};
 ghost use Rattle.handler.specs.Shapes.{Ready, Replied, Done, waysBy};
 ghost use Rattle.handler.specs.Tasks.{ReadBy, stopsBy, alertBy, alertRefusal, wantedBy, askedBy, asksBack, transitQuiet, EchoIn, FaultAnswered, EchoAnswered, AlertAnswered, Forwardable, Comes, Routes, Receives, Receiving};
 
-// A frame as received: an answer with nothing written, or a TRILL frame of which none of 10 to 18 is given.
+// A frame as received: the number that drops it, or a TRILL frame of which none of 10 to 18 is given.
 pub enum Received {
-    Answered(Answer),
+    Refused(u8),
     Trill(Header),
 }
 
-// An answer with nothing written, or what a next hop is asked for: that of the egress to forward, that of the ingress to reply.
+// An answer with nothing written, or what a next hop is asked for: that of the egress to forward, that of the ingress to reply. Numbers, no
+// `Answer`: beside fields of 8 bits its fields of 16 would be kept in memory.
 pub enum Task {
-    Answered(Answer),
+    Dropped {
+        number: u8,
+    },
+    Answered {
+        number: u8,
+        start: usize,
+        length: usize,
+    },
     Forward(Alert),
-    Error { code: u8 },
+    Error {
+        code: u8,
+    },
     Echo,
 }
 
@@ -55,10 +65,10 @@ fn channelled(f: &[u8], h: Header) -> Task
     let read = channel::channel_read(&f[start..]);
     match read {
         ChannelRead::Fault { code } => Task::Error { code: code },
-        ChannelRead::BadErr => Task::Answered(answers::dropped(26)),
-        ChannelRead::ErrorHeard => Task::Answered(answers::dropped(55)),
-        ChannelRead::BadEcho => Task::Answered(answers::dropped(27)),
-        ChannelRead::EchoHeard => Task::Answered(answers::dropped(56)),
+        ChannelRead::BadErr => Task::Dropped { number: 26 },
+        ChannelRead::ErrorHeard => Task::Dropped { number: 55 },
+        ChannelRead::BadEcho => Task::Dropped { number: 27 },
+        ChannelRead::EchoHeard => Task::Dropped { number: 56 },
         ChannelRead::EchoRequest => Task::Echo,
     }
 }
@@ -80,7 +90,7 @@ fn untagged(inner: &[u8]) -> bool
 fn to_all_egress(inner: &[u8]) -> bool
     ensures { λ r. ⌜ r ≡ Rules.toAllEgressRBridges (now (inner .entry)) ⌝ }
 {
-    octets::be48(inner, 0) == rules::ALL_EGRESS_RBRIDGES
+    header::to_mac(rules::ALL_EGRESS_RBRIDGES, inner)
 }
 
 // 22 to 24 and 51 to 56.
@@ -91,19 +101,27 @@ fn decapsulated(f: &[u8], h: Header) -> Task
     let start = header::inner_start(h);
     let inner = &f[start..];
     if inner.len() < 18 {
-        return Task::Answered(answers::dropped(22));
+        return Task::Dropped { number: 22 };
     }
     if untagged(inner) {
-        return Task::Answered(answers::dropped(23));
+        return Task::Dropped { number: 23 };
     }
     if !to_all_egress(inner) {
         if h.egress == rules::ANY_RBRIDGE {
-            return Task::Answered(answers::dropped(24));
+            return Task::Dropped { number: 24 };
         }
-        return Task::Answered(answers::delivered(51, start, inner.len()));
+        return Task::Answered {
+            number: 51,
+            start: start,
+            length: inner.len(),
+        };
     }
     if octets::be16(inner, 16) == rules::ETHERTYPE_IS_IS {
-        return Task::Answered(answers::delivered(52, start, inner.len()));
+        return Task::Answered {
+            number: 52,
+            start: start,
+            length: inner.len(),
+        };
     }
     channelled(f, h)
 }
@@ -210,11 +228,15 @@ pub fn route(nickname: u16, rfc7179: bool, f: &[u8], h: Header) -> Task
     let area = &f[start..inner];
     let read = read_area(rfc7179, area);
     if let AreaRead::Faulty { number, place } = read {
-        return Task::Answered(answers::dropped_at(number, place));
+        return Task::Answered {
+            number: number,
+            start: place,
+            length: 0,
+        };
     }
     let egress = header::we_are_egress(nickname, h);
     if area_stops(rfc7179, egress, area) {
-        return Task::Answered(answers::dropped(20));
+        return Task::Dropped { number: 20 };
     }
     if egress {
         return decapsulated(f, h);
@@ -230,7 +252,7 @@ fn passed(own: Own, f: &[u8], h: Header) -> Received
     let Refusal::Refused(n) = header::header_refusal(own.mac, f, h) else {
         return Received::Trill(h);
     };
-    Received::Answered(answers::dropped(n))
+    Received::Refused(n)
 }
 
 // 10 and 11, then the rest.
@@ -240,7 +262,7 @@ fn read(own: Own, f: &[u8]) -> Received
 {
     let read = octets::read_frame(f);
     match read {
-        FrameRead::Unreadable(n) => Received::Answered(answers::dropped(n)),
+        FrameRead::Unreadable(n) => Received::Refused(n),
         FrameRead::Trill(h) => passed(own, f, h),
     }
 }
@@ -250,16 +272,16 @@ pub fn receive(own: Own, clock: &[u8], f: &[u8], room: usize, beside: usize) -> 
     ensures { λ r. ⌜ Receiving own (now (clock .entry)) (now (f .entry)) room beside r ⌝ }
 {
     if clock.len() != 6 {
-        return Received::Answered(answers::dropped(1));
+        return Received::Refused(1);
     }
     if room < rules::OUTPUT_LEAST {
-        return Received::Answered(answers::dropped(2));
+        return Received::Refused(2);
     }
     if beside < rules::BESIDE_LEAST {
-        return Received::Answered(answers::dropped(37));
+        return Received::Refused(37);
     }
     if rules::FRAME_MOST < f.len() {
-        return Received::Answered(answers::dropped(3));
+        return Received::Refused(3);
     }
     read(own, f)
 }
@@ -279,7 +301,7 @@ pub fn asked(nickname: u16, received: Received) -> u16
     ensures { λ r. ⌜ r ≡ askedBy nickname received ⌝ }
 {
     match received {
-        Received::Answered(_) => 0,
+        Received::Refused(_) => 0,
         Received::Trill(h) => wanted(nickname, h),
     }
 }

@@ -54,7 +54,7 @@ pub fn inner_start(h: Header) -> usize
 }
 
 // Whether a frame is to a MAC. Its first 16 bits and its last 32 are compared, which are two loads; all 48 as one number take a load an octet.
-fn to_mac(mac: u64, f: &[u8]) -> bool
+pub fn to_mac(mac: u64, f: &[u8]) -> bool
     ensures { λ r. ⌜ r ≡ eqb (be48 (now (f .entry)) 0) mac ⌝ }
 {
     if octets::be16(f, 0) as u64 != mac >> 32 {

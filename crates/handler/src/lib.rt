@@ -52,7 +52,7 @@ pub extern "C" fn trill_handle(
     }
     let t = j.lookup;
     match received {
-        Received::Answered(a) => a,
+        Received::Refused(n) => answers::dropped(n),
         Received::Trill(h) => handle_by(settings, t, clock, frame, h, out, beside),
     }
 }
@@ -72,7 +72,12 @@ fn handle_by(
 {
     let task = handling::route(t.own.nickname, t.rfc7179, frame, h);
     match task {
-        Task::Answered(a) => a,
+        Task::Dropped { number } => answers::dropped(number),
+        Task::Answered {
+            number,
+            start,
+            length,
+        } => answers::unwritten(number, start, length),
         Task::Forward(alert) => forward_by(settings, t, clock, frame, h, alert, out, beside),
         Task::Error { code } => handling::error_answer(t, frame, h, code, out),
         Task::Echo => handling::echo_answer(t, clock, frame, h, out),
@@ -138,7 +143,7 @@ pub fn handle_prepared(
     let own = store::own_of(store);
     let received = handling::receive(own, clock, frame, out.len(), beside.len());
     match received {
-        Received::Answered(a) => a,
+        Received::Refused(n) => answers::dropped(n),
         Received::Trill(h) => handle_in(store, own, clock, frame, h, out, beside),
     }
 }
@@ -158,7 +163,12 @@ fn handle_in(
 {
     let task = handling::route(own.nickname, store::rfc7179(store), frame, h);
     match task {
-        Task::Answered(a) => a,
+        Task::Dropped { number } => answers::dropped(number),
+        Task::Answered {
+            number,
+            start,
+            length,
+        } => answers::unwritten(number, start, length),
         Task::Forward(alert) => forward_in(store, own, clock, frame, h, alert, out, beside),
         Task::Error { code } => error_in(store, own, frame, h, code, out),
         Task::Echo => echo_in(store, own, clock, frame, h, out),

@@ -6,4 +6,4 @@ use proofs.trill_handle as fn
 pub trill-handle-spec : {M : Type 1} → fn.Statement.statement M
 trill-handle-spec = fn.Tie.close (fn.Tie.spec
     (λ c _. search laws) (λ c _. search laws) (λ c _. search laws) (λ c _. search laws) (λ c _. search laws) (λ c. search laws) (λ c. search laws)
-    (λ c. search laws) (λ c _. search laws) (λ c. search laws) (λ c. search laws) (λ c. search laws) (λ c. search laws))
+    (λ c _. search laws) (λ c. search laws) (λ c _. search laws) (λ c. search laws) (λ c. search laws) (λ c. search laws) (λ c. search laws))

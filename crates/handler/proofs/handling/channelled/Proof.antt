@@ -7,6 +7,6 @@ use proofs.handling.channelled as fn
 pub channelled-spec : {M : Type 1} → fn.Statement.statement M
 unfolding channelled
 channelled-spec = fn.Tie.close (fn.Tie.spec
-    (λ c _. search laws) (λ c. search laws) (λ c. search laws) (λ c. search laws) (λ c. search laws) (λ c. search laws) (λ c. search laws)
-    (λ c. search laws) (λ c. search laws) (λ c. search laws) (λ c. search laws) (λ c. search laws) (λ c. search laws) (λ c. search laws) (λ c. search laws)
-    (λ c. search laws) (λ c. search laws) (λ c. search laws) (λ c. search laws) (λ c. search laws) (λ c. search laws))
+    (λ c _. search laws) (λ c. search laws) (λ c. search laws) (λ c. search laws) (λ c _. search laws) (λ c. search laws) (λ c. search laws)
+    (λ c. search laws) (λ c. search laws) (λ c. search laws) (λ c. search laws) (λ c. search laws) (λ c. search laws) (λ c. search laws)
+    (λ c. search laws) (λ c. search laws) (λ c. search laws))

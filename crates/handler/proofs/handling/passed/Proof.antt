@@ -4,5 +4,4 @@ use proofs.RouteLaws.{passed-laws as laws}
 use proofs.handling.passed as fn
 
 pub passed-spec : {M : Type 1} → fn.Statement.statement M
-passed-spec = fn.Tie.close (fn.Tie.spec
-    (λ c _. search laws) (λ c. search laws) (λ c. search laws) (λ c. search laws) (λ c _. search laws) (λ c. search laws))
+passed-spec = fn.Tie.close (fn.Tie.spec (λ c _. search laws) (λ c. search laws) (λ c. search laws) (λ c. search laws) (λ c. search laws))

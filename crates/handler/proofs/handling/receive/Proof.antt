@@ -5,5 +5,4 @@ use proofs.handling.receive as fn
 
 pub receive-spec : {M : Type 1} → fn.Statement.statement M
 receive-spec = fn.Tie.close (fn.Tie.spec
-    (λ c. search laws) (λ c. search laws) (λ c. search laws) (λ c. search laws) (λ c. search laws) (λ c. search laws) (λ c. search laws) (λ c. search laws)
-    (λ c. search laws) (λ c. search laws))
+    (λ c. search laws) (λ c. search laws) (λ c. search laws) (λ c. search laws) (λ c _. search laws) (λ c. search laws))

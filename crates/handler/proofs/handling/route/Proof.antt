@@ -5,6 +5,6 @@ use proofs.handling.route as fn
 
 pub route-spec : {M : Type 1} → fn.Statement.statement M
 route-spec = fn.Tie.close (fn.Tie.spec
-    (λ c. search laws) (λ c _. search laws) (λ c. search laws) (λ c. search laws) (λ c. search laws) (λ c. search laws) (λ c. search laws)
-    (λ c _. search laws) (λ c. search laws) (λ c. search laws) (λ c. search laws) (λ c. search laws) (λ c. search laws) (λ c. search laws)
-    (λ c. search laws) (λ c. search laws) (λ c. search laws) (λ c. search laws) (λ c. search laws) (λ c. search laws) (λ c. search laws))
+    (λ c. search laws) (λ c _. search laws) (λ c. search laws) (λ c. search laws) (λ c. search laws) (λ c _. search laws) (λ c. search laws)
+    (λ c. search laws) (λ c. search laws) (λ c _. search laws) (λ c _. search laws) (λ c. search laws) (λ c _. search laws) (λ c. search laws)
+    (λ c. search laws) (λ c. search laws) (λ c. search laws) (λ c _. search laws) (λ c. search laws))
