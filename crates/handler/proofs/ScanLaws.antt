@@ -8,11 +8,11 @@ use Rattle.handler.specs
 use specs.declared.handling.{Task.Task, Received.Received}
 use specs.declared.handling.Task.the-variants.{Forward, Error, Echo}
 use specs.declared.way.{Lookup.Lookup, Own.Own}
-use specs.Tasks.{wantedBy, Routes, Forwardable, askedBy, receivedBy, Receiving, Both}
+use specs.Tasks.{transitQuiet, wantedBy, Routes, Forwardable, askedBy, receivedBy, Receiving, Both}
 use specs.Shapes.{Done, ownOf, ruledBy, noFlags, flaggedBy, FoldedFrom, droppedBy, onlyFor, waysBy}
 use Rattle.handler.proofs
 use proofs.{ValidationLaws.cut-off, ValidationLaws.flag-stops, ValidationLaws.Validating, Stages.if-laws, RouteLaws.received-lent, StageLaws.done-dropped}
-use specs.Keys.{fieldTaken, keysWith, hopTaken, withKey, Taking, Verdict, Scanned, ValidatedBy}
+use specs.Keys.{fieldTaken, keysWith, hopTaken, withKey, Taking, Verdict, Scanned, lookupBy, ValidatedBy}
 use mathlib.Core.Path.{_≡_, refl, sym, ap, _∙_}
 use mathlib.Core.List.{List, [], _∷_, foldl, foldl-append}
 use mathlib.Core.Bool.{true, not, Bool, false, true≢false, false≢true}
@@ -237,15 +237,14 @@ module _ (s : List ℕ) (d : ℕ) (read : FieldRead) (q : read ≡ fieldAt s 0) 
     pub validated-shut : (r : Validated) → r .good ≡ false → not o ≡ true → ValidatedBy s d r
     validated-shut r b x = bad-validated b (not-opened s (sym q ∙ t) (sym (rw held at is) ∙ not-true o x))
 
-    pub validated-scan : (own : Own) (scan : Scan) (hop : Ruling) → not o ≡ false → Scanned s next d scan → hop ≡ unlessWithdrawn (scan .best)
-        → own ≡ ownOf (switchAt s)
-        → ValidatedBy s d (record { good = scan .good; lookup = record { own = own; strip = scan .flags .strip; rfc7179 = scan .flags .rfc7179; hop = hop } })
-    validated-scan own scan hop x y z w =
+    pub validated-scan : (scan : Scan) (hop : Ruling) → not o ≡ false → Scanned s next d scan → hop ≡ unlessWithdrawn (scan .best)
+        → ValidatedBy s d (record { good = scan .good; strip = scan .flags .strip; rfc7179 = scan .flags .rfc7179; hop = hop })
+    validated-scan scan hop x y z =
         record {
           validated = J.settings-so s (sym q ∙ t) (scan .good) (sym (rw held at is) ∙ not-false o x) (y .verdict);
           finds = λ g.
               let said = flags-read s (sym q ∙ t) (scan .flags) (y .flagged g) in
-              finds (switchAt s) d own (scan .flags .strip) (scan .flags .rfc7179) hop w (cc) (cc)
+              finds (switchAt s) d (ownOf (switchAt s)) (scan .flags .strip) (scan .flags .rfc7179) hop refl (cc) (cc)
               (cc (rules s (sym q ∙ t) d (scan .best) (y .ruled g), next-hop (settingsRead s) d));
         }
 
@@ -267,8 +266,9 @@ module _ (s : List ℕ) (d : ℕ) (j : Validated) (is : ValidatedBy s d j) where
   pub settings-some : not (j .good) ≡ false → settingsOf s ≡ some (settingsRead s)
   settings-some n = known-some (settingsOf s) (settingsRead s) (settings-read s) (sym (is .validated) ∙ not-false (j .good) n)
 
-  pub validated-lookup : known (settingsOf s) ≡ true → waysBy (j .lookup) ≡ onlyFor d (switchAt s)
-  validated-lookup k = is .finds (is .validated ∙ k)
+  module _ (own : Own) (o : own ≡ ownOf (switchAt s)) (t : Lookup) (e : t ≡ lookupBy own j) where
+    pub validated-lookup : known (settingsOf s) ≡ true → waysBy t ≡ onlyFor d (switchAt s)
+    validated-lookup k = rw (e, o) (is .finds (is .validated ∙ k))
 
 -- the whole call
 module _ (s clock f out beside : List ℕ) (d : ℕ) (j : Validated) (is : ValidatedBy s d j) where
@@ -287,11 +287,11 @@ module _ (s clock f out beside : List ℕ) (d : ℕ) (j : Validated) (is : Valid
     trill-early n e a is = rw (comes, e) (both-of beside (done-dropped n refl is))
 
     module _ (h : Header) (e : received ≡ Trill h) where
-      pub trill-lookup : d ≡ askedBy (own .nickname) received → LookupOf s (wantedBy (j .lookup .own .nickname) h) (j .lookup)
+      pub trill-lookup : d ≡ askedBy (own .nickname) received → LookupOf s (wantedBy (own .nickname) h) (lookupBy own j)
       trill-lookup wants =
-          let said = is .finds (not-false (j .good) n) in
-          let asked : d ≡ wantedBy (j .lookup .own .nickname) h = rw (e, o ∙ sym (ap ownOf said)) at wants in
-          record { good = sym (is .validated) ∙ not-false (j .good) n; lookup = rw asked at said }
+          let good = sym (is .validated) ∙ not-false (j .good) n in
+          let asked : d ≡ wantedBy (own .nickname) h = rw e at wants in
+          record { good = good; lookup = rw asked at (validated-lookup s d j is own o (lookupBy own j) refl good) }
 
       pub trill-good : (r : Answer) (out2 beside2 : List ℕ) → Both (routed (switchAt s) clock f h) r out out2 beside beside2
           → Both answer r out out2 beside beside2
@@ -300,40 +300,57 @@ module _ (s clock f out beside : List ℕ) (d : ℕ) (j : Validated) (is : Valid
 pub ruleset trill-handle-laws = (needs, received-lent, trill-bad, trill-early, trill-lookup, trill-good)
 
 -- what good settings have lookup
-module _ {s : List ℕ} {d : ℕ} {t : Lookup} (x : LookupOf s d t) where
-  pub lookup-ways : waysBy t ≡ onlyFor d (switchAt s)
-  lookup-ways = x .lookup
-
-  pub lookup-own : t .own ≡ ownOf (switchAt s)
+module _ {s : List ℕ} {d : ℕ} (own : Own) (j : Validated) (x : LookupOf s d (lookupBy own j)) where
+  pub lookup-own : own ≡ ownOf (switchAt s)
   lookup-own = ap ownOf (x .lookup)
 
-  pub lookup-edition : t .rfc7179 ≡ switchAt s .rfc7179
+  pub lookup-edition : j .rfc7179 ≡ switchAt s .rfc7179
   lookup-edition = ap (λ (y : Ways). y .rfc7179) (x .lookup)
 
-  pub lookup-forwardable : {f : List ℕ} {h : Header} {alert : Alert} → Forwardable (t .rfc7179) f h alert
-      → Forwardable (switchAt s .rfc7179) f h alert
+  pub lookup-ways : waysBy (lookupBy own j) ≡ onlyFor d (switchAt s)
+  lookup-ways = x .lookup
+
+  pub lookup-forwardable : {f : List ℕ} {h : Header} {alert : Alert} → Forwardable (j .rfc7179) f h alert → Forwardable (switchAt s .rfc7179) f h alert
   lookup-forwardable y = rw lookup-edition at y
 
+-- what is done by it
+module _ (own : Own) (j : Validated) (t : Lookup) (e : t ≡ lookupBy own j) where
+  pub by-forwardable : {f : List ℕ} {h : Header} {alert : Alert} → Forwardable (j .rfc7179) f h alert → Forwardable (t .rfc7179) f h alert
+  by-forwardable y = rw e y
+
+  module _ (f : List ℕ) (h : Header) (r : Answer) (out out1 : List ℕ) where
+    pub by-transit : (alert : Alert) → Done (transitQuiet (waysBy t) f h alert) r out out1 → Done (transitQuiet (waysBy (lookupBy own j)) f h alert) r out out1
+    by-transit alert d = rw e at d
+
+    pub by-error : (code : ℕ) → Done (faulted (waysBy t) f h code) r out out1 → Done (faulted (waysBy (lookupBy own j)) f h code) r out out1
+    by-error code d = rw e at d
+
+    pub by-echo : (clock : List ℕ) → Done (echoed (waysBy t) clock f h) r out out1 → Done (echoed (waysBy (lookupBy own j)) clock f h) r out out1
+    by-echo clock d = rw e at d
+
+pub ruleset done-by-laws = (needs, by-forwardable, by-transit, by-error, by-echo)
+
 -- of our role's destination
-module _ {s f : List ℕ} {h : Header} {t : Lookup} {task : Task} (x : LookupOf s (wantedBy (t .own .nickname) h) t)
-    (routes : Routes (t .own .nickname) (t .rfc7179) f h task) where
+module _ {s f : List ℕ} {h : Header} (own : Own) (j : Validated) (x : LookupOf s (wantedBy (own .nickname) h) (lookupBy own j)) (task : Task)
+    (routes : Routes (own .nickname) (j .rfc7179) f h task) where
   module _ (clock : List ℕ) (r : Answer) (out out1 : List ℕ) where
-    pub lookup-error : (code : ℕ) → task ≡ Error code → Done (faulted (waysBy t) f h code) r out out1
+    pub lookup-error : (code : ℕ) → task ≡ Error code → Done (faulted (waysBy (lookupBy own j)) f h code) r out out1
         → Done (faulted (switchAt s) f h code) r out out1
-    lookup-error code e = back-error (switchAt s) f h t (rw (rw e at (routes .role)) at (x .lookup)) r out out1 code
+    lookup-error code e = back-error (switchAt s) f h (lookupBy own j) (rw (rw e at (routes .role)) at (x .lookup)) r out out1 code
 
-    pub lookup-echo : task ≡ Echo → Done (echoed (waysBy t) clock f h) r out out1 → Done (echoed (switchAt s) clock f h) r out out1
-    lookup-echo e = back-echo (switchAt s) f h t (rw (rw e at (routes .role)) at (x .lookup)) r out out1 clock
+    pub lookup-echo : task ≡ Echo → Done (echoed (waysBy (lookupBy own j)) clock f h) r out out1 → Done (echoed (switchAt s) clock f h) r out out1
+    lookup-echo e = back-echo (switchAt s) f h (lookupBy own j) (rw (rw e at (routes .role)) at (x .lookup)) r out out1 clock
 
-  pub lookup-onward : (alert : Alert) → task ≡ Forward alert → LookupOf s (h .egress) t
+  pub lookup-onward : (alert : Alert) → task ≡ Forward alert → LookupOf s (h .egress) (lookupBy own j)
   lookup-onward alert e = rw (rw e at (routes .role)) at x
 
 pub ruleset handle-by-laws = (task-laws, lookup-own, lookup-edition, lookup-error, lookup-echo, lookup-onward)
 
 pub ruleset forward-by-laws = (needs, replied, replies-none, lookup-ways, lookup-own, lookup-forwardable)
 
-pub validated-forwardable : (s : List ℕ) (d : ℕ) (j : Validated) → ValidatedBy s d j → known (settingsOf s) ≡ true → (f : List ℕ) (h : Header) (alert : Alert)
-    → Forwardable (switchAt s .rfc7179) f h alert → Forwardable (j .lookup .rfc7179) f h alert
-validated-forwardable s d j is good f h alert = said-forwardable (switchAt s) (j .lookup) f h alert d (validated-lookup s d j is good)
+pub validated-forwardable : (s : List ℕ) (d : ℕ) (j : Validated) → ValidatedBy s d j → known (settingsOf s) ≡ true → (own : Own)
+    → own ≡ ownOf (switchAt s) → (t : Lookup) → t ≡ lookupBy own j → (f : List ℕ) (h : Header) (alert : Alert)
+    → Forwardable (switchAt s .rfc7179) f h alert → Forwardable (t .rfc7179) f h alert
+validated-forwardable s d j is good own o t e f h alert = said-forwardable (switchAt s) t f h alert d (validated-lookup s d j is own o t e good)
 
 pub ruleset reply-by-laws = (needs, replies-so, validated-lookup, validated-forwardable)

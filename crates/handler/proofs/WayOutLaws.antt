@@ -16,11 +16,11 @@ use rules.declared.Ruling.the-variants.{Found, Absent}
 use Rattle.rules.proofs.{OctetLaws.put-none, FrameLaws.length-link, FrameLaws.link-most}
 use Rattle.handler.specs
 use specs.declared.validation.Validated.{Validated}
-use specs.declared.way.{Lookup.Lookup, WayOut.WayOut}
-use specs.{Shapes.linkSize, Shapes.waysBy, Shapes.onlyFor, Shapes.WayDone, Keys.ValidatedBy}
+use specs.declared.way.{Own.Own, Lookup.Lookup, WayOut.WayOut}
+use specs.{Shapes.linkSize, Shapes.waysBy, Shapes.onlyFor, Shapes.ownOf, Shapes.WayDone, Keys.lookupBy, Keys.ValidatedBy}
 use Rattle.stores.specs.Store.{storeGood, waysIn, wayOutIn, Whole}
 use Rattle.stores.proofs.PlaceLaws.{good-whole}
-use Rattle.handler.proofs.ScanLaws.{settings-none, settings-some}
+use Rattle.handler.proofs.ScanLaws.{settings-none, settings-some, validated-lookup}
 use Rattle.rules.specs.WayOut as W
 
 -- T-11, by what is lookup of one destination
@@ -64,12 +64,12 @@ module _ (settings : List ℕ) (d : ℕ) (out : List ℕ) (j : Validated) (is : 
   unfolding wayOut
   settings-no-way n e = rw (wayOut, settings-none settings d j is n) (record { answer = e; after = sym (put-none out 0) })
 
-  pub settings-way : not (j .good) ≡ false → (out′ : List ℕ) → WayDone (wayOutBy (waysBy (j .lookup)) 0 (length out)) r out out′
-      → WayDone (wayOut settings d (length out)) r out out′
+  pub settings-way : not (j .good) ≡ false → (own : Own) → own ≡ ownOf (waysOf (settingsRead settings)) → (t : Lookup) → t ≡ lookupBy own j
+      → (out′ : List ℕ) → WayDone (wayOutBy (waysBy t) 0 (length out)) r out out′ → WayDone (wayOut settings d (length out)) r out out′
   unfolding wayOut
-  settings-way n out′ w =
-      rw (wayOut, settings-some settings d j is n)
-      (lookup-way (j .lookup) d (waysOf (settingsRead settings)) (is .finds (not-false (j .good) n)) out r out′ w)
+  settings-way n own o t e out′ w =
+      let said = validated-lookup settings d j is own o t e (sym (is .validated) ∙ not-false (j .good) n) in
+      rw (wayOut, settings-some settings d j is n) (lookup-way t d (waysOf (settingsRead settings)) said out r out′ w)
 
 pub store-whole : (store : List ℕ) {ok : Bool} → ok ≡ storeGood store → not ok ≡ false → Whole store
 store-whole store {ok} is n = good-whole store (sym is ∙ not-false ok n)

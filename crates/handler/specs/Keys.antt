@@ -14,7 +14,9 @@ use Rattle.rules.specs.declared.Ruling.the-variants.{Absent}
 use Rattle.octets.specs.Flags.{flagBy}
 use Rattle.handler.specs.declared.validation.Scan.{Scan}
 use Rattle.handler.specs.declared.validation.Validated.{Validated}
-use Rattle.handler.specs.Shapes.{ruledBy, noFlags, flaggedBy, FoldedFrom, waysBy, onlyFor}
+use Rattle.handler.specs.declared.way.Own.{Own}
+use Rattle.handler.specs.declared.way.Lookup.{Lookup}
+use Rattle.handler.specs.Shapes.{ruledBy, noFlags, flaggedBy, FoldedFrom, ownOf, waysBy, onlyFor}
 
 -- destination above serial: two records of one destination with equal serials have one key
 abbrev pub keyOf : NextHop → ℕ
@@ -81,7 +83,11 @@ pub record Scanned (s : List ℕ) (from d : ℕ) (r : Scan) : Type 0 where
   pub ruled : r .good ≡ true → FoldedFrom (ruledBy d) Absent s from (r .best)
   pub flagged : r .good ≡ true → FoldedFrom flaggedBy noFlags s from (r .flags)
 
+-- with our own nickname and MAC, what a handling looks up
+abbrev pub lookupBy : Own → Validated → Lookup
+lookupBy own r = record { own = own; strip = r .strip; rfc7179 = r .rfc7179; hop = r .hop }
+
 -- settings octets validated, and what they say of one destination if they are good
 pub record ValidatedBy (s : List ℕ) (d : ℕ) (r : Validated) : Type 0 where
   pub validated : r .good ≡ known (settingsOf s)
-  pub finds : r .good ≡ true → waysBy (r .lookup) ≡ onlyFor d (waysOf (settingsRead s))
+  pub finds : r .good ≡ true → waysBy (lookupBy (ownOf (waysOf (settingsRead s))) r) ≡ onlyFor d (waysOf (settingsRead s))

@@ -15,7 +15,7 @@ mod way;
 
 use crate::handling::Received;
 use crate::handling::Task;
-use crate::way::Lookup;
+use crate::validation::Validated;
 use crate::way::Own;
 pub use answers::Answer;
 use rules::Alert;
@@ -30,8 +30,9 @@ ghost use Rattle.rules.specs.Settings.{settingsOf, settingsRead, waysOf};
 ghost use Rattle.rules.specs.Campus.{known};
 ghost use Rattle.rules.specs.Handling.{faulted, echoed, routed, handled};
 ghost use Rattle.stores.specs.Store.{handledIn, wayOutIn, waysIn, Whole};
-ghost use Rattle.handler.specs.Shapes.{ownOf, Ready, Done, WayDone};
-ghost use Rattle.handler.specs.Tasks.{EchoIn, Forwardable, wantedBy, transitAt, Both};
+ghost use Rattle.handler.specs.Shapes.{ownOf, waysBy, Ready, Done, WayDone};
+ghost use Rattle.handler.specs.Tasks.{EchoIn, Forwardable, wantedBy, transitQuiet, transitAt, Both};
+ghost use Rattle.handler.specs.Keys.{lookupBy};
 ghost use Rattle.handler.specs.Calls.{LookupOf, Replies};
 
 #[no_mangle]
@@ -46,31 +47,31 @@ pub extern "C" fn trill_handle(
 {
     let own = settings::own_of(settings);
     let received = handling::receive(own, clock, frame, out.len(), beside.len());
-    let j = validation::validate(settings, own, handling::asked(own.nickname, received));
+    let j = validation::validate(settings, handling::asked(own.nickname, received));
     if !j.good {
         return answers::dropped(1);
     }
-    let t = j.lookup;
     match received {
         Received::Refused(n) => answers::dropped(n),
-        Received::Trill(h) => handle_by(settings, t, clock, frame, h, out, beside),
+        Received::Trill(h) => handle_by(settings, own, j, clock, frame, h, out, beside),
     }
 }
 
 // A frame of which none of 10 to 18 is given, by what was looked up in good settings.
 fn handle_by(
     settings: &[u8],
-    t: Lookup,
+    own: Own,
+    j: Validated,
     clock: &[u8],
     frame: &[u8],
     h: Header,
     out: &mut [u8],
     beside: &mut [u8],
 ) -> Answer
-    requires { ⌜ LookupOf (now settings) (wantedBy (t .own .nickname) h) t × Ready (now frame) h × (length (now clock) ≡ 6) × (2048 ≤ length (now out)) × (576 ≤ length (now beside)) ⌝ }
+    requires { ⌜ LookupOf (now settings) (wantedBy (own .nickname) h) (lookupBy own j) × Ready (now frame) h × (length (now clock) ≡ 6) × (2048 ≤ length (now out)) × (576 ≤ length (now beside)) ⌝ }
     ensures { λ r. ⌜ Both (routed (waysOf (settingsRead (now (settings .entry)))) (now (clock .entry)) (now (frame .entry)) h) r (now (out .entry)) (now (out .exit)) (now (beside .entry)) (now (beside .exit)) ⌝ }
 {
-    let task = handling::route(t.own.nickname, t.rfc7179, frame, h);
+    let task = handling::route(own.nickname, j.rfc7179, frame, h);
     match task {
         Task::Dropped { number } => answers::dropped(number),
         Task::Answered {
@@ -78,16 +79,51 @@ fn handle_by(
             start,
             length,
         } => answers::unwritten(number, start, length),
-        Task::Forward(alert) => forward_by(settings, t, clock, frame, h, alert, out, beside),
-        Task::Error { code } => handling::error_answer(t, frame, h, code, out),
-        Task::Echo => handling::echo_answer(t, clock, frame, h, out),
+        Task::Forward(alert) => forward_by(settings, own, j, clock, frame, h, alert, out, beside),
+        Task::Error { code } => error_by(own, j, frame, h, code, out),
+        Task::Echo => echo_by(own, j, clock, frame, h, out),
     }
+}
+
+// 53, or 25.
+fn error_by(own: Own, j: Validated, frame: &[u8], h: Header, code: u8, out: &mut [u8]) -> Answer
+    requires { ⌜ Ready (now frame) h × (576 ≤ length (now out)) ⌝ }
+    ensures { λ r. ⌜ Done (faulted (waysBy (lookupBy own j)) (now (frame .entry)) h code) r (now (out .entry)) (now (out .exit)) ⌝ }
+{
+    let t = validation::lookup(own, j);
+    handling::error_answer(t, frame, h, code, out)
+}
+
+// 54, or 28.
+fn echo_by(own: Own, j: Validated, clock: &[u8], frame: &[u8], h: Header, out: &mut [u8]) -> Answer
+    requires { ⌜ EchoIn (now frame) h × (length (now clock) ≡ 6) × Ready (now frame) h × (576 ≤ length (now out)) ⌝ }
+    ensures { λ r. ⌜ Done (echoed (waysBy (lookupBy own j)) (now (clock .entry)) (now (frame .entry)) h) r (now (out .entry)) (now (out .exit)) ⌝ }
+{
+    let t = validation::lookup(own, j);
+    handling::echo_answer(t, clock, frame, h, out)
+}
+
+// Without what is replied to an alert.
+fn transit_by(
+    own: Own,
+    j: Validated,
+    frame: &[u8],
+    h: Header,
+    alert: Alert,
+    out: &mut [u8],
+) -> Answer
+    requires { ⌜ Forwardable (j .rfc7179) (now frame) h alert × (2048 ≤ length (now out)) ⌝ }
+    ensures { λ r. ⌜ Done (transitQuiet (waysBy (lookupBy own j)) (now (frame .entry)) h alert) r (now (out .entry)) (now (out .exit)) ⌝ }
+{
+    let t = validation::lookup(own, j);
+    handling::transit(t, frame, h, alert, out)
 }
 
 // A transit frame; an alert may ask for a reply too.
 fn forward_by(
     settings: &[u8],
-    t: Lookup,
+    own: Own,
+    j: Validated,
     clock: &[u8],
     frame: &[u8],
     h: Header,
@@ -95,14 +131,14 @@ fn forward_by(
     out: &mut [u8],
     beside: &mut [u8],
 ) -> Answer
-    requires { ⌜ LookupOf (now settings) (h .egress) t × Forwardable (t .rfc7179) (now frame) h alert × (length (now clock) ≡ 6) × (2048 ≤ length (now out)) × (576 ≤ length (now beside)) ⌝ }
+    requires { ⌜ LookupOf (now settings) (h .egress) (lookupBy own j) × Forwardable (j .rfc7179) (now frame) h alert × (length (now clock) ≡ 6) × (2048 ≤ length (now out)) × (576 ≤ length (now beside)) ⌝ }
     ensures { λ r. ⌜ Both (transitAt (waysOf (settingsRead (now (settings .entry)))) (now (clock .entry)) (now (frame .entry)) h alert) r (now (out .entry)) (now (out .exit)) (now (beside .entry)) (now (beside .exit)) ⌝ }
 {
-    let a = handling::transit(t, frame, h, alert, out);
+    let a = transit_by(own, j, frame, h, alert, out);
     if !handling::asks_back(alert) {
         return a;
     }
-    reply_by(settings, t.own, a, clock, frame, h, alert, out, beside)
+    reply_by(settings, own, a, clock, frame, h, alert, out, beside)
 }
 
 // With what is replied to its alert.
@@ -122,8 +158,8 @@ fn reply_by(
     ensures { λ r. ⌜ Replies (waysOf (settingsRead (now (settings .entry)))) (now (clock .entry)) (now (frame .entry)) h alert a r
         (now (out .entry)) (now (out .exit)) (now (beside .entry)) (now (beside .exit)) ⌝ }
 {
-    let j = validation::validate(settings, own, h.ingress);
-    let b = j.lookup;
+    let j = validation::validate(settings, h.ingress);
+    let b = validation::lookup(own, j);
     handling::answer_alert(a, b, clock, frame, h, alert, out, beside)
 }
 
@@ -245,11 +281,11 @@ pub extern "C" fn trill_way_out(settings: &[u8], destination: u16, out: &mut [u8
     ensures { λ r. ⌜ WayDone (wayOut (now (settings .entry)) destination (length (now (out .entry)))) r (now (out .entry)) (now (out .exit)) ⌝ }
 {
     let own = settings::own_of(settings);
-    let j = validation::validate(settings, own, destination);
+    let j = validation::validate(settings, destination);
     if !j.good {
         return way::no_way(1);
     }
-    let t = j.lookup;
+    let t = validation::lookup(own, j);
     way::way_out(t, out)
 }
 

@@ -10,10 +10,10 @@ ghost use Prim.Native.Nat.{_+_, _<_, _≤_};
 ghost use lib.ListN.{length, take};
 ghost use Rattle.rules.specs.Fields.{field};
 ghost use Rattle.rules.specs.Settings as S;
-ghost use Rattle.handler.specs.Keys.{keyOf, mixOf, slotBy, markBy, coversBy, markedBy, keyMet, Kept, hopTaken, withKey, Taking, Scanned, ValidatedBy};
+ghost use Rattle.handler.specs.Keys.{keyOf, mixOf, slotBy, markBy, coversBy, markedBy, keyMet, Kept, hopTaken, withKey, Taking, Scanned, lookupBy, ValidatedBy};
 ghost use Rattle.octets.specs.Flags.{flagTag};
 ghost use Rattle.stores.specs.Store.{unlessWithdrawn};
-ghost use Rattle.handler.specs.Shapes.{ownOf, flaggedBy};
+ghost use Rattle.handler.specs.Shapes.{flaggedBy};
 
 // Destination above serial.
 fn key_of(v: &[u8]) -> u64
@@ -211,28 +211,39 @@ fn unless_withdrawn(best: Ruling) -> Ruling
     Ruling::Found(r)
 }
 
-// Whether settings are good, and then what a handling looks up that asks for the next hop of `d`.
+// Whether settings are good, and then their flags and the next hop for one destination. What we are ourselves is not handed through: it would
+// be copied, and a processor waits for what was stored in one width and is read in another.
 pub struct Validated {
     pub good: bool,
-    pub lookup: Lookup,
+    pub strip: bool,
+    pub rfc7179: bool,
+    pub hop: Ruling,
 }
 
-fn bad(own: Own) -> Validated
+fn bad() -> Validated
     ensures { λ r. ⌜ r .good ≡ false ⌝ }
 {
     Validated {
         good: false,
-        lookup: Lookup {
-            own: own,
-            strip: false,
-            rfc7179: false,
-            hop: Ruling::Absent,
-        },
+        strip: false,
+        rfc7179: false,
+        hop: Ruling::Absent,
     }
 }
 
-pub fn validate(s: &[u8], own: Own, d: u16) -> Validated
-    requires { ⌜ own ≡ ownOf (S.waysOf (S.settingsRead (now s))) ⌝ }
+pub fn lookup(own: Own, j: Validated) -> Lookup
+    ensures { λ r. ⌜ r ≡ lookupBy own j ⌝ }
+{
+    let hop = j.hop;
+    Lookup {
+        own: own,
+        strip: j.strip,
+        rfc7179: j.rfc7179,
+        hop: hop,
+    }
+}
+
+pub fn validate(s: &[u8], d: u16) -> Validated
     ensures { λ r. ⌜ ValidatedBy (now (s .entry)) d r ⌝ }
 {
     let FieldRead::Taken {
@@ -241,20 +252,17 @@ pub fn validate(s: &[u8], own: Own, d: u16) -> Validated
         next,
     } = octets::field_at(s, 0)
     else {
-        return bad(own);
+        return bad();
     };
     if !octets::opens(tag, &s[3..next]) {
-        return bad(own);
+        return bad();
     }
     let r = scan_from(s, next, d);
     let best = r.best;
     Validated {
         good: r.good,
-        lookup: Lookup {
-            own: own,
-            strip: r.flags.strip,
-            rfc7179: r.flags.rfc7179,
-            hop: unless_withdrawn(best),
-        },
+        strip: r.flags.strip,
+        rfc7179: r.flags.rfc7179,
+        hop: unless_withdrawn(best),
     }
 }

@@ -5,4 +5,5 @@ use proofs.trill_way_out as fn
 
 pub trill-way-out-spec : {M : Type 1} → fn.Statement.statement M
 trill-way-out-spec = fn.Tie.close (fn.Tie.spec
-    (λ c _. search laws) (λ c _. search laws) (λ c _. search laws) (λ c. search laws) (λ c _. search laws) (λ c. search laws) (λ c. search laws))
+    (λ c _. search laws) (λ c _. search laws) (λ c _. search laws) (λ c. search laws) (λ c _. search laws) (λ c _. search laws) (λ c. search laws)
+    (λ c. search laws))
