@@ -1,17 +1,18 @@
 -- Reading at and past the end of an octet string, and copying what fits.
-use mathlib.Core.Path.{_≡_, sym, _∙_}
-use mathlib.Core.List.{List, [], _∷_}
+use mathlib.Core.Path.{_≡_, refl, sym, _∙_}
+use mathlib.Core.List.{List, [], _∷_, _++_}
 use Prim.Native.Nat.{ℕ, _+_, _-_, _*_, _/_, _%_, _≤_, _<_}
 use native.Mathlib.Omega.{arith}
+use native.Mathlib.Nat.{add-zero}
 use native.Mathlib.Numerals.{add-one}
 use borrow.Author.Needs.{needs}
 use mir.Syntax.{w8}
 use mir.Val.{Fits}
 use lib.Seq.{paste, paste-zero, paste-suc, take-length}
-use lib.ListN.{length, getD, set, List·getD-eq-default}
-use Rattle.rules.proofs.TestLaws.{tests}
+use lib.ListN.{length, getD, set, length-append, List·getD-eq-default}
+use Rattle.rules.proofs.{TestLaws.tests, OctetLaws.put-none, OctetLaws.put-put}
 use Rattle.rules.specs.Octets.{octet, be16, be32, be48, octets48, put}
-use Rattle.octets.specs.Copy.{putFitting}
+use Rattle.octets.specs.Copy.{Wrote, fitting}
 use Rattle.rules.specs.Octets as O
 
 -- what is read past the end is 0
@@ -72,27 +73,39 @@ six-octets n a b c d e f ea eb ec ed ee ef =
 
 pub ruleset six-laws = (needs, six-octets)
 
-module _ (d : List ℕ) (at : ℕ) (s : List ℕ) where
-  pub put-fits : at + length s ≤ length d → putFitting d at s ≡ put d at s
-  unfolding putFitting
-  put-fits h = simp tests
+-- nothing written
+pub wrote-none : (out : List ℕ) (at : ℕ) → Wrote [] at at out out
+wrote-none out at = record { ends = sym (add-zero at); after = sym (put-none out at) }
 
-  pub put-not : length d < at + length s → d ≡ putFitting d at s
-  unfolding putFitting
-  put-not h = simp tests
+module _ (out : List ℕ) (at : ℕ) (s : List ℕ) where
+  fits-all : at + length s ≤ length out → fitting out at s ≡ s
+  unfolding fitting
+  fits-all h = simp tests
+
+  copy-none : length out < at + length s → Wrote (fitting out at s) at at out out
+  unfolding fitting
+  copy-none h = simp tests (wrote-none out at)
 
   -- as the code tests it
-  pub put-outside : length d < at → d ≡ putFitting d at s
-  put-outside h = put-not (omega arith)
+  pub copy-outside : length out < at → Wrote (fitting out at s) at at out out
+  copy-outside h = copy-none (omega arith)
 
-  module _ (from : at ≤ length d) where
-    pub put-over : length d - at < length s → d ≡ putFitting d at s
-    put-over h = put-not (omega arith)
+  module _ (from : at ≤ length out) where
+    pub copy-over : length out - at < length s → Wrote (fitting out at s) at at out out
+    copy-over h = copy-none (omega arith)
 
-    pub put-within : (d1 : List ℕ) → d1 ≡ put d at s → length s ≤ length d - at → d1 ≡ putFitting d at s
-    put-within d1 e h = e ∙ sym (put-fits (omega arith))
+    pub copy-within : (out′ : List ℕ) → out′ ≡ put out at s → length s ≤ length out - at → Wrote (fitting out at s) at (at + length s) out out′
+    copy-within out′ e h = rw (fits-all (omega arith)) (record { ends = refl; after = e })
 
-pub ruleset copy-laws = (needs, put-outside, put-over, put-within)
+pub ruleset copy-laws = (needs, copy-outside, copy-over, copy-within)
+
+-- a copy that fits is a write, and two writes side by side are one
+pub copied : {out out′ s t : List ℕ} {at end : ℕ} → Wrote (fitting out at s) at end out out′ → s ≡ t → at + length t ≤ length out → Wrote t at end out out′
+copied {out} {t = t} {at = at} w e h = rw (e, fits-all out at t h) at w
+
+pub joined : {out mid out′ s t : List ℕ} {at here end : ℕ} → Wrote s at here out mid → Wrote t here end mid out′ → Wrote (s ++ t) at end out out′
+joined {out} {s = s} {t = t} {at = at} {here = here} a b =
+    record { ends = rw length-append (omega arith); after = b .after ∙ rw (a .after) (put-put out at s here t (a .ends)) }
 
 -- the loop of `fill`: `out` has the first i octets of `s` in it from `at` on
 module _ (d : List ℕ) (at : ℕ) (s : List ℕ) (i : ℕ) (out : List ℕ) (is : out ≡ paste d at s i) where

@@ -15,7 +15,7 @@ ghost use Prim.Native.Nat.{_*_, _+_, _/_, _%_, _≤_};
 ghost use lib.ListN.{length};
 ghost use Rattle.rules.specs.Octets.{octet as octetOf, be16 as be16Of, be32 as be32Of, be48 as be48Of, octets48, put};
 ghost use Rattle.rules.specs.Fields.{fieldAt};
-ghost use Rattle.octets.specs.Copy.{putFitting};
+ghost use Rattle.octets.specs.Copy.{Wrote, fitting};
 
 // Two octets as a number, the high one first.
 fn pair(high: u8, low: u8) -> u16
@@ -141,17 +141,18 @@ pub fn field_at(s: &[u8], at: usize) -> FieldRead
     }
 }
 
-// Writes `s` into `out` from `at` on, if there is room for all of it.
-pub fn copy(out: &mut [u8], at: usize, s: &[u8])
-    ensures { λ _. ⌜ now (out .exit) ≡ putFitting (now (out .entry)) at (now (s .entry)) ⌝ }
+// Writes `s` into `out` from `at` on, if there is room for all of it; says where what was written ends.
+pub fn copy(out: &mut [u8], at: usize, s: &[u8]) -> usize
+    ensures { λ r. ⌜ Wrote (fitting (now (out .entry)) at (now (s .entry))) at r (now (out .entry)) (now (out .exit)) ⌝ }
 {
     if out.len() < at {
-        return;
+        return at;
     }
     if out.len() - at < s.len() {
-        return;
+        return at;
     }
     fill(out, at, s);
+    at + s.len()
 }
 
 fn fill(out: &mut [u8], at: usize, s: &[u8])

@@ -5,8 +5,9 @@ use mathlib.Core.List.{List, [], _++_, append-assoc, append-nil}
 use Prim.Native.Nat.{ℕ, _+_, _<_, _≤_}
 use native.Mathlib.Omega.{arith}
 use native.Mathlib.Nat.{zero-add, add-zero, add-assoc}
-use lib.ListN.{length, take, drop, length-append, length-drop, take-append-drop, List·getD-append}
-use lib.Seq.{take-append-seam, take-at, drop-append-add, drop-drop, length-take-le, getD-append-add, getD-drop, getD-take}
+use lib.ListN.{length, take, drop, length-append, length-drop, drop-of-length-le, take-append-drop, List·getD-append}
+use lib.Seq.{take-all, take-append-seam, take-at, drop-append-add, drop-drop, length-take-le, getD-append-add, getD-drop, getD-take}
+use Rattle.rules.proofs.TestLaws.{by-order}
 use Rattle.rules.specs.Octets.{octet, be16, octets16, part, put}
 
 -- sixteen bits written read back
@@ -50,22 +51,34 @@ pub drop-part : (s : List ℕ) (n size : ℕ) → part s n size ++ drop (n + siz
 drop-part s n size = rw (← drop-drop size n s, take-append-drop)
 
 -- buffers
-module _ (d : List ℕ) (at : ℕ) (s : List ℕ) (fits : at + length s ≤ length d) where
-  length-head : length (take at d ++ s) ≡ at + length s
-  length-head = rw (length-append, length-take-le at d (omega arith))
+module _ (d : List ℕ) (at : ℕ) (s : List ℕ) where
+  length-head : at ≤ length d → length (take at d ++ s) ≡ at + length s
+  length-head h = rw (length-append, length-take-le at d h)
 
-  pub length-put : length (put d at s) ≡ length d
+  pub length-put : at + length s ≤ length d → length (put d at s) ≡ length d
   unfolding put
-  length-put = rw (length-append, length-head, length-drop) (omega arith)
+  length-put fits = rw (length-append, length-head (omega arith), length-drop) (omega arith)
 
-  -- two writes, the second where the first ends, are one
-  pub put-put : (at′ : ℕ) (t : List ℕ) → at′ ≡ at + length s → at′ + length t ≤ length d → put (put d at s) at′ t ≡ put d at (s ++ t)
+  put-past : length d ≤ at → put d at s ≡ d ++ s
   unfolding put
-  put-put at′ t e h =
-      let tk = take-at (take at d ++ s) (drop (at + length s) d) (at + length s) length-head in
+  put-past h = rw (take-all at d h, drop-of-length-le d {i = at + length s} (omega arith), append-nil)
+
+-- two writes, the second where the first ends, are one
+module _ (d : List ℕ) (at : ℕ) (s : List ℕ) (at′ : ℕ) (t : List ℕ) (e : at′ ≡ at + length s) where
+  put-within : at ≤ length d → put (put d at s) at′ t ≡ put d at (s ++ t)
+  unfolding put
+  put-within h =
+      let head = length-head d at s h in
+      let tk = take-at (take at d ++ s) (drop (at + length s) d) (at + length s) head in
       let dr : drop (at + length s + length t) (take at d ++ s ++ drop (at + length s) d) ≡ drop (at + length s + length t) d =
-      rw (← length-head, drop-append-add) (rw length-head (drop-drop (length t) (at + length s) d)) in
+      rw (← head, drop-append-add) (rw head (drop-drop (length t) (at + length s) d)) in
       rw (e, tk, dr, length-append, append-assoc (take at d) s t, add-assoc at (length s) (length t))
+
+  pub put-put : put (put d at s) at′ t ≡ put d at (s ++ t)
+  put-put =
+      by-order (length d) at
+      (λ h. rw (put-past d at s (omega arith), put-past d at (s ++ t) (omega arith), ← append-assoc d s t) (put-past (d ++ s) at′ t (rw length-append (omega arith))))
+      put-within
 
 pub put-front : (d s : List ℕ) → put d 0 s ≡ s ++ drop (length s) d
 unfolding put
