@@ -5,14 +5,17 @@ use rules.Header.{readFrame, opLength, innerStart, areaOf, innerOf}
 use rules.declared.FrameRead.the-variants.{Trill}
 use rules.declared.{NextHop.NextHop, Header.Header, Ruling.Ruling}
 use rules.declared.Ruling.the-variants.{Found, Absent}
-use Rattle.handler.proofs.Stages.{parts, after, lent-rest, link-sized, rest-long}
+use Rattle.octets.specs.Copy.{Wrote}
+use Rattle.octets.proofs.Ends.{joined}
+use Rattle.handler.proofs.Stages.{parts, lent-rest, link-sized, rest-long}
 use mathlib.Core.Path.{_≡_, _∙_, refl, sym}
 use mathlib.Core.List.{List, _++_, []}
 use Prim.Native.Nat.{ℕ, _+_, _≤_, _-_, _*_, _<_}
 use native.Mathlib.Omega.{arith}
+use native.Mathlib.Nat.{zero-add}
 use borrow.Author.Needs.{needs}
 use lib.ListN.{length, length-append, length-take, take, drop, length-drop}
-use rules.{Octets.put, Octets.octet, Settings.Ways, Link.link, Options.WellFormed, Options.draftRead, Options.stripped, Extension.areaSent}
+use rules.{Octets.octet, Settings.Ways, Link.link, Options.WellFormed, Options.draftRead, Options.stripped, Extension.areaSent}
 use rules.Channel.{errorBody, echoBody, errorReply, echoReply, replyRest, replyInner, bodyOf, returnPath, silenced}
 use Rattle.rules.proofs as ruleLaws
 use ruleLaws.FrameLaws.{link-most, frame-read, link-length, length-link}
@@ -102,19 +105,16 @@ module _ (S : Ways) (r : NextHop) (f : List ℕ) (h : Header) (out area : List �
   onward-over a k size is n links rests = done-dropped 29 (onward-long S f h r [] 0 (omega (arith, forwards-long))) is
 
   module _ (k size : ℕ) (n : k + size ≤ 2048) (links : k ≡ linkSize (r .vlan)) (rests : size ≡ length (restWith area f h)) (at : ℕ) (out1 : List ℕ)
-      (long : at ≡ length (link S r)) (linked : out1 ≡ put out 0 (link S r)) where
-    pub onward-short : (end : ℕ) → end ≡ at + length (restWith area f h) → end ≤ 2048
-    onward-short end ended = omega (arith, length-link S r)
+      (linked : Wrote (link S r) 0 at out out1) where
+    module _ (end : ℕ) (out2 : List ℕ) (w : Wrote (restWith area f h) at end out1 out2) where
+      pub onward-short : end ≤ 2048
+      onward-short = omega (arith, length-link S r)
 
-    pub onward-done : (a : Answer) (end : ℕ) (out2 : List ℕ) → a ≡ wroteBy 50 end (r .neighbour) → end ≡ at + length (restWith area f h)
-        → out2 ≡ put out1 at (restWith area f h) → 2048 ≤ length out → Done (onward S r f h [] 0) a out out2
-    onward-done a end out2 is ended p roomy =
-        rw (onward-sent S f h r [] 0 (omega (arith, forwards-long)), ← forwards)
-        (record {
-          answer = is ∙ rw (ended, long, length-append);
-          after = after out out1 out2 0 at (link S r) (restWith area f h) linked p (omega arith) (omega (arith, onward-short end ended));
-          alone = refl;
-        })
+      pub onward-done : (a : Answer) → a ≡ wroteBy 50 end (r .neighbour) → Done (onward S r f h [] 0) a out out2
+      onward-done a is =
+          let all = joined linked w in
+          rw (onward-sent S f h r [] 0 (omega (arith, forwards-long)), ← forwards)
+          (record { answer = is ∙ rw (all .ends, zero-add); after = all .after; alone = refl })
 
     pub onward-fits : Ready f h → length area ≤ 124 → length out1 ≡ length out → 2048 ≤ length out → Fits area f h out1 at
     onward-fits ready few same roomy =
@@ -162,25 +162,23 @@ pub ruleset send-with-laws = (onward-laws, with-long, with-size, with-sum)
 pub aside-room : {f : List ℕ} {h : Header} → Ready f h → (lent : List ℕ) → lent ≡ areaOf f h → 0 + length lent ≤ 124
 aside-room is lent held = rw held (omega (arith, area-few is))
 
-module _ {f : List ℕ} {h : Header} (is : Ready f h) (n : ℕ) (lent : List ℕ) (left : n ≡ length (stripped lent)) (held : lent ≡ areaOf f h)
-    (well : draftRead (areaOf f h) ≡ WellFormed) where
+module _ {f : List ℕ} {h : Header} (is : Ready f h) (n : ℕ) (aside aside1 lent : List ℕ) (wrote : Wrote (stripped lent) 0 n aside aside1)
+    (held : lent ≡ areaOf f h) (well : draftRead (areaOf f h) ≡ WellFormed) where
   kept-within : n ≤ 124
-  kept-within = omega (arith, rw held at left, stripped-shorter (areaOf f h) well, area-words is)
+  kept-within = omega (arith, rw held at (wrote .ends), stripped-shorter (areaOf f h) well, area-words is)
 
-  module _ (aside : List ℕ) (wide : length aside ≡ 124) where
-    pub kept-there : n ≤ length aside
+  module _ (wide : length aside1 ≡ 124) where
+    pub kept-there : n ≤ length aside1
     kept-there = omega (arith, kept-within)
 
-    pub kept-count : n ≡ length (take n aside)
-    kept-count = sym (length-take-le n aside kept-there)
+    pub kept-count : n ≡ length (take n aside1)
+    kept-count = sym (length-take-le n aside1 kept-there)
 
-    pub kept-few : length (take n aside) ≤ 124
+    pub kept-few : length (take n aside1) ≤ 124
     kept-few = omega (arith, kept-count, kept-within)
 
-pub kept-sent : (S : Ways) (f : List ℕ) (h : Header) (n : ℕ) (aside1 aside lent : List ℕ) → aside1 ≡ put aside 0 (stripped lent) → n ≡ length (stripped lent)
-    → lent ≡ areaOf f h
-    → areaSent S (areaOf f h) ≡ stripped (areaOf f h) → areaSent S (areaOf f h) ≡ take n aside1
-kept-sent S f h n aside1 aside lent wrote left held goes = cc (take-put aside (stripped lent))
+  pub kept-sent : (S : Ways) → areaSent S (areaOf f h) ≡ stripped (areaOf f h) → areaSent S (areaOf f h) ≡ take n aside1
+  kept-sent S goes = cc (take-put aside (stripped lent), zero-add (length (stripped lent)))
 
 pub lent-well : (f : List ℕ) (h : Header) (lent : List ℕ) → lent ≡ areaOf f h → draftRead (areaOf f h) ≡ WellFormed → draftRead lent ≡ WellFormed
 lent-well f h lent held well = rw held well
@@ -267,39 +265,32 @@ pub ruleset echoed-laws = (needs, ready, body-held, body-within, held-least, hel
 
 -- the two replies towards a next hop: what is written behind the link header makes one write
 module _ (S : Ways) (r : NextHop) (out : List ℕ) (roomy : 576 ≤ length out) where
-  module _ (out1 : List ℕ) (k : ℕ) (long : k ≡ length (link S r)) (linked : out1 ≡ put out 0 (link S r)) where
+  module _ (out1 : List ℕ) (k : ℕ) (linked : Wrote (link S r) 0 k out out1) where
     module _ (own : Own) (owned : own ≡ ownOf S) (h : Header) (end : ℕ) (out2 : List ℕ) where
       reply-made : (number code : ℕ) (body octets : List ℕ) → link S r ++ (replyOctets own (h .ingress) number code ++ body) ≡ octets → length body ≤ 530
-          → end ≡ k + (28 + length body) → out2 ≡ put out1 k (replyOctets own (h .ingress) number code ++ body) → Replied octets end out out2
-      reply-made number code body octets is few ended p =
-          let rest = replyOctets own (h .ingress) number code ++ body in
-          let size : length rest ≡ 28 + length body = length-append (replyOctets own (h .ingress) number code) body in
-          rw (← is)
-          (record {
-            long = rw (ended, long, length-append (link S r) rest, size);
-            few = omega (arith, link-most S r);
-            after = after out out1 out2 0 k (link S r) rest linked p (omega arith) (omega (arith, link-most S r));
-          })
+          → Wrote (replyOctets own (h .ingress) number code ++ body) k end out1 out2 → Replied octets end out out2
+      reply-made number code body octets is few w =
+          let all = joined linked w in
+          let size = length-append (replyOctets own (h .ingress) number code) body in
+          rw (← is) (record { long = rw zero-add at (all .ends); few = omega (arith, link-most S r); after = all .after })
 
-      pub error-made : (f : List ℕ) (code : ℕ) → end ≡ k + (28 + length (errorBody f h))
-          → out2 ≡ put out1 k (replyOctets own (h .ingress) 0x001 code ++ errorBody f h) → Replied (errorReply S r f h code) end out out2
+      pub error-made : (f : List ℕ) (code : ℕ) → Wrote (replyOctets own (h .ingress) 0x001 code ++ errorBody f h) k end out1 out2
+          → Replied (errorReply S r f h code) end out out2
       unfolding errorReply replyRest replyInner
       error-made f code = reply-made 0x001 code (errorBody f h) (errorReply S r f h code) (rw owned) (rw length-take (omega arith))
 
-      pub echo-made : (clock body : List ℕ) → length clock ≡ 6 → 18 ≤ length body → length body ≤ 530 → end ≡ k + (28 + length body)
-          → out2 ≡ put out1 k (replyOctets own (h .ingress) 0xFF8 0 ++ echoBody body clock) → Replied (echoReply S r h clock body) end out out2
+      pub echo-made : (clock body : List ℕ) → length clock ≡ 6 → 18 ≤ length body → length body ≤ 530
+          → Wrote (replyOctets own (h .ingress) 0xFF8 0 ++ echoBody body clock) k end out1 out2 → Replied (echoReply S r h clock body) end out out2
       unfolding echoReply replyRest replyInner
-      echo-made clock body six enough few ended =
-          let same = echo-body-length body clock enough six in
-          reply-made 0xFF8 0 (echoBody body clock) (echoReply S r h clock body) (rw owned) (rw same few) (rw same ended)
+      echo-made clock body six enough few =
+          reply-made 0xFF8 0 (echoBody body clock) (echoReply S r h clock body) (rw owned) (rw (echo-body-length body clock enough six) few)
 
-module _ (S : Ways) (r : NextHop) (out : List ℕ) (roomy : 576 ≤ length out) (k : ℕ) (long : k ≡ length (link S r)) (out1 : List ℕ)
-    (same : length out1 ≡ length out) where
-  pub error-room : k + 156 ≤ length out1
-  error-room = omega (arith, long, link-most S r)
+    module _ (same : length out1 ≡ length out) where
+      pub error-room : k + 156 ≤ length out1
+      error-room = omega (arith, link-most S r)
 
-  pub echo-room : (body : List ℕ) → length body ≤ 530 → k + 28 + length body ≤ length out1
-  echo-room body few = omega (arith, long, link-most S r)
+      pub echo-room : (body : List ℕ) → length body ≤ 530 → k + 28 + length body ≤ length out1
+      echo-room body few = omega (arith, link-most S r)
 
 pub reply-18 : (out : List ℕ) → 576 ≤ length out → 18 ≤ length out
 reply-18 out h = omega arith

@@ -3,43 +3,28 @@
 use Rattle.rules.specs as rules
 use rules.{Link.outerTag, Link.link, Settings.Ways, Channel.echoBody}
 use rules.Header.{opLength, innerStart, areaOf, innerOf}
-use mathlib.Core.Bool.{Bool, true, _&&_}
-use Rattle.rules.proofs.{TestLaws.and-left, TestLaws.and-right, TestLaws.by-test, FrameLaws.length-link, ReplyLaws.echo-body-length}
+use Rattle.rules.proofs.{TestLaws.and-left, TestLaws.and-right, TestLaws.by-test}
 use borrow.Author.Tests.{eq-eqb, ne-eqb}
 use borrow.Author.Needs.{needs}
-use rules.Octets.{if_then_else_, put, octets16, octets48, octet, part}
-use mathlib.Core.Path.{_≡_, ap, _∙_, refl, sym}
+use rules.Octets.{if_then_else_, octets16, octets48, octet, part}
+use mathlib.Core.Path.{_≡_, _∙_, refl, sym}
 use mathlib.Core.List.{List, _++_, append-assoc, [], _∷_}
-use Prim.Native.Nat.{ℕ, _+_, _-_, _≤_, _*_, _/_, _<_, suc, _%_}
+use Prim.Native.Nat.{ℕ, _+_, _-_, _≤_, _*_, _/_, _<_, _%_}
 use native.Mathlib.Omega.{arith}
 use lib.ListN.{length, take, drop, length-drop, length-append, getD, length-take}
 use lib.Seq.{take-all}
 use lib.Dec.{eqb}
-use Rattle.rules.proofs.OctetLaws.{put-put, length-put, length-part, drop-part}
+use Rattle.rules.proofs.OctetLaws.{length-part, drop-part}
 use Rattle.handler.specs
 use specs.Shapes.{linkSize, taggedOctets, Fits, headerOctets, sentBy, restWith, timesBy, replyOctets}
-use Rattle.octets.specs.Copy.{putFitting}
-use Rattle.octets.proofs.Ends.{put-fits}
+use Rattle.octets.specs.Copy.{Wrote, fitting}
+use Rattle.octets.proofs.Ends.{copied, joined, copied-on}
 use rules.declared.{NextHop.NextHop, Header.Header}
 use specs.declared.way.Own.{Own}
 
 -- what is lent from a place on is what is left from there on
 pub lent-rest : (s : List ℕ) (n : ℕ) → take (length s - n) (drop n s) ≡ drop n s
 lent-rest s n = take-all (length s - n) (drop n s) (rw length-drop (omega arith))
-
--- octets copied are written where they fit
-pub copied : (d d1 : List ℕ) (at : ℕ) (s a : List ℕ) → d1 ≡ putFitting d at s → s ≡ a → at + length a ≤ length d → d1 ≡ put d at a
-copied d d1 at s a p is h = p ∙ rw is (put-fits d at a h)
-
-module _ (d d1 d2 : List ℕ) (at n : ℕ) (a b : List ℕ) where
-  -- written where the write before ends
-  pub after : d1 ≡ put d at a → d2 ≡ put d1 n b → n ≡ at + length a → n + length b ≤ length d → d2 ≡ put d at (a ++ b)
-  after p q e h = q ∙ rw p (put-put d at a (omega arith) n b e h)
-
-  pub copied-after : (s : List ℕ) → d1 ≡ put d at a → d2 ≡ putFitting d1 n s → s ≡ b → n ≡ at + length a → n + length b ≤ length d → d2 ≡ put d at (a ++ b)
-  copied-after s p q is e h =
-      let same : length d1 ≡ length d = ap length p ∙ length-put d at a (omega arith) in
-      after p (copied d1 d2 n s b q is (omega arith)) e h
 
 -- a link header has 14 octets, or 18 with a tag
 pub link-sized : (vlan : ℕ) → (14 ≤ linkSize vlan) × (linkSize vlan ≤ 18)
@@ -59,10 +44,9 @@ module _ {A : Type 0} (r x y : A) (n k : ℕ) where
 pub ruleset if-laws = (needs, if-equal, if-other)
 
 -- both MACs
-pub macs-written : (to own : ℕ) (d d1 d2 a b : List ℕ) → 14 ≤ length d → d1 ≡ putFitting d 0 a → a ≡ octets48 to → d2 ≡ putFitting d1 6 b → b ≡ octets48 own
-    → d2 ≡ put d 0 (octets48 to ++ octets48 own)
-macs-written to own d d1 d2 a b room p is q its =
-    copied-after d d1 d2 0 6 (octets48 to) (octets48 own) b (copied d d1 0 a (octets48 to) p is (omega arith)) q its refl (omega arith)
+pub macs-written : (to own : ℕ) (d d1 d2 a b : List ℕ) (m n : ℕ) → Wrote (fitting d1 m b) m n d1 d2 → Wrote (fitting d 0 a) 0 m d d1 → a ≡ octets48 to
+    → b ≡ octets48 own → 14 ≤ length d → Wrote (octets48 to ++ octets48 own) 0 n d d2
+macs-written to own d d1 d2 a b m n q p is its room = copied-on (copied p is (omega arith)) q its (omega arith)
 
 pub ruleset write-macs-laws = (needs, macs-written)
 
@@ -70,23 +54,17 @@ pub ruleset write-macs-laws = (needs, macs-written)
 pub macs-room : (r : NextHop) (out : List ℕ) → linkSize (r .vlan) ≤ length out → 14 ≤ length out
 macs-room r out h = omega (arith, link-sized (r .vlan))
 
-module _ (S : Ways) (r : NextHop) (mac : ℕ) (own : mac ≡ S .mac) (d d1 d2 end : List ℕ) (p : d1 ≡ put d 0 (octets48 (r .mac) ++ octets48 mac))
-    (q : d2 ≡ putFitting d1 12 end)
-    (room : linkSize (r .vlan) ≤ length d) where
-  pub plain-written : r .vlan ≡ 0 → end ≡ octets16 0x22F3 → d2 ≡ put d 0 (link S r)
+module _ (S : Ways) (r : NextHop) (mac : ℕ) (own : mac ≡ S .mac) (d d1 d2 end : List ℕ) (m n : ℕ) (p : Wrote (octets48 (r .mac) ++ octets48 mac) 0 m d d1)
+    (q : Wrote (fitting d1 m end) m n d1 d2) (room : linkSize (r .vlan) ≤ length d) where
+  pub plain-written : r .vlan ≡ 0 → end ≡ octets16 0x22F3 → Wrote (link S r) 0 n d d2
   unfolding link outerTag
-  plain-written z e = rw (z, ← own) (copied-after d d1 d2 0 12 (octets48 (r .mac) ++ octets48 mac) (octets16 0x22F3) end p q e refl (rw z at room))
+  plain-written z e = rw (z, ← own) (copied-on p q e (rw z at room))
 
-  pub tagged-written : (r .vlan ≡ 0 → ⊥) → end ≡ taggedOctets (r .vlan) → d2 ≡ put d 0 (link S r)
+  pub tagged-written : (r .vlan ≡ 0 → ⊥) → end ≡ taggedOctets (r .vlan) → Wrote (link S r) 0 n d d2
   unfolding link outerTag
-  tagged-written n e =
-      rw (ne-eqb (r .vlan) 0 n, ← own)
-      (copied-after d d1 d2 0 12 (octets48 (r .mac) ++ octets48 mac) (taggedOctets (r .vlan)) end p q e refl (rw (ne-eqb (r .vlan) 0 n) at room))
+  tagged-written z e = rw (ne-eqb (r .vlan) 0 z, ← own) (copied-on p q e (rw (ne-eqb (r .vlan) 0 z) at room))
 
-pub link-so : (S : Ways) (r : NextHop) (k : ℕ) → k ≡ linkSize (r .vlan) → k ≡ length (link S r)
-link-so S r k e = e ∙ sym (length-link S r)
-
-pub ruleset write-link-laws = (if-laws, macs-room, link-so, plain-written, tagged-written)
+pub ruleset write-link-laws = (needs, macs-room, plain-written, tagged-written)
 
 -- a forwarded frame behind its link header
 module _ (f : List ℕ) (h : Header) (area : List ℕ) where
@@ -100,55 +78,37 @@ module _ (f : List ℕ) (h : Header) (area : List ℕ) where
   pub rest-long : length (restWith area f h) ≡ 6 + length area + (length f - innerStart h)
   rest-long = rw rest-is (length-append (head ++ area) (innerOf f h) ∙ rw (length-append head area, length-drop (innerStart h) f))
 
--- from what the code knows of the area that it sends, and of the room from `at` on
-module _ (area f : List ℕ) (h : Header) (d : List ℕ) (at : ℕ) (fits : Fits area f h d at) where
-  module _ (inner : ℕ) (ei : inner ≡ innerStart h) where
-    pub with-end : at + 6 + length area + (length f - inner) ≡ at + length (restWith area f h)
-    with-end = omega (arith, rest-long f h area)
+-- its header, and the area that is sent
+module _ (area f : List ℕ) (h : Header) (d : List ℕ) (at : ℕ) (fits : Fits area f h d at) (d1 octets : List ℕ) (here word : ℕ)
+    (es : word ≡ sentBy (h .word) (length area / 4)) (eh : octets ≡ headerOctets word (h .egress) (h .ingress))
+    (p : Wrote (fitting d at octets) at here d d1) where
+  first : Wrote (head f h area) at here d d1
+  first = copied p (eh ∙ rw es) (omega (arith, rest-long f h area))
 
-    pub with-fits : length d < 18446744073709551616 → at + 6 + length area + (length f - inner) < 18446744073709551616
-    with-fits small = omega (arith, rest-long f h area)
-
-  module _ (d1 octets : List ℕ) (word : ℕ) (es : word ≡ sentBy (h .word) (length area / 4)) (eh : octets ≡ headerOctets word (h .egress) (h .ingress))
-      (p : d1 ≡ putFitting d at octets) where
-    first : d1 ≡ put d at (head f h area)
-    first = copied d d1 at octets (head f h area) p (eh ∙ rw es) (omega (arith, rest-long f h area))
-
-    -- another area than the one received, then the inner frame
-    pub with-written : (d2 d3 : List ℕ) (inner : ℕ) → inner ≡ innerStart h → d2 ≡ putFitting d1 (at + 6) area
-        → d3 ≡ putFitting d2 (at + 6 + length area) (take (length f - inner) (drop inner f)) → d3 ≡ put d at (restWith area f h)
-    with-written d2 d3 inner ei q r =
-        let a = head f h area in
-        let front = length-append a area in
-        let long = length-drop (innerStart h) f in
-        let two = copied-after d d1 d2 at (at + 6) a area area first q refl refl (omega (arith, rest-long f h area)) in
-        rw (rest-is f h area)
-        (copied-after d d2 d3 at (at + 6 + length area) (a ++ area) (innerOf f h) (take (length f - inner) (drop inner f)) two r (lent-rest f inner ∙ rw ei)
-        (omega arith) (omega (arith, rest-long f h area)))
+  -- another area than the one received, then the inner frame
+  pub with-written : (d2 d3 : List ℕ) (inner there end : ℕ) → inner ≡ innerStart h → Wrote (fitting d1 here area) here there d1 d2
+      → Wrote (fitting d2 there (take (length f - inner) (drop inner f))) there end d2 d3 → Wrote (restWith area f h) at end d d3
+  with-written d2 d3 inner there end ei q r =
+      let two = copied-on first q refl (omega (arith, rest-long f h area)) in
+      rw (rest-is f h area)
+      (copied-on two r (lent-rest f inner ∙ rw ei) (omega (arith, rest-long f h area, length-drop (innerStart h) f, length-append (head f h area) area)))
 
 -- area and inner frame as they were received, copied behind the header
 module _ (f : List ℕ) (h : Header) (d : List ℕ) (at : ℕ) (fits : Fits (areaOf f h) f h d at) where
   area-long : length (areaOf f h) ≡ 4 * opLength (h .word)
   area-long = length-part f (h .place + 6) (4 * opLength (h .word)) (fits .area-whole)
 
-  pub whole-end : at + 6 + (length f - (h .place + 6)) ≡ at + length (restWith (areaOf f h) f h)
-  whole-end = omega (arith, rest-long f h (areaOf f h), area-long)
-
-  pub whole-written : (d1 octets : List ℕ) (word words : ℕ) → words ≡ opLength (h .word) → word ≡ sentBy (h .word) words
-      → octets ≡ headerOctets word (h .egress) (h .ingress) → d1 ≡ putFitting d at octets → (d2 : List ℕ)
-      → d2 ≡ putFitting d1 (at + 6) (take (length f - (h .place + 6)) (drop (h .place + 6) f)) → d2 ≡ put d at (restWith (areaOf f h) f h)
-  whole-written d1 octets word words ew es eh p d2 q =
+  pub whole-written : (d1 octets : List ℕ) (here word words : ℕ) → words ≡ opLength (h .word) → word ≡ sentBy (h .word) words
+      → octets ≡ headerOctets word (h .egress) (h .ingress) → Wrote (fitting d at octets) at here d d1 → (d2 : List ℕ) (end : ℕ)
+      → Wrote (fitting d1 here (take (length f - (h .place + 6)) (drop (h .place + 6) f))) here end d1 d2 → Wrote (restWith (areaOf f h) f h) at end d d2
+  whole-written d1 octets here word words ew es eh p d2 end q =
       let area = areaOf f h in
-      let a = head f h area in
-      let b = drop (h .place + 6) f in
       let quarter : words ≡ length area / 4 = omega (arith, area-long, ew) in
-      let long = length-drop (h .place + 6) f in
-      copied-after d d1 d2 at (at + 6) a b (take (length f - (h .place + 6)) b) (first area f h d at fits d1 octets word (es ∙ rw quarter) eh p) q
-      (lent-rest f (h .place + 6)) refl
-      (omega (arith, long, rest-long f h area, area-long))
-      ∙ rw (rest-is f h area, append-assoc a area (innerOf f h), drop-part f (h .place + 6) (4 * opLength (h .word)))
+      rw (rest-is f h area, append-assoc (head f h area) area (innerOf f h), drop-part f (h .place + 6) (4 * opLength (h .word)))
+      (copied-on (first area f h d at fits d1 octets here word (es ∙ rw quarter) eh p) q (lent-rest f (h .place + 6))
+      (omega (arith, length-drop (h .place + 6) f, rest-long f h area, area-long)))
 
-pub ruleset forward-laws = (needs, with-end, with-fits, with-written, whole-end, whole-written)
+pub ruleset forward-laws = (needs, with-written, whole-written)
 
 -- the 28 octets of a reply, and its buffer
 module _ (own : Own) (ingress number code : ℕ) where
@@ -167,18 +127,17 @@ module _ (own : Own) (ingress number code : ℕ) where
       rw (em, ea, eb, ec, ed, ee, ef, e1, e2)
 
   -- with what is written behind them
-  module _ (at : ℕ) (d d1 d2 head : List ℕ) where
-    pub error-written : (f : List ℕ) (n : ℕ) (body : List ℕ) → d2 ≡ putFitting d1 (at + 28) body → body ≡ take 128 (drop n f) → d1 ≡ putFitting d at head
-        → head ≡ reply → at + 156 ≤ length d → d2 ≡ put d at (reply ++ take 128 (drop n f))
-    error-written f n body q eb p is room =
-        let few : length (take 128 (drop n f)) ≤ 128 = omega (arith, length-take 128 (drop n f)) in
-        copied-after d d1 d2 at (at + 28) reply (take 128 (drop n f)) body (copied d d1 at head reply p is (omega arith)) q eb refl (omega arith)
+  module _ (at here end : ℕ) (d d1 d2 head : List ℕ) (p : Wrote (fitting d at head) at here d d1) (is : head ≡ reply) where
+    pub error-written : (f : List ℕ) (n : ℕ) (body : List ℕ) → Wrote (fitting d1 here body) here end d1 d2 → body ≡ take 128 (drop n f) → at + 156 ≤ length d
+        → Wrote (reply ++ take 128 (drop n f)) at end d d2
+    error-written f n body q eb room = copied-on (copied p is (omega arith)) q eb (omega (arith, length-take 128 (drop n f)))
 
-    pub echo-written : (body clock : List ℕ) → d2 ≡ put d1 (at + 28) (echoBody body clock) → d1 ≡ putFitting d at head
-        → head ≡ reply → 18 ≤ length body → length clock ≡ 6 → at + 28 + length body ≤ length d → d2 ≡ put d at (reply ++ echoBody body clock)
-    echo-written body clock q p is long six room =
-        after d d1 d2 at (at + 28) reply (echoBody body clock) (copied d d1 at head reply p is (omega arith)) q refl
-        (omega (arith, echo-body-length body clock long six))
+    module _ (body : List ℕ) (room : at + 28 + length body ≤ length d) where
+      pub echo-fits : length d1 ≡ length d → here + length body ≤ length d1
+      echo-fits same = let w = copied p is (omega arith) in omega arith
+
+      pub echo-written : (clock : List ℕ) → Wrote (echoBody body clock) here end d1 d2 → Wrote (reply ++ echoBody body clock) at end d d2
+      echo-written clock = joined (copied p is (omega arith))
 
 pub ruleset reply-octets-laws = (needs, head-made)
 
@@ -190,44 +149,42 @@ module _ (f : List ℕ) (n : ℕ) where
   pub cited-most : take (n + 128 - n) (drop n f) ≡ take 128 (drop n f)
   cited-most = let e : n + 128 - n ≡ 128 = omega arith in rw e
 
-  pub cited-end : (body : List ℕ) (at : ℕ) → body ≡ take 128 (drop n f) → at + 28 + length body ≡ at + (28 + length (take 128 (drop n f)))
-  cited-end body at is = rw is (omega arith)
-
 pub ruleset cited-laws = (needs, cited-all, cited-most)
 
-pub ruleset write-error-laws = (needs, cited-end, error-written)
+pub ruleset write-error-laws = (needs, error-written)
 
-pub ruleset write-echo-laws = (needs, echo-written)
+pub ruleset write-echo-laws = (needs, echo-fits, echo-written)
 
 -- an echo body, answered
-module _ (body clock : List ℕ) (at : ℕ) (d d1 d2 : List ℕ) where
-  pub received-written : d2 ≡ putFitting d1 (at + 6) (take (length body - 18) (drop 18 body)) → d1 ≡ putFitting d at clock → 18 ≤ length body
-      → length clock ≡ 6 → at + length body ≤ length d + 12 → d2 ≡ put d at (clock ++ drop 18 body)
-  received-written q p long six room =
-      let rest : length (drop 18 body) ≡ length body - 18 = length-drop 18 body in
-      copied-after d d1 d2 at (at + 6) clock (drop 18 body) (take (length body - 18) (drop 18 body)) (copied d d1 at clock clock p refl (omega arith)) q
-      (lent-rest body 18) (omega arith) (omega arith)
-
-  pub times-written : d2 ≡ put d1 (at + 11) (clock ++ drop 18 body) → d1 ≡ putFitting d at (part body 1 11) → 18 ≤ length body → length clock ≡ 6
-      → at + length body ≤ length d + 1 → d2 ≡ put d at (timesBy body clock)
-  times-written q p long six room =
-      let a : List ℕ = part body 1 11 in
-      let few : length a ≡ 11 = length-part body 1 11 (omega arith) in
-      let rest : length (clock ++ drop 18 body) ≡ length body - 12 = length-append clock (drop 18 body) ∙ omega (arith, length-drop 18 body) in
-      after d d1 d2 at (at + 11) a (clock ++ drop 18 body) (copied d d1 at a a p refl (omega arith)) q (omega arith) (omega arith)
-      ∙ rw (append-assoc a clock (drop 18 body))
-
-  pub body-written : (a o : ℕ) → d2 ≡ put d1 (at + 1) (timesBy body clock) → d1 ≡ putFitting d at (a ∷ []) → a ≡ 64 + o % 16 → o ≡ octet body 0
-      → 18 ≤ length body → length clock ≡ 6 → at + length body ≤ length d → d2 ≡ put d at (echoBody body clock)
-  unfolding echoBody
-  body-written a o q p ea eo long six room =
-      let whole : suc (length (timesBy body clock)) ≡ length body = echo-body-length body clock long six in
-      let all : d2 ≡ put d at ((a ∷ []) ++ timesBy body clock) =
-      after d d1 d2 at (at + 1) (a ∷ []) (timesBy body clock) (copied d d1 at (a ∷ []) (a ∷ []) p refl (omega arith)) q refl (omega arith) in
-      rw (ea, eo) at all
+module _ (body clock : List ℕ) (at here end : ℕ) (d d1 d2 : List ℕ) where
+  pub received-written : Wrote (fitting d1 here (take (length body - 18) (drop 18 body))) here end d1 d2 → Wrote (fitting d at clock) at here d d1
+      → 18 ≤ length body → length clock ≡ 6 → at + length body ≤ length d + 12 → Wrote (clock ++ drop 18 body) at end d d2
+  received-written q p long six room = copied-on (copied p refl (omega arith)) q (lent-rest body 18) (omega (arith, length-drop 18 body))
 
 pub ruleset write-received-laws = (needs, received-written)
 
-pub ruleset write-times-laws = (needs, times-written)
+module _ (body : List ℕ) (at here : ℕ) (d d1 : List ℕ) (long : 18 ≤ length body) where
+  module _ (p : Wrote (fitting d at (part body 1 11)) at here d d1) (room : at + length body ≤ length d + 1) where
+    eleven : Wrote (part body 1 11) at here d d1
+    eleven = copied p refl (omega (arith, length-part body 1 11 (omega arith)))
 
-pub ruleset write-echo-body-laws = (needs, body-written)
+    pub received-room : length d1 ≡ length d → here + length body ≤ length d1 + 12
+    received-room same = let w = eleven in omega (arith, length-part body 1 11 (omega arith))
+
+    pub times-written : (clock : List ℕ) (end : ℕ) (d2 : List ℕ) → Wrote (clock ++ drop 18 body) here end d1 d2 → Wrote (timesBy body clock) at end d d2
+    times-written clock end d2 = joined eleven
+
+  module _ (a o : ℕ) (p : Wrote (fitting d at (a ∷ [])) at here d d1) (room : at + length body ≤ length d) where
+    pub times-room : length d1 ≡ length d → here + length body ≤ length d1 + 1
+    times-room same = let w : Wrote (a ∷ []) at here d d1 = copied p refl (omega arith) in omega arith
+
+    pub body-written : a ≡ 64 + o % 16 → o ≡ octet body 0 → (clock : List ℕ) (end : ℕ) (d2 : List ℕ) → Wrote (timesBy body clock) here end d1 d2
+        → Wrote (echoBody body clock) at end d d2
+    unfolding echoBody
+    body-written ea eo clock end d2 q =
+        let first : Wrote ((64 + octet body 0 % 16) ∷ []) at here d d1 = copied p (rw (ea, eo)) (omega arith) in
+        rw (append-assoc (part body 1 11) clock (drop 18 body)) (joined first q)
+
+pub ruleset write-times-laws = (needs, received-room, times-written)
+
+pub ruleset write-echo-body-laws = (needs, times-room, body-written)

@@ -1,39 +1,31 @@
 -- The stripping loop over lists: what was written, and what is kept of the options from a place on, is what is kept in all.
-use mathlib.Core.Path.{_≡_, refl, sym, ap, _∙_}
+use mathlib.Core.Path.{_≡_, refl, sym, _∙_}
 use mathlib.Core.List.{List, [], _∷_, _++_, append-assoc, append-nil}
 use mathlib.Core.Bool.{Bool, true, false}
 use Prim.Native.Nat.{ℕ, suc, _+_, _-_, _≤_, _<_}
 use native.Mathlib.Omega.{arith}
-use native.Mathlib.Nat.{add-zero}
 use borrow.Author.Needs.{needs}
 use lib.ListN.{length, take, getD, length-append}
 use lib.Seq.{length-take-le}
 use Rattle.rules.specs as rules
-use rules.Octets.{be16, part, put}
+use rules.Octets.{be16, part}
 use rules.Options.{TlvOption, options, keyOf, lengthOf, optionSize, optionsFrom, optionsOf, strippable, keptOptions, octetsOf, WellFormed}
 use rules.Options.{draftRead, stripped}
 use Rattle.rules.proofs.TestLaws.{by-test}
-use Rattle.rules.proofs.OctetLaws.{put-none, put-put, length-put, length-part}
-use Rattle.rules.proofs.OptionLaws.{Walked, ended, took, walked, options-end, kept-nothing, kept-not, kept-too, area-well, stripped-is, stripped-shorter}
-use Rattle.octets.specs.Copy.{putFitting}
-use Rattle.octets.proofs.Ends.{put-fits}
+use Rattle.rules.proofs.OctetLaws.{length-part}
+use Rattle.rules.proofs.OptionLaws.{Walked, ended, took, walked, options-end, kept-nothing, kept-not, kept-too, area-well, stripped-is}
+use Rattle.octets.specs.Copy.{Wrote, fitting}
+use Rattle.octets.proofs.Ends.{wrote-none, wrote-long, copied, joined}
 use Rattle.handler.specs.{Shapes.keptIf, Shapes.keptFrom, Treatment.Treats, Treatment.strippedBy}
-use Rattle.handler.proofs.Stages.{copied, after}
 
 -- what stays of one option
 module _ (out : List ℕ) (to : ℕ) (option : List ℕ) (stripped : Bool) where
-  pub gone-end : stripped ≡ true → to ≡ to + length (keptIf stripped option)
-  gone-end e = rw e (sym (add-zero to))
+  pub keep-none : stripped ≡ true → Wrote (keptIf stripped option) to to out out
+  keep-none e = rw e (wrote-none out to)
 
-  pub gone-put : stripped ≡ true → out ≡ put out to (keptIf stripped option)
-  gone-put e = rw e (sym (put-none out to))
-
-  pub keep-end : stripped ≡ false → to + length option ≡ to + length (keptIf stripped option)
-  keep-end e = rw e
-
-  pub keep-put : stripped ≡ false → (out′ : List ℕ) → out′ ≡ putFitting out to option → to + length option ≤ length out
-      → out′ ≡ put out to (keptIf stripped option)
-  keep-put e out′ w fits = rw e (w ∙ put-fits out to option fits)
+  pub keep-all : stripped ≡ false → (end : ℕ) (out′ : List ℕ) → Wrote (fitting out to option) to end out out′ → to + length option ≤ length out
+      → Wrote (keptIf stripped option) to end out out′
+  keep-all e end out′ w room = rw e (copied w refl room)
 
 kept-short : (stripped : Bool) (option : List ℕ) → length (keptIf stripped option) ≤ length option
 kept-short true option = omega arith
@@ -58,8 +50,7 @@ pub record Stripping (area out₀ : List ℕ) (from : ℕ) (out : List ℕ) (at 
   pub next-ones : optionsFrom (suc fuel) area floor at ≡ options left
   pub written : List ℕ
   pub fewer : length written + 4 ≤ at
-  pub place : to ≡ from + length written
-  pub is : out ≡ put out₀ from written
+  pub wrote : Wrote written from to out₀ out
   pub rest : written ++ octetsOf (keptOptions left) ≡ keptFrom (optionsOf area)
   pub same : length out ≡ length out₀
 
@@ -100,8 +91,7 @@ module _ (area out₀ : List ℕ) (from : ℕ) where
         next-ones = w .are;
         written = [];
         fewer = omega arith;
-        place = sym (add-zero from);
-        is = sym (put-none out₀ from);
+        wrote = wrote-none out₀ from;
         rest = rw (w .are);
         same = refl;
       }
@@ -110,11 +100,8 @@ module _ (area out₀ : List ℕ) (from : ℕ) where
     all-written : length area ≤ at → s .written ≡ keptFrom (optionsOf area)
     all-written h = cc (options-end (s .fuel) area (s .floor) at h, append-nil (s .written), kept-empty)
 
-    pub strip-ends : length area ≤ at → to ≡ from + length (keptFrom (optionsOf area))
-    strip-ends h = rw (← all-written h) (s .place)
-
-    pub strip-wrote : length area ≤ at → out ≡ put out₀ from (keptFrom (optionsOf area))
-    strip-wrote h = rw (← all-written h) (s .is)
+    pub strip-wrote : length area ≤ at → Wrote (keptFrom (optionsOf area)) from to out₀ out
+    strip-wrote h = rw (← all-written h) (s .wrote)
 
     module _ (h : at < length area) where
       next-option : Next area at (s .fuel) (s .left)
@@ -138,9 +125,8 @@ module _ (area out₀ : List ℕ) (from : ℕ) where
         strip-fits = omega (arith, its-part, strip-next)
 
         pub strip-on : (table : List ℕ) → Treats table → (key : ℕ) → key ≡ keyOf w → (gone : Bool) → gone ≡ strippedBy (getD table key 0) key size
-            → (out′ : List ℕ) (to′ : ℕ)
-            → to′ ≡ to + length (keptIf gone lent) → out′ ≡ put out to (keptIf gone lent) → Stripping area out₀ from out′ (at + step) to′
-        strip-on table treats key ik gone ig out′ to′ et eo =
+            → (out′ : List ℕ) (to′ : ℕ) → Wrote (keptIf gone lent) to to′ out out′ → Stripping area out₀ from out′ (at + step) to′
+        strip-on table treats key ik gone ig out′ to′ w =
             let a = next-option in
             let k : List ℕ = keptIf gone lent in
             let kl = kept-short gone lent in
@@ -159,20 +145,15 @@ module _ (area out₀ : List ℕ) (from : ℕ) where
               next-ones = rw (f, its-step) (a .others);
               written = s .written ++ k;
               fewer = omega (arith, wl, kl, its-part);
-              place = omega (arith, wl, et);
-              is =
-                  eo
-                  ∙ rw (s .is)
-                  (put-put out₀ from (s .written) (omega arith) to k (s .place)
-                  (omega (arith, kl, its-part, strip-next)));
+              wrote = joined (s .wrote) w;
               rest = cc (append-assoc (s .written) k (octetsOf (keptOptions (a .after))), here, s .rest);
-              same = ap length eo ∙ length-put out to k (omega (arith, kl, its-part, strip-next)) ∙ s .same;
+              same = wrote-long w (omega (arith, kl, its-part, strip-next)) ∙ s .same;
             }
 
-pub ruleset keep-laws = (needs, gone-end, gone-put, keep-end, keep-put)
+pub ruleset keep-laws = (needs, keep-none, keep-all)
 
 pub ruleset strip-options-laws =
-    (needs, strip-begin, strip-ends, strip-wrote, strip-next, strip-fits, strip-on)
+    (needs, strip-begin, strip-wrote, strip-next, strip-fits, strip-on)
 
 -- a whole area: its first word, then what is kept
 pub strip-whole : (area : List ℕ) → draftRead area ≡ WellFormed → stripped area ≡ take 4 area ++ keptFrom (optionsOf area)
@@ -181,21 +162,15 @@ strip-whole area e = let w = area-well area e in stripped-is area (w .its-option
 pub word-lent : (area : List ℕ) → 4 ≤ length area → 4 ≡ length (take 4 area)
 word-lent area h = sym (length-take-le 4 area h)
 
-module _ (area d d1 d2 : List ℕ) (base end : ℕ) (well : draftRead area ≡ WellFormed) (some : 4 ≤ length area) where
-  abbrev kept : List ℕ
-  kept = keptFrom (optionsOf area)
+module _ (area d d1 : List ℕ) (base from : ℕ) (p : Wrote (fitting d base (take 4 area)) base from d d1) (well : draftRead area ≡ WellFormed)
+    (some : 4 ≤ length area) (room : base + length area ≤ length d) where
+  word : Wrote (take 4 area) base from d d1
+  word = copied p refl (omega (arith, word-lent area some))
 
-  long : length (stripped area) ≡ 4 + length kept
-  long = cc (strip-whole area well, length-append (take 4 area) kept, length-take-le 4 area some)
+  pub area-behind : length d1 ≡ length d → from + length area ≤ length d1 + 4
+  area-behind same = let w = word in omega (arith, word-lent area some)
 
-  pub area-ends : end ≡ base + 4 + length kept → end - base ≡ length (stripped area)
-  area-ends e = omega (arith, long, e)
+  pub area-wrote : (end : ℕ) (d2 : List ℕ) → Wrote (keptFrom (optionsOf area)) from end d1 d2 → Wrote (stripped area) base end d d2
+  area-wrote end d2 w = rw (strip-whole area well) (joined word w)
 
-  pub area-wrote : d2 ≡ put d1 (base + 4) kept → d1 ≡ putFitting d base (take 4 area) → base + length area ≤ length d → d2 ≡ put d base (stripped area)
-  area-wrote q p room =
-      let four = word-lent area some in
-      let word = copied d d1 base (take 4 area) (take 4 area) p refl (omega (arith, four)) in
-      after d d1 d2 base (base + 4) (take 4 area) kept word q (omega (arith, four)) (omega (arith, long, stripped-shorter area well))
-      ∙ ap (put d base) (sym (strip-whole area well))
-
-pub ruleset strip-area-laws = (needs, word-lent, area-ends, area-wrote)
+pub ruleset strip-area-laws = (needs, word-lent, area-behind, area-wrote)

@@ -5,15 +5,17 @@ use mathlib.Core.List.{List}
 use mathlib.Core.Bool.{Bool, true, false, not}
 use Prim.Native.Nat.{ℕ, _≤_, _<_}
 use native.Mathlib.Omega.{arith}
+use native.Mathlib.Nat.{zero-add}
 use borrow.Author.Needs.{needs}
 use borrow.Author.Tests.{lt-ltb, le-ltb, not-true, not-false}
 use lib.ListN.{length}
 use Rattle.rules.specs as rules
-use rules.{Octets.put, Link.link, WayOut.wayOutBy, WayOut.wayOut}
+use rules.{Link.link, WayOut.wayOutBy, WayOut.wayOut}
 use rules.Settings.{Ways, waysOf, settingsRead}
 use rules.declared.NextHop.{NextHop}
 use rules.declared.Ruling.the-variants.{Found, Absent}
 use Rattle.rules.proofs.{OctetLaws.put-none, FrameLaws.length-link, FrameLaws.link-most}
+use Rattle.octets.specs.Copy.{Wrote}
 use Rattle.handler.specs
 use specs.declared.validation.Validated.{Validated}
 use specs.declared.way.{Own.Own, Lookup.Lookup, WayOut.WayOut}
@@ -40,13 +42,13 @@ module _ (t : Lookup) (out : List ℕ) where
     unfolding wayOutBy
     out-short r is h = rw (wayOutBy, e, long, lt-ltb (length out) n h) (record { answer = is; after = sym (put-none out 0) })
 
-    pub out-written : n ≤ length out → (k : ℕ) (out1 : List ℕ) → k ≡ length (link (waysBy t) q) → out1 ≡ put out 0 (link (waysBy t) q)
+    pub out-written : n ≤ length out → (k : ℕ) (out1 : List ℕ) → Wrote (link (waysBy t) q) 0 k out out1
         → WayDone asked (record { number = 0; length = k }) out out1
     unfolding wayOutBy
-    out-written h k out1 its p = rw (wayOutBy, e, its, long, le-ltb (length out) n h) (record { answer = rw long; after = p })
+    out-written h k out1 w = rw (wayOutBy, e, w .ends, zero-add, long, le-ltb (length out) n h) (record { answer = rw long; after = w .after })
 
-pub out-fits : (S : Ways) (q : NextHop) (k : ℕ) → k ≡ length (link S q) → k < 4294967296
-out-fits S q k long = omega (arith, long, link-most S q)
+pub out-fits : (S : Ways) (q : NextHop) (k : ℕ) (out out1 : List ℕ) → Wrote (link S q) 0 k out out1 → k < 4294967296
+out-fits S q k out out1 w = omega (arith, link-most S q)
 
 pub ruleset way-out-laws = (needs, out-none, out-short, out-written, out-fits)
 

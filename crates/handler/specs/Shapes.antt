@@ -61,10 +61,6 @@ wroteBy number written via =
 unfoldable pub refusalBy : ℕ → Refusal
 refusalBy n = if eqb n 0 then Passed else Refused n
 
--- octets written from a place to where they end, and nothing else
-abbrev pub Wrote : List ℕ → ℕ → ℕ → List ℕ → List ℕ → Type 0
-Wrote octets at end out out′ = (end ≡ at + length octets) × (out′ ≡ put out at octets)
-
 -- a reply of so many octets, or the number that is answered without one
 abbrev pub repliedBy : ℕ → ℕ → ℕ → ℕ → Answer
 repliedBy refusal number written via = if eqb written 0 then droppedBy refusal else wroteBy number written via
@@ -194,7 +190,7 @@ pub record Fits (area f : List ℕ) (h : Header) (out : List ℕ) (at : ℕ) : T
 
 -- an echo body but for its first octet
 abbrev pub timesBy : List ℕ → List ℕ → List ℕ
-timesBy body clock = part body 1 11 ++ clock ++ drop 18 body
+timesBy body clock = part body 1 11 ++ (clock ++ drop 18 body)
 
 -- neither the channel's Ethertype nor that of L2-IS-IS
 abbrev pub foreignBy : ℕ → Bool

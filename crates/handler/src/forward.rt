@@ -4,7 +4,8 @@ use rules::Header;
 ghost use mathlib.Core.Path.{_≡_};
 ghost use Prim.Native.Nat.{_<_};
 ghost use Rattle.rules.specs.Header.{hopCount, areaOf};
-ghost use Rattle.handler.specs.Shapes.{headerOctets, sentBy, Fits, restWith, Wrote};
+ghost use Rattle.octets.specs.Copy.{Wrote};
+ghost use Rattle.handler.specs.Shapes.{headerOctets, sentBy, Fits, restWith};
 
 pub fn header_octets(word: u16, egress: u16, ingress: u16) -> [u8; 6]
     ensures { λ r. ⌜ r ≡ headerOctets word egress ingress ⌝ }
@@ -38,13 +39,12 @@ pub fn forward_with(area: &[u8], f: &[u8], h: Header, out: &mut [u8], at: usize)
     requires { ⌜ Fits (now area) (now f) h (now out) at ⌝ }
     ensures { λ r. ⌜ Wrote (restWith (now (area .entry)) (now (f .entry)) h) at r (now (out .entry)) (now (out .exit)) ⌝ }
 {
-    let n = area.len();
-    let head = header_octets(sent_word(h.word, (n / 4) as u16), h.egress, h.ingress);
-    octets::copy(out, at, &head);
-    octets::copy(out, at + 6, area);
+    let words = (area.len() / 4) as u16;
+    let head = header_octets(sent_word(h.word, words), h.egress, h.ingress);
+    let at = octets::copy(out, at, &head);
+    let at = octets::copy(out, at, area);
     let inner = header::inner_start(h);
-    octets::copy(out, at + 6 + n, &f[inner..]);
-    at + 6 + n + (f.len() - inner)
+    octets::copy(out, at, &f[inner..])
 }
 
 // Area and inner frame as they are, in one.
@@ -58,7 +58,6 @@ pub fn forward_whole(f: &[u8], h: Header, out: &mut [u8], at: usize) -> usize
         h.egress,
         h.ingress,
     );
-    octets::copy(out, at, &head);
-    octets::copy(out, at + 6, &f[start..]);
-    at + 6 + (f.len() - start)
+    let at = octets::copy(out, at, &head);
+    octets::copy(out, at, &f[start..])
 }

@@ -4,10 +4,10 @@ ghost use mathlib.Core.Path.{_≡_};
 ghost use mathlib.Core.Bool.{false, _||_, _&&_, not};
 ghost use Prim.Native.Nat.{_+_, _<_, _≤_};
 ghost use lib.ListN.{length};
-ghost use Rattle.rules.specs.Octets.{put};
 ghost use Rattle.rules.specs.Options as O;
 ghost use Rattle.rules.specs.Options.{WellFormed};
-ghost use Rattle.handler.specs.Shapes.{readBy, foundBy, areaReadOf, walkOf, keptIf, keptFrom, Wrote};
+ghost use Rattle.octets.specs.Copy.{Wrote};
+ghost use Rattle.handler.specs.Shapes.{readBy, foundBy, areaReadOf, walkOf, keptIf, keptFrom};
 ghost use Rattle.handler.specs.Treatment.{Treats, transitDiscards, egressDiscards};
 
 const LENGTH_RESERVED: u8 = 119;
@@ -209,19 +209,17 @@ fn keep(out: &mut [u8], to: usize, stripped: bool, option: &[u8]) -> usize
     if stripped {
         return to;
     }
-    octets::copy(out, to, option);
-    to + option.len()
+    octets::copy(out, to, option)
 }
 
-// Writes a well formed area of one word or more into `out` from `base` on, without what is stripped, and says how long that is.
+// Writes a well formed area of one word or more into `out` from `base` on, without what is stripped, and says where it ends.
 pub fn strip_area(area: &[u8], out: &mut [u8], base: usize) -> usize
     requires { ⌜ (O.draftRead (now area) ≡ WellFormed) × (4 ≤ length (now area)) × (base + length (now area) ≤ length (now out)) ⌝ }
-    ensures { λ r. ⌜ (r ≡ length (O.stripped (now (area .entry))))
-        × (now (out .exit) ≡ put (now (out .entry)) base (O.stripped (now (area .entry)))) ⌝ }
+    ensures { λ r. ⌜ Wrote (O.stripped (now (area .entry))) base r (now (out .entry)) (now (out .exit)) ⌝ }
 {
-    octets::copy(out, base, &area[..4]);
+    let from = octets::copy(out, base, &area[..4]);
     let table = treatment::treatments();
-    strip_options(area, &table, out, base + 4) - base
+    strip_options(area, &table, out, from)
 }
 
 // The options alone, from `from` on; says where they end.

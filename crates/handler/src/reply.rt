@@ -8,8 +8,8 @@ ghost use mathlib.Core.Path.{_≡_};
 ghost use Prim.Native.Nat.{_+_, _%_, _≤_};
 ghost use mathlib.Core.List.{_++_};
 ghost use lib.ListN.{length, drop};
-ghost use Rattle.rules.specs.Octets.{put};
 ghost use Rattle.rules.specs.Channel.{errorBody, echoBody, errorReply, echoReply};
+ghost use Rattle.octets.specs.Copy.{Wrote};
 ghost use Rattle.handler.specs.Shapes.{replyOctets, timesBy, waysBy, Ready, Replied};
 
 // From the first TRILL word to the flags and ERR word.
@@ -65,14 +65,11 @@ fn cited(f: &[u8], h: Header) -> &[u8]
 // An error reply from `at` on, behind its link header; says where it ends.
 fn write_error(own: Own, f: &[u8], h: Header, code: u8, out: &mut [u8], at: usize) -> usize
     requires { ⌜ (14 ≤ h .place) × (h .place ≤ length (now f)) × (at + 156 ≤ length (now out)) ⌝ }
-    ensures { λ r. ⌜ (r ≡ at + (28 + length (errorBody (now (f .entry)) h)))
-        × (now (out .exit) ≡ put (now (out .entry)) at (replyOctets own (h .ingress) 0x001 code ++ errorBody (now (f .entry)) h)) ⌝ }
+    ensures { λ r. ⌜ Wrote (replyOctets own (h .ingress) 0x001 code ++ errorBody (now (f .entry)) h) at r (now (out .entry)) (now (out .exit)) ⌝ }
 {
     let head = reply_octets(own, h.ingress, rules::PROTOCOL_ERROR, code);
-    octets::copy(out, at, &head);
-    let body = cited(f, h);
-    octets::copy(out, at + 28, body);
-    at + 28 + body.len()
+    let at = octets::copy(out, at, &head);
+    octets::copy(out, at, cited(f, h))
 }
 
 // SPID 4 and the sequence's high bits.
@@ -83,43 +80,41 @@ fn answered(first: u8) -> u8
 }
 
 // The clock in time received, and what follows it.
-fn write_received(body: &[u8], clock: &[u8], out: &mut [u8], at: usize)
+fn write_received(body: &[u8], clock: &[u8], out: &mut [u8], at: usize) -> usize
     requires { ⌜ (18 ≤ length (now body)) × (length (now clock) ≡ 6) × (at + length (now body) ≤ length (now out) + 12) ⌝ }
-    ensures { λ _. ⌜ now (out .exit) ≡ put (now (out .entry)) at (now (clock .entry) ++ drop 18 (now (body .entry))) ⌝ }
+    ensures { λ r. ⌜ Wrote (now (clock .entry) ++ drop 18 (now (body .entry))) at r (now (out .entry)) (now (out .exit)) ⌝ }
 {
-    octets::copy(out, at, clock);
-    octets::copy(out, at + 6, &body[18..]);
+    let at = octets::copy(out, at, clock);
+    octets::copy(out, at, &body[18..])
 }
 
 // The echo body but for its first octet.
-fn write_times(body: &[u8], clock: &[u8], out: &mut [u8], at: usize)
+fn write_times(body: &[u8], clock: &[u8], out: &mut [u8], at: usize) -> usize
     requires { ⌜ (18 ≤ length (now body)) × (length (now clock) ≡ 6) × (at + length (now body) ≤ length (now out) + 1) ⌝ }
-    ensures { λ _. ⌜ now (out .exit) ≡ put (now (out .entry)) at (timesBy (now (body .entry)) (now (clock .entry))) ⌝ }
+    ensures { λ r. ⌜ Wrote (timesBy (now (body .entry)) (now (clock .entry))) at r (now (out .entry)) (now (out .exit)) ⌝ }
 {
-    octets::copy(out, at, &body[1..12]);
-    write_received(body, clock, out, at + 11);
+    let at = octets::copy(out, at, &body[1..12]);
+    write_received(body, clock, out, at)
 }
 
 // The echo body from `at` on, answered.
-fn write_echo_body(body: &[u8], clock: &[u8], out: &mut [u8], at: usize)
+fn write_echo_body(body: &[u8], clock: &[u8], out: &mut [u8], at: usize) -> usize
     requires { ⌜ (18 ≤ length (now body)) × (length (now clock) ≡ 6) × (at + length (now body) ≤ length (now out)) ⌝ }
-    ensures { λ _. ⌜ now (out .exit) ≡ put (now (out .entry)) at (echoBody (now (body .entry)) (now (clock .entry))) ⌝ }
+    ensures { λ r. ⌜ Wrote (echoBody (now (body .entry)) (now (clock .entry))) at r (now (out .entry)) (now (out .exit)) ⌝ }
 {
     let first = [answered(octets::octet(body, 0))];
-    octets::copy(out, at, &first);
-    write_times(body, clock, out, at + 1);
+    let at = octets::copy(out, at, &first);
+    write_times(body, clock, out, at)
 }
 
 // An echo reply from `at` on, behind its link header; says where it ends.
 fn write_echo(own: Own, h: Header, clock: &[u8], body: &[u8], out: &mut [u8], at: usize) -> usize
     requires { ⌜ (18 ≤ length (now body)) × (length (now clock) ≡ 6) × (at + 28 + length (now body) ≤ length (now out)) ⌝ }
-    ensures { λ r. ⌜ (r ≡ at + (28 + length (now (body .entry))))
-        × (now (out .exit) ≡ put (now (out .entry)) at (replyOctets own (h .ingress) 0xFF8 0 ++ echoBody (now (body .entry)) (now (clock .entry)))) ⌝ }
+    ensures { λ r. ⌜ Wrote (replyOctets own (h .ingress) 0xFF8 0 ++ echoBody (now (body .entry)) (now (clock .entry))) at r (now (out .entry)) (now (out .exit)) ⌝ }
 {
     let head = reply_octets(own, h.ingress, rules::PROTOCOL_ECHO, 0);
-    octets::copy(out, at, &head);
-    write_echo_body(body, clock, out, at + 28);
-    at + 28 + body.len()
+    let at = octets::copy(out, at, &head);
+    write_echo_body(body, clock, out, at)
 }
 
 // Writes an error reply towards a next hop and says how long it is.

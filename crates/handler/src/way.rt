@@ -5,10 +5,11 @@ ghost use mathlib.Core.Path.{_≡_};
 ghost use mathlib.Core.List.{_++_};
 ghost use Prim.Native.Nat.{_≤_};
 ghost use lib.ListN.{length};
-ghost use Rattle.rules.specs.Octets.{octets48, put};
+ghost use Rattle.rules.specs.Octets.{octets48};
 ghost use Rattle.rules.specs.Link.{link};
 ghost use Rattle.rules.specs.Channel.{returnPath};
 ghost use Rattle.rules.specs.WayOut.{wayOutBy};
+ghost use Rattle.octets.specs.Copy.{Wrote};
 ghost use Rattle.handler.specs.Shapes.{taggedOctets, linkSize, waysBy, neighbourOf, WayDone};
 
 // Own nickname and MAC.
@@ -46,30 +47,27 @@ fn tagged_octets(vlan: u16) -> [u8; 6]
     ]
 }
 
-fn write_macs(to: u64, own: u64, out: &mut [u8])
+fn write_macs(to: u64, own: u64, out: &mut [u8]) -> usize
     requires { ⌜ 14 ≤ length (now out) ⌝ }
-    ensures { λ _. ⌜ now (out .exit) ≡ put (now (out .entry)) 0 (octets48 to ++ octets48 own) ⌝ }
+    ensures { λ r. ⌜ Wrote (octets48 to ++ octets48 own) 0 r (now (out .entry)) (now (out .exit)) ⌝ }
 {
     let destination = octets::six(to);
-    octets::copy(out, 0, &destination);
+    let at = octets::copy(out, 0, &destination);
     let source = octets::six(own);
-    octets::copy(out, 6, &source);
+    octets::copy(out, at, &source)
 }
 
 // Writes the link header towards a next hop and says how long it is.
 pub fn write_link(t: Lookup, r: NextHop, out: &mut [u8]) -> usize
     requires { ⌜ linkSize (r .vlan) ≤ length (now out) ⌝ }
-    ensures { λ n. ⌜ (n ≡ length (link (waysBy t) r)) × (now (out .exit) ≡ put (now (out .entry)) 0 (link (waysBy t) r)) ⌝ }
+    ensures { λ n. ⌜ Wrote (link (waysBy t) r) 0 n (now (out .entry)) (now (out .exit)) ⌝ }
 {
-    write_macs(r.mac, t.own.mac, out);
+    let at = write_macs(r.mac, t.own.mac, out);
     if r.vlan == 0 {
-        let ethertype = [0x22, 0xF3];
-        octets::copy(out, 12, &ethertype);
-        return 14;
+        return octets::copy(out, at, &[0x22, 0xF3]);
     }
     let tagged = tagged_octets(r.vlan);
-    octets::copy(out, 12, &tagged);
-    18
+    octets::copy(out, at, &tagged)
 }
 
 // The next hop back: "No return path: the ingress is our own nickname or has no next hop."

@@ -10,7 +10,7 @@ use mir.Syntax.{w8}
 use mir.Val.{Fits}
 use lib.Seq.{paste, paste-zero, paste-suc, take-length}
 use lib.ListN.{length, getD, set, length-append, List·getD-eq-default}
-use Rattle.rules.proofs.{TestLaws.tests, OctetLaws.put-none, OctetLaws.put-put}
+use Rattle.rules.proofs.{TestLaws.tests, OctetLaws.put-none, OctetLaws.put-put, OctetLaws.length-put}
 use Rattle.rules.specs.Octets.{octet, be16, be32, be48, octets48, put}
 use Rattle.octets.specs.Copy.{Wrote, fitting}
 use Rattle.rules.specs.Octets as O
@@ -103,9 +103,16 @@ pub ruleset copy-laws = (needs, copy-outside, copy-over, copy-within)
 pub copied : {out out′ s t : List ℕ} {at end : ℕ} → Wrote (fitting out at s) at end out out′ → s ≡ t → at + length t ≤ length out → Wrote t at end out out′
 copied {out} {t = t} {at = at} w e h = rw (e, fits-all out at t h) at w
 
+pub wrote-long : {out out′ s : List ℕ} {at end : ℕ} → Wrote s at end out out′ → end ≤ length out → length out′ ≡ length out
+wrote-long {out} {s = s} {at = at} w h = rw (w .after) (length-put out at s (omega arith))
+
 pub joined : {out mid out′ s t : List ℕ} {at here end : ℕ} → Wrote s at here out mid → Wrote t here end mid out′ → Wrote (s ++ t) at end out out′
 joined {out} {s = s} {t = t} {at = at} {here = here} a b =
     record { ends = rw length-append (omega arith); after = b .after ∙ rw (a .after) (put-put out at s here t (a .ends)) }
+
+pub copied-on : {out mid out′ s t u : List ℕ} {at here end : ℕ} → Wrote s at here out mid → Wrote (fitting mid here u) here end mid out′ → u ≡ t
+    → at + (length s + length t) ≤ length out → Wrote (s ++ t) at end out out′
+copied-on a w e h = joined a (copied w e (omega (arith, wrote-long a (omega arith))))
 
 -- the loop of `fill`: `out` has the first i octets of `s` in it from `at` on
 module _ (d : List ℕ) (at : ℕ) (s : List ℕ) (i : ℕ) (out : List ℕ) (is : out ≡ paste d at s i) where

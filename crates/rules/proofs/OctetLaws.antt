@@ -77,7 +77,9 @@ module _ (d : List ℕ) (at : ℕ) (s : List ℕ) (at′ : ℕ) (t : List ℕ) (
   pub put-put : put (put d at s) at′ t ≡ put d at (s ++ t)
   put-put =
       by-order (length d) at
-      (λ h. rw (put-past d at s (omega arith), put-past d at (s ++ t) (omega arith), ← append-assoc d s t) (put-past (d ++ s) at′ t (rw length-append (omega arith))))
+      (λ h.
+      rw (put-past d at s (omega arith), put-past d at (s ++ t) (omega arith), ← append-assoc d s t)
+      (put-past (d ++ s) at′ t (rw length-append (omega arith))))
       put-within
 
 pub put-front : (d s : List ℕ) → put d 0 s ≡ s ++ drop (length s) d

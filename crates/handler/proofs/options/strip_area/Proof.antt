@@ -5,5 +5,4 @@ use proofs.options.strip_area as fn
 
 pub strip-area-spec : {M : Type 1} → fn.Statement.statement M
 strip-area-spec = fn.Tie.close (fn.Tie.spec
-    (λ c. search laws) (λ c _. search laws) (λ c _. search laws) (λ c. search laws) (λ c _. search laws) (λ c. search laws) (λ c. search laws)
-    (λ c. search laws))
+    (λ c. search laws) (λ c _. search laws) (λ c _. search laws) (λ c _. search laws) (λ c. search laws) (λ c. search laws))
