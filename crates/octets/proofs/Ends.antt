@@ -1,6 +1,6 @@
 -- Reading at and past the end of an octet string, and copying what fits.
 use mathlib.Core.Path.{_≡_, refl, sym, _∙_}
-use mathlib.Core.List.{List, [], _∷_, _++_}
+use mathlib.Core.List.{List, [], _∷_, _++_, append-nil}
 use Prim.Native.Nat.{ℕ, _+_, _-_, _*_, _/_, _%_, _≤_, _<_}
 use native.Mathlib.Omega.{arith}
 use native.Mathlib.Nat.{add-zero}
@@ -8,9 +8,9 @@ use native.Mathlib.Numerals.{add-one}
 use borrow.Author.Needs.{needs}
 use mir.Syntax.{w8}
 use mir.Val.{Fits}
-use lib.Seq.{paste, paste-zero, paste-suc, take-length}
-use lib.ListN.{length, getD, set, length-append, List·getD-eq-default}
-use Rattle.rules.proofs.{TestLaws.tests, OctetLaws.put-none, OctetLaws.put-put, OctetLaws.length-put}
+use lib.Seq.{paste, paste-zero, paste-suc, take-length, take-all, take-add, length-take-le}
+use lib.ListN.{length, getD, set, take, drop, replicate, length-append, length-take, length-drop, take-append-drop, List·getD-eq-default}
+use Rattle.rules.proofs.{TestLaws.tests, OctetLaws.put-none, OctetLaws.put-put, OctetLaws.put-tail, OctetLaws.put-front, OctetLaws.length-put}
 use Rattle.rules.specs.Octets.{octet, be16, be32, be48, octets48, put}
 use Rattle.octets.specs.Copy.{Wrote, fitting}
 use Rattle.rules.specs.Octets as O
@@ -114,7 +114,7 @@ pub copied-on : {out mid out′ s t u : List ℕ} {at here end : ℕ} → Wrote 
     → at + (length s + length t) ≤ length out → Wrote (s ++ t) at end out out′
 copied-on a w e h = joined a (copied w e (omega (arith, wrote-long a (omega arith))))
 
--- the loop of `fill`: `out` has the first i octets of `s` in it from `at` on
+-- the loop of `fill_octets`: `out` has the first i octets of `s` in it from `at` on
 module _ (d : List ℕ) (at : ℕ) (s : List ℕ) (i : ℕ) (out : List ℕ) (is : out ≡ paste d at s i) where
   pub fill-on : i < length s → at + length s ≤ length d → set out (at + i) (getD s i 0) ≡ paste d at s (i + 1)
   fill-on h room = rw (is, add-one, paste-suc d at s i 0 (omega arith) (omega arith))
@@ -124,3 +124,35 @@ module _ (d : List ℕ) (at : ℕ) (s : List ℕ) (i : ℕ) (out : List ℕ) (is
   fill-end h k = let e : i ≡ length s = omega arith in is ∙ rw (e, take-length)
 
 pub ruleset fill-laws = (needs, paste-zero, fill-on, fill-end)
+
+-- a block, by way of sixteen octets of our own
+pub block-through : (d : List ℕ) (at : ℕ) (s b : List ℕ) → length s ≡ 16 → b ≡ put (replicate 16 0) 0 s → {d′ : List ℕ} → d′ ≡ put d at b → d′ ≡ put d at s
+block-through d at s b n is e =
+    let all : b ≡ s = is ∙ rw (put-front (replicate 16 0) s, n, append-nil) in
+    rw all at e
+
+pub ruleset block-laws = (needs, block-through)
+
+-- the loop of `fill_blocks`: `out` has the first i octets of `s` in it from `at` on, in blocks, and the last one is written over its end
+module _ (d : List ℕ) (at : ℕ) (s : List ℕ) where
+  pub blocks-begin : d ≡ put d at (take 0 s)
+  blocks-begin = sym (put-none d at)
+
+  module _ (i : ℕ) (out : List ℕ) (is : out ≡ put d at (take i s)) (out′ : List ℕ) where
+    pub blocks-on : (last : ℕ) → last + 16 ≡ length s → i < last → out′ ≡ put out (at + i) (take (i + 16 - i) (drop i s)) → out′ ≡ put d at (take (i + 16) s)
+    blocks-on last n h e =
+        let size : i + 16 - i ≡ 16 = omega arith in
+        rw (e, is, size, take-add i 16 s) (put-put d at (take i s) (at + i) (take 16 (drop i s)) (rw (length-take-le i s (omega arith))))
+
+    pub blocks-end : (last : ℕ) → last + 16 ≡ length s → last ≤ i → i ≤ length s → at + length s ≤ length d
+        → out′ ≡ put out (at + last) (take (length s - last) (drop last s)) → out′ ≡ put d at s
+    blocks-end last n h k room e =
+        let long = length-take-le last s (omega arith) in
+        let more : last + (i - last) ≡ i = omega arith in
+        let rest : take (length s - last) (drop last s) ≡ drop last s = take-all (length s - last) (drop last s) (rw length-drop (omega arith)) in
+        let split : take i s ≡ take last s ++ take (i - last) (drop last s) = rw more at (take-add last (i - last) s) in
+        let over = put-tail d at (take last s) (take (i - last) (drop last s)) (drop last s) (omega (arith, long))
+        (omega (arith, length-take (i - last) (drop last s))) in
+        rw (e, is, rest, split) (rw (long, take-append-drop) at over)
+
+pub ruleset blocks-laws = (needs, blocks-begin, blocks-on, blocks-end)

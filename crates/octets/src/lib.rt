@@ -155,7 +155,21 @@ pub fn copy(out: &mut [u8], at: usize, s: &[u8]) -> usize
     at + s.len()
 }
 
+// By blocks up to four of them, where the test that a loop needs for what may overlap would cost more than the copy.
 fn fill(out: &mut [u8], at: usize, s: &[u8])
+    requires { ⌜ at + length (now s) ≤ length (now out) ⌝ }
+    ensures { λ _. ⌜ now (out .exit) ≡ put (now (out .entry)) at (now (s .entry)) ⌝ }
+{
+    if 16 <= s.len() {
+        if s.len() <= 64 {
+            fill_blocks(out, at, s);
+            return;
+        }
+    }
+    fill_octets(out, at, s);
+}
+
+fn fill_octets(out: &mut [u8], at: usize, s: &[u8])
     requires { ⌜ at + length (now s) ≤ length (now out) ⌝ }
     ensures { λ _. ⌜ now (out .exit) ≡ put (now (out .entry)) at (now (s .entry)) ⌝ }
 {
@@ -164,4 +178,28 @@ fn fill(out: &mut [u8], at: usize, s: &[u8])
         out[at + i] = s[i];
         i += 1;
     }
+}
+
+// Sixteen octets, read before one is written, as they then move in one.
+fn fill_block(out: &mut [u8], at: usize, s: &[u8])
+    requires { ⌜ (length (now s) ≡ 16) × (at + 16 ≤ length (now out)) ⌝ }
+    ensures { λ _. ⌜ now (out .exit) ≡ put (now (out .entry)) at (now (s .entry)) ⌝ }
+{
+    let mut block = [0u8; 16];
+    fill_octets(&mut block, 0, s);
+    fill_octets(out, at, &block);
+}
+
+// The last block ends where `s` does, and may write some octets a second time.
+fn fill_blocks(out: &mut [u8], at: usize, s: &[u8])
+    requires { ⌜ (16 ≤ length (now s)) × (at + length (now s) ≤ length (now out)) ⌝ }
+    ensures { λ _. ⌜ now (out .exit) ≡ put (now (out .entry)) at (now (s .entry)) ⌝ }
+{
+    let last = s.len() - 16;
+    let mut i = 0;
+    while i < last {
+        fill_block(out, at + i, &s[i..i + 16]);
+        i += 16;
+    }
+    fill_block(out, at + last, &s[last..]);
 }

@@ -1,8 +1,8 @@
 -- Laws of octet strings: what is written reads back, reading across a seam, and buffers after one write or two. By computation and append laws.
 --
-use mathlib.Core.Path.{_≡_}
+use mathlib.Core.Path.{_≡_, refl}
 use mathlib.Core.List.{List, [], _++_, append-assoc, append-nil}
-use Prim.Native.Nat.{ℕ, _+_, _<_, _≤_}
+use Prim.Native.Nat.{ℕ, _+_, _-_, _<_, _≤_}
 use native.Mathlib.Omega.{arith}
 use native.Mathlib.Nat.{zero-add, add-zero, add-assoc}
 use lib.ListN.{length, take, drop, length-append, length-drop, drop-of-length-le, take-append-drop, List·getD-append}
@@ -81,6 +81,25 @@ module _ (d : List ℕ) (at : ℕ) (s : List ℕ) (at′ : ℕ) (t : List ℕ) (
       rw (put-past d at s (omega arith), put-past d at (s ++ t) (omega arith), ← append-assoc d s t)
       (put-past (d ++ s) at′ t (rw length-append (omega arith))))
       put-within
+
+-- a write over a shorter one leaves nothing of it
+put-over : (d : List ℕ) (at : ℕ) (s t : List ℕ) → at ≤ length d → length s ≤ length t → put (put d at s) at t ≡ put d at t
+unfolding put
+put-over d at s t h k =
+    let rest = drop (at + length s) d in
+    let head = length-head d at s h in
+    let j = length t - length s in
+    let tk : take at (take at d ++ s ++ rest) ≡ take at d = rw (append-assoc (take at d) s rest) (take-at (take at d) (s ++ rest) at (length-take-le at d h)) in
+    let as-far : at + length t ≡ at + length s + j = omega arith in
+    let dr : drop (at + length t) (take at d ++ s ++ rest) ≡ drop (at + length t) d =
+    rw (as-far, ← head, drop-append-add) (rw head (drop-drop j (at + length s) d)) in
+    rw (tk, dr)
+
+pub put-tail : (d : List ℕ) (at : ℕ) (s t u : List ℕ) → at + length s ≤ length d → length t ≤ length u
+    → put (put d at (s ++ t)) (at + length s) u ≡ put d at (s ++ u)
+put-tail d at s t u h k =
+    rw (← put-put d at s (at + length s) t refl, put-over (put d at s) (at + length s) t u (rw (length-put d at s h) h) k)
+    (put-put d at s (at + length s) u refl)
 
 pub put-front : (d s : List ℕ) → put d 0 s ≡ s ++ drop (length s) d
 unfolding put
