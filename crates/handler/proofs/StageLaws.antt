@@ -119,7 +119,7 @@ module _ (S : Ways) (r : NextHop) (f : List ℕ) (h : Header) (out area : List �
     pub onward-fits : Ready f h → length area ≤ 124 → length out1 ≡ length out → 2048 ≤ length out → Fits area f h out1 at
     onward-fits ready few same roomy =
         record {
-          place-small = frame-near f h (ready .read);
+          read = ready .read;
           area-whole = ready .area-whole;
           hops-left = ready .hops-left;
           area-short = few;

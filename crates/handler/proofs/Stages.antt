@@ -2,24 +2,26 @@
 -- it (its header and the rest in one, or another area before the inner frame), and the two replies. By laws of parts and of `put`.
 use Rattle.rules.specs as rules
 use rules.{Link.outerTag, Link.link, Settings.Ways, Channel.echoBody}
-use rules.Header.{opLength, innerStart, areaOf, innerOf}
+use rules.Header.{opLength, innerStart, readFrame, areaOf, innerOf}
 use Rattle.rules.proofs.{TestLaws.and-left, TestLaws.and-right, TestLaws.by-test}
 use borrow.Author.Tests.{eq-eqb, ne-eqb}
 use borrow.Author.Needs.{needs}
-use rules.Octets.{if_then_else_, octets16, octets48, octet, part}
-use mathlib.Core.Path.{_≡_, _∙_, refl, sym}
+use rules.Octets.{if_then_else_, be16, octets16, octets48, octet, part}
+use mathlib.Core.Path.{_≡_, _∙_, refl, sym, ap}
 use mathlib.Core.List.{List, _++_, append-assoc, [], _∷_}
 use Prim.Native.Nat.{ℕ, _+_, _-_, _≤_, _*_, _/_, _<_, _%_}
 use native.Mathlib.Omega.{arith}
 use lib.ListN.{length, take, drop, length-drop, length-append, getD, length-take}
-use lib.Seq.{take-all}
+use lib.Seq.{take-all, take-add, drop-drop}
 use lib.Dec.{eqb}
-use Rattle.rules.proofs.OctetLaws.{length-part, drop-part}
+use Rattle.rules.proofs.{OctetLaws.length-part, OctetLaws.drop-part, OctetLaws.octets16-be16, FrameLaws.frame-read, FrameLaws.link-length}
+use mir.Syntax.{w8}
+use mir.Val as Val
 use Rattle.handler.specs
-use specs.Shapes.{linkSize, taggedOctets, Fits, headerOctets, sentBy, restWith, timesBy, replyOctets}
+use specs.Shapes.{linkSize, taggedOctets, Fits, sentBy, headerSent, restWith, timesBy, replyOctets}
 use Rattle.octets.specs.Copy.{Wrote, fitting}
 use Rattle.octets.proofs.Ends.{copied, joined, copied-on}
-use rules.declared.{NextHop.NextHop, Header.Header}
+use rules.declared.{NextHop.NextHop, Header.Header, FrameRead.the-variants.Trill}
 use specs.declared.way.Own.{Own}
 
 -- what is lent from a place on is what is left from there on
@@ -68,47 +70,99 @@ pub ruleset write-link-laws = (needs, macs-room, plain-written, tagged-written)
 
 -- a forwarded frame behind its link header
 module _ (f : List ℕ) (h : Header) (area : List ℕ) where
-  abbrev head : List ℕ
-  head = headerOctets (sentBy (h .word) (length area / 4)) (h .egress) (h .ingress)
-
-  rest-is : restWith area f h ≡ head ++ area ++ innerOf f h
-  unfolding restWith
-  rest-is = refl
+  abbrev word : List ℕ
+  word = octets16 (sentBy (h .word) (length area / 4))
 
   pub rest-long : length (restWith area f h) ≡ 6 + length area + (length f - innerStart h)
-  rest-long = rw rest-is (length-append (head ++ area) (innerOf f h) ∙ rw (length-append head area, length-drop (innerStart h) f))
+  unfolding restWith
+  rest-long =
+      let head = word ++ octets16 (h .egress) ++ octets16 (h .ingress) in
+      length-append (head ++ area) (innerOf f h) ∙ rw (length-append head area, length-drop (innerStart h) f)
 
--- its header, and the area that is sent
-module _ (area f : List ℕ) (h : Header) (d : List ℕ) (at : ℕ) (fits : Fits area f h d at) (d1 octets : List ℕ) (here word : ℕ)
-    (es : word ≡ sentBy (h .word) (length area / 4)) (eh : octets ≡ headerOctets word (h .egress) (h .ingress))
-    (p : Wrote (fitting d at octets) at here d d1) where
-  first : Wrote (head f h area) at here d d1
-  first = copied p (eh ∙ rw es) (omega (arith, rest-long f h area))
+-- its header: the nicknames go on as they were received
+module _ (f : List ℕ) (h : Header) (read : readFrame f ≡ Trill h) (small : (i : ℕ) → Val.Fits w8 (getD f i 0)) where
+  nicknames : octets16 (h .egress) ++ octets16 (h .ingress) ≡ part f (h .place + 2) 4
+  nicknames =
+      let is = frame-read f h read in
+      let from = h .place + 2 in
+      let next : h .place + 4 ≡ from + 2 = omega arith in
+      let one = ap octets16 (is .its-egress) ∙ octets16-be16 f from (λ i. omega (arith, small i)) (omega (arith, is .whole)) in
+      let two = ap octets16 (is .its-ingress ∙ ap (be16 f) next) ∙ octets16-be16 f (from + 2) (λ i. omega (arith, small i)) (omega (arith, is .whole)) in
+      let both : part f from 4 ≡ part f from 2 ++ part f (from + 2) 2 = take-add 2 2 (drop from f) ∙ rw drop-drop in
+      ap (λ (x : List ℕ). x ++ octets16 (h .ingress)) one ∙ ap (λ (x : List ℕ). part f from 2 ++ x) two ∙ sym both
 
-  -- another area than the one received, then the inner frame
-  pub with-written : (d2 d3 : List ℕ) (inner there end : ℕ) → inner ≡ innerStart h → Wrote (fitting d1 here area) here there d1 d2
+  rest-is : (area : List ℕ) → restWith area f h ≡ headerSent f h (length area / 4) ++ area ++ innerOf f h
+  unfolding restWith
+  rest-is area =
+      let word = octets16 (sentBy (h .word) (length area / 4)) in
+      ap (λ (x : List ℕ). x ++ area ++ innerOf f h)
+      (append-assoc word (octets16 (h .egress)) (octets16 (h .ingress)) ∙ ap (λ (x : List ℕ). word ++ x) nicknames)
+
+module _ (f : List ℕ) (h : Header) (whole : h .place + 6 ≤ length f) where
+  header-long : (words : ℕ) → length (headerSent f h words) ≡ 6
+  header-long words =
+      length-append (octets16 (sentBy (h .word) words)) (part f (h .place + 2) 4) ∙ rw (length-part f (h .place + 2) 4 (omega arith))
+
+  pub header-written : (words : ℕ) (octets d d1 d2 : List ℕ) (at here end : ℕ) → octets ≡ octets16 (sentBy (h .word) words) → at + 6 ≤ length d
+      → Wrote (fitting d at octets) at here d d1
+      → Wrote (fitting d1 here (take (h .place + 2 + 4 - (h .place + 2)) (drop (h .place + 2) f))) here end d1 d2
+      → Wrote (headerSent f h words) at end d d2
+  header-written words octets d d1 d2 at here end eo room p q =
+      let size : h .place + 2 + 4 - (h .place + 2) ≡ 4 = omega arith in
+      let held : take (h .place + 2 + 4 - (h .place + 2)) (drop (h .place + 2) f) ≡ part f (h .place + 2) 4 = rw size in
+      copied-on (copied p eo (omega arith)) q held (omega (arith, length-part f (h .place + 2) 4 (omega arith)))
+
+-- another area than the one received, then the inner frame
+module _ (area f : List ℕ) (h : Header) (d : List ℕ) (at : ℕ) (fits : Fits area f h d at) (small : (i : ℕ) → Val.Fits w8 (getD f i 0)) where
+  pub with-written : (d1 d2 d3 : List ℕ) (here there inner words end : ℕ) → words ≡ length area / 4 → inner ≡ innerStart h
+      → Wrote (headerSent f h words) at here d d1 → Wrote (fitting d1 here area) here there d1 d2
       → Wrote (fitting d2 there (take (length f - inner) (drop inner f))) there end d2 d3 → Wrote (restWith area f h) at end d d3
-  with-written d2 d3 inner there end ei q r =
-      let two = copied-on first q refl (omega (arith, rest-long f h area)) in
-      rw (rest-is f h area)
-      (copied-on two r (lent-rest f inner ∙ rw ei) (omega (arith, rest-long f h area, length-drop (innerStart h) f, length-append (head f h area) area)))
+  with-written d1 d2 d3 here there inner words end ew ei p q r =
+      let long = rest-long f h area in
+      let six = header-long f h (frame-read f h (fits .read) .whole) (length area / 4) in
+      let head = headerSent f h (length area / 4) in
+      let two = copied-on (rw ew at p) q refl (omega (arith, fits .room, long, six)) in
+      rw (rest-is f h (fits .read) small area)
+      (copied-on two r (lent-rest f inner ∙ rw ei) (omega (arith, fits .room, long, six, length-drop (innerStart h) f, length-append head area)))
 
--- area and inner frame as they were received, copied behind the header
-module _ (f : List ℕ) (h : Header) (d : List ℕ) (at : ℕ) (fits : Fits (areaOf f h) f h d at) where
+-- all behind the first word as it was received
+module _ (f : List ℕ) (h : Header) (d : List ℕ) (at : ℕ) (fits : Fits (areaOf f h) f h d at) (small : (i : ℕ) → Val.Fits w8 (getD f i 0)) where
   area-long : length (areaOf f h) ≡ 4 * opLength (h .word)
   area-long = length-part f (h .place + 6) (4 * opLength (h .word)) (fits .area-whole)
 
-  pub whole-written : (d1 octets : List ℕ) (here word words : ℕ) → words ≡ opLength (h .word) → word ≡ sentBy (h .word) words
-      → octets ≡ headerOctets word (h .egress) (h .ingress) → Wrote (fitting d at octets) at here d d1 → (d2 : List ℕ) (end : ℕ)
-      → Wrote (fitting d1 here (take (length f - (h .place + 6)) (drop (h .place + 6) f))) here end d1 d2 → Wrote (restWith (areaOf f h) f h) at end d d2
-  whole-written d1 octets here word words ew es eh p d2 end q =
+  pub whole-written : (octets d1 d2 : List ℕ) (here words end : ℕ) → words ≡ opLength (h .word) → octets ≡ octets16 (sentBy (h .word) words)
+      → Wrote (fitting d at octets) at here d d1
+      → Wrote (fitting d1 here (take (length f - (h .place + 2)) (drop (h .place + 2) f))) here end d1 d2 → Wrote (restWith (areaOf f h) f h) at end d d2
+  whole-written octets d1 d2 here words end ew eo p q =
       let area = areaOf f h in
+      let four = part f (h .place + 2) 4 in
+      let word = octets16 (sentBy (h .word) (length area / 4)) in
       let quarter : words ≡ length area / 4 = omega (arith, area-long, ew) in
-      rw (rest-is f h area, append-assoc (head f h area) area (innerOf f h), drop-part f (h .place + 6) (4 * opLength (h .word)))
-      (copied-on (first area f h d at fits d1 octets here word (es ∙ rw quarter) eh p) q (lent-rest f (h .place + 6))
-      (omega (arith, length-drop (h .place + 6) f, rest-long f h area, area-long)))
+      let next : h .place + 2 + 4 ≡ h .place + 6 = omega arith in
+      let behind : four ++ (area ++ innerOf f h) ≡ drop (h .place + 2) f =
+      rw (drop-part f (h .place + 6) (4 * opLength (h .word))) (rw next at (drop-part f (h .place + 2) 4)) in
+      let first : Wrote word at here d d1 = copied p (rw quarter at eo) (omega (arith, fits .room, rest-long f h area)) in
+      rw (rest-is f h (fits .read) small area, append-assoc (word ++ four) area (innerOf f h), append-assoc word four (area ++ innerOf f h), behind)
+      (copied-on first q (lent-rest f (h .place + 2)) (omega (arith, fits .room, length-drop (h .place + 2) f, rest-long f h area, area-long)))
 
-pub ruleset forward-laws = (needs, with-written, whole-written)
+pub word-written : (n w words a b : ℕ) → n ≡ sentBy w words → a ≡ n / 256 % 256 → b ≡ n % 256 → (a ∷ b ∷ []) ≡ octets16 (sentBy w words)
+word-written n w words a b e ea eb = rw (← e, ea, eb)
+
+pub ruleset word-laws = (needs, word-written)
+
+module _ {area f : List ℕ} {h : Header} {d : List ℕ} {at : ℕ} (fits : Fits area f h d at) where
+  pub fits-near : h .place ≤ 18
+  fits-near = omega (arith, frame-read f h (fits .read) .its-place, link-length f)
+
+  pub fits-whole : h .place + 6 ≤ length f
+  fits-whole = frame-read f h (fits .read) .whole
+
+  pub fits-header : at + 6 ≤ length d
+  fits-header = omega (arith, fits .room, rest-long f h area)
+
+pub ruleset forward-laws = (needs, fits-near, fits-whole, fits-header, with-written, whole-written)
+
+pub ruleset header-laws = (needs, header-written)
 
 -- the 28 octets of a reply, and its buffer
 module _ (own : Own) (ingress number code : ℕ) where

@@ -156,9 +156,6 @@ taggedOctets vlan = octets16 ethertypeTag ++ octets16 vlan ++ octets16 ethertype
 abbrev pub linkSize : ℕ → ℕ
 linkSize vlan = if eqb vlan 0 then 14 else 18
 
-abbrev pub headerOctets : ℕ → ℕ → ℕ → List ℕ
-headerOctets word egress ingress = octets16 word ++ octets16 egress ++ octets16 ingress
-
 -- the 28 octets of a reply between its link header and its body
 abbrev pub replyOctets : Own → ℕ → ℕ → ℕ → List ℕ
 replyOctets own ingress number code =
@@ -177,12 +174,16 @@ replyOctets own ingress number code =
 abbrev pub sentBy : ℕ → ℕ → ℕ
 sentBy w words = headerWord (version w) (reserved w) (multi w) words (hopCount w - 1)
 
+-- the header as sent, its nicknames as they were received
+abbrev pub headerSent : List ℕ → Header → ℕ → List ℕ
+headerSent f h words = octets16 (sentBy (h .word) words) ++ part f (h .place + 2) 4
+
 unfoldable pub restWith : List ℕ → List ℕ → Header → List ℕ
-restWith area f h = headerOctets (sentBy (h .word) (length area / 4)) (h .egress) (h .ingress) ++ area ++ innerOf f h
+restWith area f h = octets16 (sentBy (h .word) (length area / 4)) ++ octets16 (h .egress) ++ octets16 (h .ingress) ++ area ++ innerOf f h
 
 -- a frame whose area is whole and whose hop count is not 0, and room to forward it from `at` on with an area as it is sent
 pub record Fits (area f : List ℕ) (h : Header) (out : List ℕ) (at : ℕ) : Type 0 where
-  pub place-small : h .place ≤ 18
+  pub read : readFrame f ≡ Trill h
   pub area-whole : innerStart h ≤ length f
   pub hops-left : 0 < hopCount (h .word)
   pub area-short : length area ≤ 124

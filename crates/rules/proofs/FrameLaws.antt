@@ -129,6 +129,8 @@ pub record IsTrill (f : List ℕ) (h : Header) : Type 0 where
   pub word-fits : h .word < 65536
   pub egress-fits : h .egress < 65536
   pub ingress-fits : h .ingress < 65536
+  pub its-egress : h .egress ≡ be16 f (h .place + 2)
+  pub its-ingress : h .ingress ≡ be16 f (h .place + 4)
 
 -- whatever is read: a header, or 10 or 11
 abbrev pub FrameFound : List ℕ → FrameRead → Type 0

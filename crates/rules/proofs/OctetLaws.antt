@@ -1,18 +1,27 @@
 -- Laws of octet strings: what is written reads back, reading across a seam, and buffers after one write or two. By computation and append laws.
 --
 use mathlib.Core.Path.{_≡_, refl}
-use mathlib.Core.List.{List, [], _++_, append-assoc, append-nil}
-use Prim.Native.Nat.{ℕ, _+_, _-_, _<_, _≤_}
+use mathlib.Core.List.{List, [], _∷_, _++_, append-assoc, append-nil}
+use Prim.Native.Nat.{ℕ, _+_, _-_, _/_, _%_, _<_, _≤_}
 use native.Mathlib.Omega.{arith}
 use native.Mathlib.Nat.{zero-add, add-zero, add-assoc}
-use lib.ListN.{length, take, drop, length-append, length-drop, drop-of-length-le, take-append-drop, List·getD-append}
-use lib.Seq.{take-all, take-append-seam, take-at, drop-append-add, drop-drop, length-take-le, getD-append-add, getD-drop, getD-take}
+use native.Mathlib.Numerals.{add-one}
+use lib.ListN.{length, getD, take, drop, length-append, length-drop, drop-of-length-le, take-append-drop, List·getD-append}
+use lib.Seq.{drop-cons, take-all, take-append-seam, take-at, drop-append-add, drop-drop, length-take-le, getD-append-add, getD-drop, getD-take}
 use Rattle.rules.proofs.TestLaws.{by-order}
 use Rattle.rules.specs.Octets.{octet, be16, octets16, part, put}
 
 -- sixteen bits written read back
 pub be16-octets16 : (n : ℕ) (t : List ℕ) → n < 65536 → be16 (octets16 n ++ t) 0 ≡ n
 be16-octets16 n t fits = omega arith
+
+-- and sixteen bits read are written as they were
+pub octets16-be16 : (s : List ℕ) (n : ℕ) → ((i : ℕ) → getD s i 0 < 256) → n + 1 < length s → octets16 (be16 s n) ≡ part s n 2
+octets16-be16 s n small h =
+    let high : be16 s n / 256 % 256 ≡ getD s n 0 = omega (arith, small n, small (n + 1)) in
+    let low : be16 s n % 256 ≡ getD s (n + 1) 0 = omega (arith, small n, small (n + 1)) in
+    let there : drop n s ≡ getD s n 0 ∷ drop (n + 1) s = rw add-one (drop-cons s n 0 (omega arith)) in
+    rw (there, drop-cons s (n + 1) 0 h) (cc (high, low))
 
 -- reading before and after a seam
 module _ (s t : List ℕ) where
