@@ -23,8 +23,8 @@ use ruleLaws.OutcomeLaws.{campus-short, campus-refused, campus-needed, campus-ac
 use ruleLaws.DemandLaws.{plain-run, plain-most, plain-room, demand}
 use ruleLaws.AlikeLaws.{Both, Same, run-alike}
 use ruleLaws.SingleLaws.{Draft, edition-1-all, single, one-reply}
-use Rattle.octets.specs.Copy.{putFitting}
-use Rattle.octets.proofs.Ends.{put-fits}
+use Rattle.octets.specs.Copy.{Wrote, fitting}
+use Rattle.octets.proofs.Ends.{copied}
 use Rattle.campus.specs
 use specs.declared.switches.Named.{Named}
 use specs.declared.switches.Named.the-variants.{At, Unknown}
@@ -58,14 +58,14 @@ module _ (s : List ℕ) (clock : ℕ) where
     pub clock-within : clock + 6 ≤ length s
     clock-within = omega (arith, simp (length-take, length-drop) at part-six)
 
-    pub clock-copied : (c : List ℕ) → c ≡ putFitting (0 ∷ 0 ∷ 0 ∷ 0 ∷ 0 ∷ 0 ∷ []) 0 (take (clock + 6 - clock) (drop clock s))
-        → c ≡ clockFrom s clock
-    clock-copied c e =
-        let zeros : List ℕ = 0 ∷ 0 ∷ 0 ∷ 0 ∷ 0 ∷ 0 ∷ [] in
+    abbrev zeros : List ℕ
+    zeros = 0 ∷ 0 ∷ 0 ∷ 0 ∷ 0 ∷ 0 ∷ []
+
+    pub clock-copied : (c : List ℕ) (end : ℕ) → Wrote (fitting zeros 0 (take (clock + 6 - clock) (drop clock s))) 0 end zeros c → c ≡ clockFrom s clock
+    clock-copied c end e =
         let q : clock + 6 - clock ≡ 6 = omega arith in
-        e
-        ∙ rw (q, clock-some)
-        (put-fits zeros 0 (part s clock 6) (omega (arith, part-six)) ∙ put-front zeros (part s clock 6) ∙ rw part-six (append-nil (part s clock 6)))
+        let w = copied e (ap (part s clock) q) (omega (arith, part-six)) in
+        w .after ∙ rw clock-some (put-front zeros (part s clock 6) ∙ rw part-six (append-nil (part s clock 6)))
 
 pub ruleset clock-of-laws = (needs, clock-none, clock-within, lt-of-le-of-lt, clock-copied)
 

@@ -14,10 +14,10 @@ use lib.ListN.{length, getD, take, drop, length-take, length-drop, take-append-d
 use lib.Seq.{length-take-le, take-append-le, drop-append-le, take-append-seam, drop-at}
 use Rattle.rules.specs.Octets.{be16, put}
 use Rattle.rules.specs.Campus.{switchNamed, Kind, Waiting, writesReply, inCampus, staying, firstWaiting}
-use Rattle.rules.proofs.OctetLaws.{length-put, put-put, take-put}
+use Rattle.rules.proofs.OctetLaws.{length-put, take-put}
 use Rattle.rules.proofs.{NextLaws.stays-none, NextLaws.stays-in, NextLaws.stays-left, TestLaws.by-test}
-use Rattle.octets.specs.Copy.{putFitting}
-use Rattle.octets.proofs.Ends.{put-fits}
+use Rattle.octets.specs.Copy.{Wrote, fitting}
+use Rattle.octets.proofs.Ends.{copied, copied-on}
 use Rattle.handler.specs.declared.answers.Answer.{Answer}
 use Rattle.campus.specs
 use specs.declared.switches.Named.{Named}
@@ -46,8 +46,8 @@ module _ (d : List ℕ) (at : ℕ) (s : List ℕ) (room : at + length s ≤ leng
   at-put = rw (append-assoc, drop-at (take at d) (s ++ drop (at + length s) d) at put-long) (take-append-seam s (drop (at + length s) d))
 
 -- what a copy to the start of a buffer leaves there
-pub copied-begins : (cur cur′ s : List ℕ) → cur′ ≡ putFitting cur 0 s → length s ≤ length cur → take (length s) cur′ ≡ s
-copied-begins cur cur′ s c room = rw (c ∙ put-fits cur 0 s (omega arith)) (take-put cur s)
+pub copied-begins : {cur cur′ s : List ℕ} {end : ℕ} → Wrote (fitting cur 0 s) 0 end cur cur′ → length s ≤ length cur → take (length s) cur′ ≡ s
+copied-begins {cur} {s = s} c room = rw (copied c refl (omega arith) .after) (take-put cur s)
 
 pub ruleset front-laws = (needs, length-take-le)
 
@@ -66,16 +66,12 @@ module _ (waiting : List ℕ) (tail i : ℕ) (f : List ℕ) (free : Free waiting
   room : tail * 579 + length (slotOctets i f) ≤ length waiting
   room = omega arith
 
-  pub slot-put : {high low : ℕ} {waiting₁ waiting₂ : List ℕ} → waiting₂ ≡ putFitting waiting₁ (tail * 579 + 3) f
-      → waiting₁ ≡ putFitting waiting (tail * 579) (i ∷ high ∷ low ∷ []) → high ≡ length f / 256 % 256 → low ≡ length f % 256
+  pub slot-put : {high low here end : ℕ} {waiting₁ waiting₂ : List ℕ} → Wrote (fitting waiting₁ here f) here end waiting₁ waiting₂
+      → Wrote (fitting waiting (tail * 579) (i ∷ high ∷ low ∷ [])) (tail * 579) here waiting waiting₁ → high ≡ length f / 256 % 256 → low ≡ length f % 256
       → waiting₂ ≡ put waiting (tail * 579) (slotOctets i f)
-  slot-put {waiting₁ = waiting₁} e₂ e₁ a b =
-      let mark : List ℕ = i ∷ length f / 256 % 256 ∷ length f % 256 ∷ [] in
-      let fits : tail * 579 + length mark ≤ length waiting = omega arith in
-      let first : waiting₁ ≡ put waiting (tail * 579) mark = e₁ ∙ rw (a, b) (put-fits waiting (tail * 579) mark fits) in
-      e₂
-      ∙ rw first (put-fits (put waiting (tail * 579) mark) (tail * 579 + 3) f (rw (length-put waiting (tail * 579) mark fits) (omega arith)))
-      ∙ put-put waiting (tail * 579) mark fits (tail * 579 + 3) f (omega arith) (omega arith)
+  slot-put {here = here} {waiting₁ = waiting₁} w₂ w₁ a b =
+      let first : Wrote (i ∷ length f / 256 % 256 ∷ length f % 256 ∷ []) (tail * 579) here waiting waiting₁ = copied w₁ (rw (a, b)) (omega arith) in
+      copied-on first w₂ refl (omega arith) .after
 
   after-long : length (put waiting (tail * 579) (slotOctets i f)) ≡ length waiting
   after-long = length-put waiting (tail * 579) (slotOctets i f) room
@@ -234,14 +230,14 @@ module _ {w starts : List ℕ} {n : ℕ} {waiting : List ℕ} {head tail : ℕ} 
         pub first-part : 3 + size - 3 ≡ length (take (3 + size - 3) (drop 3 slot))
         first-part = sym (length-take-le (3 + size - 3) (drop 3 slot) (rw length-drop (omega (arith, first-ends))))
 
-        pub leads-first : (i : ℕ) → i ≡ getD slot 0 0 → (cur cur′ : List ℕ) → cur′ ≡ putFitting cur 0 (take (3 + size - 3) (drop 3 slot))
-            → length cur ≡ 2048
+        pub leads-first : (i : ℕ) → i ≡ getD slot 0 0 → (cur cur′ : List ℕ) (end : ℕ)
+            → Wrote (fitting cur 0 (take (3 + size - 3) (drop 3 slot))) 0 end cur cur′ → length cur ≡ 2048
             → Leads w starts n waiting head tail cur′ (To (record { switch = i; replied = true; size = size; head = head + 1; tail = tail })) firstWaiting
         unfolding firstWaiting
-        leads-first i there cur cur′ c long =
+        leads-first i there cur cur′ end c long =
             let less : 3 + size - 3 ≡ size = omega arith in
             let piece : length (take size (drop 3 slot)) ≡ size = sym (rw less at first-part) in
-            let begins = copied-begins cur cur′ (take size (drop 3 slot)) (rw less at c) (omega (arith, size-small)) in
+            let begins = copied-begins (rw less at c) (omega (arith, size-small)) in
             let one : head + 1 ≡ suc head = omega arith in
             record {
               leads = λ q.
@@ -293,7 +289,7 @@ module _ (w starts : List ℕ) (n : ℕ) (a : Answer) where
       next-waiting e kind first = record { leads = λ q h. rw (sent-nowhere e) (first .leads q h) }
 
       pub next-on : NextReady w starts n a waiting head tail → {i : ℕ} (replied : Bool) {f : List ℕ} → found ≡ At i → f ≡ take (a .written) out
-          → length out ≡ 2048 → (cur : List ℕ) {cur′ : List ℕ} → cur′ ≡ putFitting cur 0 f → length cur ≡ 2048
+          → length out ≡ 2048 → (cur : List ℕ) {cur′ : List ℕ} {end : ℕ} → Wrote (fitting cur 0 f) 0 end cur cur′ → length cur ≡ 2048
           → Leads w starts n waiting head tail cur′ (To (record { switch = i; replied = replied; size = a .written; head = head; tail = tail }))
           (onwardBy (switchesIn w starts n) (kindBy replied) a out)
       unfolding onwardBy
@@ -301,7 +297,7 @@ module _ (w starts : List ℕ) (n : ℕ) (a : Answer) where
           let s = sent-at i e in
           let stays : inCampus (switchesIn w starts n) (a .neighbour) ≡ true = rw (s .1 .1) in
           let size : length f ≡ a .written = rw held (length-take-le (a .written) out (omega arith)) in
-          let begins : take (a .written) cur′ ≡ f = rw size at (copied-begins cur cur′ f c (omega arith)) in
+          let begins : take (a .written) cur′ ≡ f = rw size at (copied-begins c (omega arith)) in
           let is-frame = begins ∙ held in
           record { leads = λ q h. rw (s .0, stays) (search) }
 

@@ -9,7 +9,7 @@ use native.Mathlib.Numerals.{add-one}
 use borrow.Author.Needs.{needs}
 use borrow.Author.Tests.{eqb-true, eqb-false}
 use lib.Dec.{eqb}
-use lib.ListN.{length, getD, take, drop, length-take, replicate, length-append, length-replicate}
+use lib.ListN.{length, getD, take, drop, length-take, length-append}
 use Rattle.rules.specs as rules
 use rules.{Octets.octet, Octets.be16, Octets.put, Settings.Settings, Settings.waysOf, Link.linkLength, Link.linkEthertype, Link.ethertypeTrill}
 use rules.{Header.hopCount, Header.readFrame, Handling.handling, Answer.Handled, Demand.repliesIn}
@@ -23,8 +23,8 @@ use ruleLaws.HandlingLaws.{frame-handled, handling-unread, unread-number}
 use ruleLaws.FrameLaws.{frame-read, length-tagged, length-plain, read-trill, read-other}
 use ruleLaws.OctetLaws.{length-put, put-put, put-none, take-put}
 use ruleLaws.RunLaws.{run-step, rest, no-replies, replies-on, length-trace}
-use Rattle.octets.specs.Copy.{putFitting}
-use Rattle.octets.proofs.Ends.{put-fits}
+use Rattle.octets.specs.Copy.{Wrote, fitting}
+use Rattle.octets.proofs.Ends.{copied}
 use Rattle.stores.specs.Store.{handledIn}
 use Rattle.handler.specs.declared.answers.Answer.{Answer}
 use Rattle.handler.specs.Tasks.{Both}
@@ -107,13 +107,13 @@ is-readable {f} given h =
 pub ruleset received-laws = (needs, is-readable)
 
 -- an entry's eight octets, written where there is room for them
-pub entry-put : {trace′ : List ℕ} (trace : List ℕ) (at nickname : ℕ) (replied : Bool) (number : ℕ) (f : List ℕ) {a b kind : ℕ} {h : HopEgress} {x y : ℕ}
-    → trace′ ≡ putFitting trace at (a ∷ b ∷ kind ∷ number ∷ h .hop ∷ 0 ∷ x ∷ y ∷ []) → h ≡ receivedOf f → a ≡ nickname / 256 % 256
+pub entry-put : {trace′ : List ℕ} (trace : List ℕ) (at nickname : ℕ) (replied : Bool) (number : ℕ) (f : List ℕ) {a b kind : ℕ} {h : HopEgress} {x y end : ℕ}
+    → Wrote (fitting trace at (a ∷ b ∷ kind ∷ number ∷ h .hop ∷ 0 ∷ x ∷ y ∷ [])) at end trace trace′ → h ≡ receivedOf f → a ≡ nickname / 256 % 256
     → b ≡ nickname % 256 → kind ≡ kindOctet (kindBy replied) → x ≡ h .egress / 256 % 256 → y ≡ h .egress % 256 → at + 8 ≤ length trace
     → trace′ ≡ put trace at (entryBy nickname (kindBy replied) number f)
 unfolding receivedOf
-entry-put trace at nickname replied number f {a} {b} {kind} {h} {x} {y} w r ea eb ek ex ey room =
-    w ∙ put-fits trace at (a ∷ b ∷ kind ∷ number ∷ h .hop ∷ 0 ∷ x ∷ y ∷ []) (omega arith) ∙ rw (ea, eb, ek, ex, ey, r)
+entry-put trace at nickname replied number f w r ea eb ek ex ey room =
+    copied w refl (omega arith) .after ∙ rw (ea, eb, ek, ex, ey, r)
 
 pub ruleset put-entry-laws = (needs, entry-put)
 
@@ -252,10 +252,10 @@ pub record RunSoFar (w starts : List ℕ) (n first : ℕ) (clock frame waiting�
   pub same-waiting : length waiting ≡ length waiting₀
 
 pub run-begins : {w starts : List ℕ} {n first : ℕ} {clock frame waiting₀ trace₀ : List ℕ} → LoopReady w starts n first clock frame waiting₀ trace₀
-    → {cur : List ℕ} → cur ≡ putFitting (replicate 2048 0) 0 frame
+    → {zeros cur : List ℕ} {end : ℕ} → Wrote (fitting zeros 0 frame) 0 end zeros cur → length zeros ≡ 2048
     → RunSoFar w starts n first clock frame waiting₀ trace₀ waiting₀ trace₀ cur
     (record { switch = first; replied = false; size = length frame; head = 0; tail = 0 }) 0
-run-begins {w} {starts} {n} {first} {clock} {frame} {waiting₀} {trace₀} ready {cur} e =
+run-begins {w} {starts} {n} {first} {clock} {frame} {waiting₀} {trace₀} ready e long =
     record {
       ready = ready;
       done = [];
@@ -263,7 +263,7 @@ run-begins {w} {starts} {n} {first} {clock} {frame} {waiting₀} {trace₀} read
       queue = [];
       long = refl;
       is = rw trace-none (sym (put-none trace₀ 0));
-      remains = rw (copied-begins (replicate 2048 0) cur frame e (rw (length-replicate {A = ℕ} 2048 0) (ready .short)));
+      remains = rw (copied-begins e (omega arith));
       holds = search;
       made = omega arith;
       most = omega arith;
@@ -323,8 +323,7 @@ module _ {w starts : List ℕ} {n first : ℕ} {clock frame waiting₀ trace₀ 
           let long = length-trace (l .done) in
           did .traced
           ∙ rw (l .is, trace-snoc)
-          (put-put trace₀ 0 (traceOctets (l .done)) (omega (arith, enough)) (k * 8) (entryOctets state)
-          (omega arith) (omega (arith, entry-length state, enough)))
+          (put-put trace₀ 0 (traceOctets (l .done)) (k * 8) (entryOctets state) (omega arith))
 
       pub trace-same : length trace′ ≡ length trace₀
       trace-same =

@@ -161,14 +161,13 @@ fn put_slot(waiting: &mut [u8], h: usize, i: usize, f: &[u8])
     requires { ⌜ Free (now waiting) h × (i < 16) × (length (now f) ≤ 576) ⌝ }
     ensures { λ _. ⌜ now (waiting .exit) ≡ put (now (waiting .entry)) (h * 579) (slotOctets i (now (f .entry))) ⌝ }
 {
-    let at = h * 579;
     let size = f.len() as u16;
-    octets::copy(
+    let at = octets::copy(
         waiting,
-        at,
+        h * 579,
         &[i as u8, octets::high(size), octets::low(size)],
     );
-    octets::copy(waiting, at + 3, f);
+    octets::copy(waiting, at, f);
 }
 
 // A reply to a switch of the campus waits in the slot behind the last; any other has left. Answers where the slots end then.

@@ -78,11 +78,11 @@ pub wrote-none : (out : List ℕ) (at : ℕ) → Wrote [] at at out out
 wrote-none out at = record { ends = sym (add-zero at); after = sym (put-none out at) }
 
 module _ (out : List ℕ) (at : ℕ) (s : List ℕ) where
-  fits-all : at + length s ≤ length out → fitting out at s ≡ s
+  pub fits-all : at + length s ≤ length out → fitting out at s ≡ s
   unfolding fitting
   fits-all h = simp tests
 
-  copy-none : length out < at + length s → Wrote (fitting out at s) at at out out
+  pub copy-none : length out < at + length s → Wrote (fitting out at s) at at out out
   unfolding fitting
   copy-none h = simp tests (wrote-none out at)
 

@@ -1,18 +1,17 @@
 -- The text as the code makes it, digit by digit, piece by piece and line by line. By computation and the laws of buffers; one law for each
 -- need, for `search` to cite.
-use mathlib.Core.Path.{_≡_, refl, sym, _∙_}
+use mathlib.Core.Path.{_≡_, refl}
 use mathlib.Core.List.{List, [], _∷_, _++_, append-assoc, append-nil}
 use Prim.Native.Nat.{ℕ, suc, _+_, _-_, _*_, _/_, _%_, _<_, _≤_}
 use native.Mathlib.Omega.{arith}
 use borrow.Author.Needs.{needs}
 use borrow.Author.Tests.{eq-eqb, ne-eqb, lt-ltb, le-ltb}
-use lib.ListN.{length, getD, take, drop, length-append, length-drop}
+use lib.ListN.{length, getD, take, drop, length-drop}
 use lib.Seq.{drop-drop}
 use Rattle.rules.specs.Text.{ascii, lineFeed, hexDigit, decimal}
-use Rattle.rules.proofs.OctetLaws.{length-put, put-put, put-none}
 use Rattle.rules.proofs.TextLaws.{decimal-one, decimal-two, decimal-three, decimal-four}
-use Rattle.octets.specs.Copy.{putFitting}
-use Rattle.octets.proofs.Ends.{put-fits}
+use Rattle.octets.specs.Copy.{Wrote, fitting}
+use Rattle.octets.proofs.Ends.{copied, joined, wrote-none, wrote-long}
 use Rattle.campus.proofs.StoresLaws.{lent}
 use Rattle.text.specs.Print.{PutAt, letterOf, headOf, tailOf, lineOf, linesOf, textOf}
 
@@ -40,62 +39,60 @@ module _ (kind : ℕ) where
 pub ruleset letter-laws = (needs, letter-original, letter-reply)
 
 -- one piece copied, and two pieces one after the other
-put-copied : {out out′ : List ℕ} {at end most : ℕ} {s t : List ℕ} → out′ ≡ putFitting out at s → at + length s ≤ length out → length s ≤ most
-    → end ≡ at + length s → s ≡ t → PutAt out out′ at end most t
-put-copied {out} {at = at} {s = s} w room short e same = rw (← same) (record { is = w ∙ put-fits out at s room; ends = e; short = short })
+put-copied : {out out′ s t : List ℕ} {at end most : ℕ} → Wrote (fitting out at s) at end out out′ → at + length s ≤ length out → length s ≤ most → s ≡ t
+    → PutAt out out′ at end most t
+put-copied w room short same = let c = copied w refl room in rw (← same) (record { wrote = c; short = omega arith })
 
 put-on : {out mid out′ : List ℕ} {at here end m n : ℕ} {s t : List ℕ} → PutAt out mid at here m s → PutAt mid out′ here end n t
-    → at + (m + n) ≤ length out → PutAt out out′ at end (m + n) (s ++ t)
-put-on {out} {at = at} {here = here} {s = s} {t = t} a b room =
-    record {
-      is = b .is ∙ rw (a .is) (put-put out at s (omega arith) here t (a .ends) (omega arith));
-      ends = rw length-append (omega arith);
-      short = rw length-append (omega arith);
-    }
-
-put-same : {out out′ : List ℕ} {at end most : ℕ} {s : List ℕ} → PutAt out out′ at end most s → at + most ≤ length out → length out′ ≡ length out
-put-same {out} {at = at} {s = s} p room = rw (p .is) (length-put out at s (omega arith))
+    → PutAt out out′ at end (m + n) (s ++ t)
+put-on a b = record { wrote = joined (a .wrote) (b .wrote); short = omega arith }
 
 -- a number of one, two, three or four digits
-module _ (out out′ : List ℕ) (at n : ℕ) (room : at + 4 ≤ length out) (last : ℕ) (is-last : last ≡ 48 + n % 10) where
-  pub put-one : out′ ≡ putFitting out at (last ∷ []) → n < 10 → PutAt out out′ at (at + 1) 4 (decimal n)
+module _ (out out′ : List ℕ) (at end n : ℕ) (room : at + 4 ≤ length out) (last : ℕ) (is-last : last ≡ 48 + n % 10) where
+  pub put-one : Wrote (fitting out at (last ∷ [])) at end out out′ → n < 10 → PutAt out out′ at end 4 (decimal n)
   put-one w h =
       let one : last ≡ 48 + n = omega arith in
-      put-copied w (omega arith) (omega arith) refl (rw one (decimal-one n h))
+      put-copied w (omega arith) (omega arith) (rw one (decimal-one n h))
 
   module _ (tens : ℕ) (is-tens : tens ≡ 48 + n / 10 % 10) where
-    pub put-two : out′ ≡ putFitting out at (tens ∷ last ∷ []) → 10 ≤ n → n < 100 → PutAt out out′ at (at + 2) 4 (decimal n)
+    pub put-two : Wrote (fitting out at (tens ∷ last ∷ [])) at end out out′ → 10 ≤ n → n < 100 → PutAt out out′ at end 4 (decimal n)
     put-two w h k =
         let two : tens ≡ 48 + n / 10 = omega arith in
-        put-copied w (omega arith) (omega arith) refl (rw (two, is-last) (decimal-two n h k))
+        put-copied w (omega arith) (omega arith) (rw (two, is-last) (decimal-two n h k))
 
     module _ (hundreds : ℕ) (is-hundreds : hundreds ≡ 48 + n / 100 % 10) where
-      pub put-three : out′ ≡ putFitting out at (hundreds ∷ tens ∷ last ∷ []) → 100 ≤ n → n < 1000 → PutAt out out′ at (at + 3) 4 (decimal n)
+      pub put-three : Wrote (fitting out at (hundreds ∷ tens ∷ last ∷ [])) at end out out′ → 100 ≤ n → n < 1000 → PutAt out out′ at end 4 (decimal n)
       put-three w h k =
           let three : hundreds ≡ 48 + n / 10 / 10 = omega arith in
-          put-copied w (omega arith) (omega arith) refl (rw (three, is-tens, is-last) (decimal-three n h k))
+          put-copied w (omega arith) (omega arith) (rw (three, is-tens, is-last) (decimal-three n h k))
 
-      pub put-four : (first : ℕ) → first ≡ 48 + n / 1000 % 10 → out′ ≡ putFitting out at (first ∷ hundreds ∷ tens ∷ last ∷ [])
-          → 1000 ≤ n → n < 10000
-          → PutAt out out′ at (at + 4) 4 (decimal n)
+      pub put-four : (first : ℕ) → first ≡ 48 + n / 1000 % 10 → Wrote (fitting out at (first ∷ hundreds ∷ tens ∷ last ∷ [])) at end out out′
+          → 1000 ≤ n → n < 10000 → PutAt out out′ at end 4 (decimal n)
       put-four first is-first w h k =
           let four : first ≡ 48 + n / 10 / 10 / 10 = omega arith in
           let three : hundreds ≡ 48 + n / 10 / 10 % 10 = omega arith in
-          put-copied w (omega arith) (omega arith) refl (rw (four, three, is-tens, is-last) (decimal-four n h k))
+          put-copied w (omega arith) (omega arith) (rw (four, three, is-tens, is-last) (decimal-four n h k))
 
 pub ruleset put-decimal-laws = (needs, put-one, put-two, put-three, put-four)
 
 -- three pieces
-pub put-between : {out out₁ out₂ out′ : List ℕ} {at end : ℕ} (s : List ℕ) {t : List ℕ} (u : List ℕ) → out₁ ≡ putFitting out at s
-    → PutAt out₁ out₂ (at + length s) end 4 t → out′ ≡ putFitting out₂ end u → at + (length s + 4 + length u) ≤ length out
-    → PutAt out out′ at (end + length u) (length s + 4 + length u) (s ++ t ++ u)
-put-between {out} {out₁} {out₂} {out′} {at} {end} s u w p w′ room =
-    let a : PutAt out out₁ at (at + length s) (length s) s = put-copied w (omega arith) (omega arith) refl refl in
-    let b = put-on a p (omega arith) in
-    let c : PutAt out₂ out′ end (end + length u) (length u) u = put-copied w′ (omega (arith, put-same b (omega arith))) (omega arith) refl refl in
-    put-on b c (omega arith)
+module _ {out mid : List ℕ} {at here : ℕ} (s u : List ℕ) (w : Wrote (fitting out at s) at here out mid)
+    (room : at + (length s + 4 + length u) ≤ length out) where
+  first : Wrote s at here out mid
+  first = copied w refl (omega arith)
 
-pub ruleset put-number-laws = (needs, put-between)
+  pub number-room : length mid ≡ length out → here + 4 ≤ length mid
+  number-room same = let a = first in omega arith
+
+  pub put-between : {mid′ out′ t : List ℕ} {there end : ℕ} → PutAt mid mid′ here there 4 t → Wrote (fitting mid′ there u) there end mid′ out′
+      → PutAt out out′ at end (length s + 4 + length u) (s ++ t ++ u)
+  put-between p v =
+      let a = first in
+      let b = joined a (p .wrote) in
+      let c = copied v refl (omega (arith, wrote-long b (omega arith))) in
+      record { wrote = joined b c; short = omega arith }
+
+pub ruleset put-number-laws = (needs, number-room, put-between)
 
 -- a line, its parts around the answer
 pub put-line : {out out′ : List ℕ} {at end : ℕ} (e : List ℕ) {head tail : List ℕ} {n : ℕ}
@@ -127,7 +124,7 @@ writing-begin out₀ trace count =
     let e : count - 0 ≡ count = omega arith in
     record {
       done = [];
-      so-far = record { is = sym (put-none out₀ 0); ends = refl; short = omega arith };
+      so-far = record { wrote = wrote-none out₀ 0; short = omega arith };
       rest = rw e;
       most = omega arith;
       same = refl;
@@ -150,13 +147,13 @@ module _ {out₀ trace : List ℕ} {count : ℕ} {out : List ℕ} {at k : ℕ} (
         let e : count - k ≡ suc (count - (k + 1)) = omega arith in
         let q : (k + 1) * 8 ≡ k * 8 + 8 = omega arith in
         let n : (k + 1) * 20 ≡ k * 20 + 20 = omega arith in
-        let w = put-on (l .so-far) (rw lent at p) (omega arith) in
+        let w = put-on (l .so-far) (rw lent at p) in
         record {
           done = l .done ++ lineOf (drop (k * 8) trace);
           so-far = rw n w;
           rest = rw (append-assoc, q, ← drop-drop 8 (k * 8) trace) (rw (e, line-first) at (l .rest));
           most = omega arith;
-          same = put-same w (omega arith);
+          same = wrote-long (w .wrote) (omega arith);
         }
 
 pub ruleset put-lines-laws = (needs, writing-begin, writing-end, line-entry, writing-on)
@@ -185,9 +182,8 @@ module _ (code count : ℕ) (trace : List ℕ) where
     put-refused p h = rw (← text-refused h) (search (arith, p))
 
     pub put-handled : (mid : List ℕ) (here : ℕ) → PutAt mid out′ here end 13 (handled-octets ++ decimal count ++ (10 ∷ []))
-        → PutAt out mid 0 here (count * 20) (linesOf count trace) → code ≡ 0 → count * 20 + 13 ≤ length out
-        → PutAt out out′ 0 end (count * 20 + 13) (textOf code count trace)
+        → PutAt out mid 0 here (count * 20) (linesOf count trace) → code ≡ 0 → PutAt out out′ 0 end (count * 20 + 13) (textOf code count trace)
     unfolding ascii
-    put-handled mid here q p h room = rw (← text-handled h) (put-on p q (omega arith))
+    put-handled mid here q p h = rw (← text-handled h) (put-on p q)
 
 pub ruleset put-text-laws = (needs, put-refused, put-handled)

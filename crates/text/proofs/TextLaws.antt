@@ -4,14 +4,14 @@ use mathlib.Core.Path.{_≡_, refl, sym, _∙_}
 use mathlib.Core.List.{List, [], _∷_, _++_, append-assoc}
 use Prim.Native.Nat.{ℕ, _*_, _/_, _%_, _<_, _≤_}
 use native.Mathlib.Omega.{arith}
+use native.Mathlib.Nat.{zero-add}
 use borrow.Author.Needs.{needs}
-use borrow.Author.Tests.{lt-leb, le-leb, leb-true, leb-false}
+use borrow.Author.Tests.{leb-true, leb-false}
 use lib.Dec.{leb}
 use lib.ListN.{length, take, drop, replicate, length-replicate}
 use lib.Seq.{length-take-le}
 use Rattle.rules.specs as rules
-use rules.Octets.{put}
-use Rattle.rules.proofs.{TestLaws.by-test, OctetLaws.length-put, OctetLaws.take-put, DescriptionLaws.accepted-good, OutcomeLaws.campus-refused}
+use Rattle.rules.proofs.{TestLaws.by-test, OctetLaws.take-put, DescriptionLaws.accepted-good, OutcomeLaws.campus-refused}
 use Rattle.rules.proofs.{OutcomeLaws.campus-needed, DemandLaws.plain-most, DemandLaws.plain-room}
 use rules.Campus.{Described, someEdition2, traceNeeded, Description, refused, accepted, described, State, plainRun, Kind, original, reply}
 use rules.Campus.{hopReceived, egressReceived, kindOctet, entryOctets, traceOctets}
@@ -20,8 +20,8 @@ use Rattle.rules.proofs.TextLaws.{refused-ranged, printed-refused, printed-acce
 use Rattle.text.specs.Print.{PutAt, letterOf, lineOf, linesOf, textOf, Printable, Written, TextDone, TextWhole}
 use Rattle.campus.specs.Done.{CampusDone}
 use Rattle.text.proofs.PrintLaws.{text-refused, text-handled}
-use Rattle.octets.specs.Copy.{putFitting}
-use Rattle.octets.proofs.Ends.{put-fits, put-not}
+use Rattle.octets.specs.Copy.{Wrote, fitting}
+use Rattle.octets.proofs.Ends.{fits-all, copy-none, copied, wrote-long}
 
 -- an entry's octets lose nothing that is printed
 hex-octet : (n : ℕ) → hex2 (n % 256) ≡ hex2 n
@@ -101,9 +101,7 @@ module _ {file trace₀ trace : List ℕ} {code count : ℕ} (done : CampusDone 
 
   pub text-done : (text text′ : List ℕ) (written needed : ℕ) → Written (textOf code count trace) text text′ written needed
       → TextDone file text text′ written needed
-  text-done text text′ written needed w =
-      let printed-so = rw (prints .text) at w in
-      search
+  text-done text text′ written needed w = rw (prints .text) at w
 
 -- 32,768 octets are enough for any, and 640 where the answer is not 49
 pub enough-2 : (file : List ℕ) → Enough file (replicate 32768 0)
@@ -137,22 +135,24 @@ module _ {out₀ out : List ℕ} {size most : ℕ} {s : List ℕ} (p : PutAt out
   size-is = omega arith
 
   begins : take size out ≡ s
-  begins = rw (p .is, size-is) (take-put out₀ s)
+  begins = rw (p .wrote .after, size-is) (take-put out₀ s)
 
   pub text-within : most ≤ length out₀ → size ≤ length out
-  text-within room = rw (p .is, length-put out₀ 0 s (omega arith)) (omega arith)
+  text-within room = omega (arith, wrote-long (p .wrote) (omega arith))
 
   module _ (text : List ℕ) where
     pub written-not : length text < size → Written s text text 0 size
-    written-not h = record { needs = size-is; says = rw (← size-is) (simp lt-leb); holds = put-not text 0 s (omega (arith, size-is)) }
+    written-not h = record { needs = size-is; wrote = copy-none text 0 s (omega (arith, size-is)) }
 
-    pub written-fits : (text′ : List ℕ) → text′ ≡ putFitting text 0 (take size out) → size ≤ length text → Written s text text′ size size
-    written-fits text′ w h = record { needs = size-is; says = rw (← size-is) (simp le-leb); holds = rw begins at w }
+    pub written-fits : (text′ : List ℕ) (end : ℕ) → Wrote (fitting text 0 (take size out)) 0 end text text′ → size ≤ length text
+        → Written s text text′ size size
+    written-fits text′ end w h =
+        let c = copied w begins (omega (arith, size-is)) in
+        let e : end ≡ size = omega (arith, size-is) in
+        record { needs = size-is; wrote = rw (fits-all text 0 s (omega (arith, size-is)), ← e) c }
 
   pub written-there : most ≤ length out₀ → Written s out₀ out size size
-  written-there room =
-      let fits : size ≤ length out₀ = omega arith in
-      record { needs = size-is; says = rw (← size-is) (simp le-leb); holds = p .is ∙ sym (put-fits out₀ 0 s (omega (arith, size-is))) }
+  written-there room = record { needs = size-is; wrote = rw (fits-all out₀ 0 s (omega (arith, size-is))) (p .wrote) }
 
 pub ruleset put-apart-laws = (needs, text-within, length-take-le, written-not, written-fits)
 
@@ -163,12 +163,10 @@ module _ (description text text′ : List ℕ) (written needed : ℕ) (done : Te
     (room : 73741 ≤ length text) where
   pub text-whole : TextWhole description text′ written
   text-whole =
-      let fits : length (printed description) ≤ length text = omega (arith, printed-most description) in
-      let all-written : written ≡ length (printed description) = rw (le-leb (length (printed description)) (length text) fits) at (done .says) in
-      let put-there : text′ ≡ put text 0 (printed description) = done .holds ∙ put-fits text 0 (printed description) (omega arith) in
+      let w = copied (done .wrote) refl (omega (arith, printed-most description)) in
       record {
-        within = rw (put-there, length-put text 0 (printed description) (omega arith)) (omega arith);
-        begins = rw (all-written, put-there) (take-put text (printed description));
+        within = omega (arith, printed-most description, wrote-long w (omega (arith, printed-most description)));
+        begins = rw (w .ends, zero-add, w .after) (take-put text (printed description));
       }
 
 pub text-size : (description text : List ℕ) (size : ℕ) → TextWhole description text size → size ≡ length (take size text)

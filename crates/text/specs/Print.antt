@@ -3,16 +3,15 @@ use Prim.Native.Nat.{ℕ, zero, suc, _+_, _*_, _≤_, _<_}
 use mathlib.Core.Path.{_≡_}
 use mathlib.Core.List.{List, [], _∷_, _++_}
 use lib.ListN.{length, getD, take, drop}
-use lib.Dec.{leb, eqb}
-use Rattle.rules.specs.Octets.{if_then_else_, put}
-use Rattle.octets.specs.Copy.{putFitting}
+use lib.Dec.{eqb}
+use Rattle.rules.specs.Octets.{if_then_else_}
+use Rattle.octets.specs.Copy.{Wrote, fitting}
 use Rattle.rules.specs.Text.{ascii, blank, lineFeed, hex2, decimal, printed}
 
--- `s`, of `most` octets or fewer, written at a place, and where it ends
+-- `s`, of `most` octets or fewer, written at a place
 pub record PutAt (out out′ : List ℕ) (at end most : ℕ) (s : List ℕ) : Type 0 where
-  pub is : out′ ≡ put out at s
-  pub ends : end ≡ at + length s
-  pub short : length s ≤ most
+  pub wrote : Wrote s at end out out′
+  pub short : end ≤ at + most
 
 unfoldable pub letterOf : ℕ → ℕ
 letterOf kind = if eqb kind 0 then 0x4F else 0x52
@@ -47,14 +46,11 @@ pub record Printable (code count : ℕ) (trace : List ℕ) : Type 0 where
 -- a text written where it fits, and how long it is
 pub record Written (s text text′ : List ℕ) (written needed : ℕ) : Type 0 where
   pub needs : needed ≡ length s
-  pub says : written ≡ (if leb (length s) (length text) then length s else 0)
-  pub holds : text′ ≡ putFitting text 0 s
+  pub wrote : Wrote (fitting text 0 s) 0 written text text′
 
 -- a text that does not fit is not written
-pub record TextDone (description text text′ : List ℕ) (written needed : ℕ) : Type 0 where
-  pub needs : needed ≡ length (printed description)
-  pub says : written ≡ (if leb (length (printed description)) (length text) then length (printed description) else 0)
-  pub holds : text′ ≡ putFitting text 0 (printed description)
+abbrev pub TextDone : List ℕ → List ℕ → List ℕ → ℕ → ℕ → Type 0
+TextDone description = Written (printed description)
 
 -- the text of a description stands whole at the start of a buffer
 pub record TextWhole (description text : List ℕ) (size : ℕ) : Type 0 where

@@ -71,21 +71,17 @@ fn put_decimal(out: &mut [u8], at: usize, n: u16) -> usize
 {
     let last = digit(n);
     if n < 10 {
-        octets::copy(out, at, &[last]);
-        return at + 1;
+        return octets::copy(out, at, &[last]);
     }
     let tens = digit(n / 10);
     if n < 100 {
-        octets::copy(out, at, &[tens, last]);
-        return at + 2;
+        return octets::copy(out, at, &[tens, last]);
     }
     let hundreds = digit(n / 100);
     if n < 1000 {
-        octets::copy(out, at, &[hundreds, tens, last]);
-        return at + 3;
+        return octets::copy(out, at, &[hundreds, tens, last]);
     }
-    octets::copy(out, at, &[digit(n / 1000), hundreds, tens, last]);
-    at + 4
+    octets::copy(out, at, &[digit(n / 1000), hundreds, tens, last])
 }
 
 // Writes a number between two texts.
@@ -94,10 +90,9 @@ fn put_number(out: &mut [u8], at: usize, before: &[u8], n: u16, after: &[u8]) ->
     ensures { λ r. ⌜ PutAt (now (out .entry)) (now (out .exit)) at r (length (now (before .entry)) + 4 + length (now (after .entry)))
         (now (before .entry) ++ decimal n ++ now (after .entry)) ⌝ }
 {
-    octets::copy(out, at, before);
-    let end = put_decimal(out, at + before.len(), n);
-    octets::copy(out, end, after);
-    end + after.len()
+    let at = octets::copy(out, at, before);
+    let at = put_decimal(out, at, n);
+    octets::copy(out, at, after)
 }
 
 fn wide(n: u8) -> u16

@@ -5,5 +5,4 @@ use proofs.running.clock_of as fn
 
 pub clock-of-spec : {M : Type 1} → fn.Statement.statement M
 clock-of-spec = fn.Tie.close (fn.Tie.spec
-    (λ c. search laws) (λ c. search laws) (λ c. search laws) (λ c. search laws) (λ c. search laws) (λ c. search laws) (λ c _. search laws)
-    (λ c. search laws))
+    (λ c. search laws) (λ c. search laws) (λ c. search laws) (λ c. search laws) (λ c. search laws) (λ c. search laws) (λ c _. search laws) (λ c. search laws))

@@ -6,4 +6,4 @@ use proofs.running.put_slot as fn
 pub put-slot-spec : {M : Type 1} → fn.Statement.statement M
 put-slot-spec = fn.Tie.close (fn.Tie.spec
     (λ c. search laws) (λ c. search laws) (λ c. search laws) (λ c _. search laws) (λ c _. search laws) (λ c. search laws) (λ c _. search laws)
-    (λ c. search laws) (λ c _. search laws) (λ c. search laws) (λ c. search laws))
+    (λ c _. search laws) (λ c. search laws) (λ c. search laws))
