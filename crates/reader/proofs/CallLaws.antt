@@ -16,8 +16,8 @@ use lib.Seq.{drop-at, drop-length, take-all, take-length, length-take-le, sets-e
 use Rattle.rules.specs.Octets.{if_then_else_, be48, octets48, put}
 use Rattle.rules.specs.{Settings.Settings, Settings.settingsOf, Answer.Handled, Answer.dropped}
 use Rattle.rules.proofs.{TestLaws.tests, OctetLaws.put-none}
-use Rattle.octets.specs.Copy.{putFitting}
-use Rattle.octets.proofs.Ends.{six-octets, put-fits}
+use Rattle.octets.specs.Copy.{Wrote, fitting}
+use Rattle.octets.proofs.Ends.{six-octets, copied}
 use Rattle.handler.specs.{Shapes.answerOf, Tasks.Both}
 use Rattle.stores.specs.Store.{storeWords, preparing, Prepared, handledIn}
 use Rattle.handler.specs.declared.answers.Answer.{Answer}
@@ -123,9 +123,9 @@ module _ (w g b : List ℕ) (a : 168 ≤ length w) where
         pub burst-past : 2048 - getD w 1 0 < length b → burst w g b ≡ saying 3 (set w 2 3) g
         burst-past e = burst-over (omega arith)
 
-        pub burst-copied : length b ≤ 2048 - getD w 1 0 → (g′ : List ℕ) → g′ ≡ putFitting g (getD w 1 0) b
-            → burst w g b ≡ saying 0 (set w 1 (getD w 1 0 + length b)) g′
-        burst-copied e g′ is = rw (is ∙ put-fits g (getD w 1 0) b (omega arith)) (burst-on (omega arith))
+        pub burst-copied : length b ≤ 2048 - getD w 1 0 → (g′ : List ℕ) (end : ℕ) → Wrote (fitting g (getD w 1 0) b) (getD w 1 0) end g g′
+            → burst w g b ≡ saying 0 (set w 1 end) g′
+        burst-copied e g′ end p = let written = copied p refl (omega arith) in rw (written .ends, written .after) (burst-on (omega arith))
 
 pub ruleset burst-laws = (needs, tests, burst-done, burst-ended, burst-early, burst-far, burst-past, burst-copied)
 

@@ -98,8 +98,7 @@ pub extern "C" fn trill_reader_burst(reader: &mut [u64], gathered: &mut [u8], oc
         reader[2] = 3;
         return 3;
     }
-    octets::copy(gathered, place, octets);
-    reader[1] = (place + octets.len()) as u64;
+    reader[1] = octets::copy(gathered, place, octets) as u64;
     0
 }
 

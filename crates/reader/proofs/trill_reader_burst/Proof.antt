@@ -8,5 +8,5 @@ pub trill-reader-burst-spec : {M : Type 1} → fn.Statement.statement M
 unfolding burst
 trill-reader-burst-spec = fn.Tie.close (fn.Tie.spec
     (λ c. search laws) (λ c. search laws) (λ c. search laws) (λ c. search laws) (λ c. search laws) (λ c. search laws) (λ c. search laws) (λ c. search laws)
-    (λ c. search laws) (λ c. search laws) (λ c. search laws) (λ c. search laws) (λ c. search laws) (λ c. search laws) (λ c. search laws)
-    (λ c _. search laws) (λ c. search laws) (λ c. search laws) (λ c. search laws) (λ c. search laws) (λ c. search laws))
+    (λ c. search laws) (λ c. search laws) (λ c. search laws) (λ c. search laws) (λ c. search laws) (λ c. search laws) (λ c. search laws) (λ c _. search laws)
+    (λ c. search laws) (λ c. search laws) (λ c. search laws) (λ c. search laws))
