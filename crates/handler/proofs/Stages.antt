@@ -6,21 +6,22 @@ use rules.Header.{opLength, innerStart, readFrame, areaOf, innerOf}
 use Rattle.rules.proofs.{TestLaws.and-left, TestLaws.and-right, TestLaws.by-test}
 use borrow.Author.Tests.{eq-eqb, ne-eqb}
 use borrow.Author.Needs.{needs}
-use rules.Octets.{if_then_else_, be16, octets16, octets48, octet, part}
+use rules.Octets.{if_then_else_, be16, octets16, octets48, octet, part, put}
 use mathlib.Core.Path.{_≡_, _∙_, refl, sym, ap}
 use mathlib.Core.List.{List, _++_, append-assoc, [], _∷_}
 use Prim.Native.Nat.{ℕ, _+_, _-_, _≤_, _*_, _/_, _<_, _%_}
 use native.Mathlib.Omega.{arith}
-use lib.ListN.{length, take, drop, length-drop, length-append, getD, length-take}
-use lib.Seq.{take-all, take-add, drop-drop}
+use native.Mathlib.Nat.{add-zero}
+use lib.ListN.{length, take, drop, length-drop, length-append, getD, length-take, take-append-drop}
+use lib.Seq.{take-all, take-add, drop-drop, length-take-le}
 use lib.Dec.{eqb}
-use Rattle.rules.proofs.{OctetLaws.length-part, OctetLaws.drop-part, OctetLaws.octets16-be16, FrameLaws.frame-read, FrameLaws.link-length}
+use Rattle.rules.proofs.{OctetLaws.length-part, OctetLaws.drop-part, OctetLaws.put-inside, OctetLaws.octets16-be16, FrameLaws.frame-read, FrameLaws.link-length}
 use mir.Syntax.{w8}
 use mir.Val as Val
 use Rattle.handler.specs
-use specs.Shapes.{linkSize, taggedOctets, Fits, sentBy, headerSent, restWith, timesBy, replyOctets}
+use specs.Shapes.{linkSize, taggedOctets, Fits, sentBy, headerSent, restWith, replyOctets}
 use Rattle.octets.specs.Copy.{Wrote, fitting}
-use Rattle.octets.proofs.Ends.{copied, joined, copied-on}
+use Rattle.octets.proofs.Ends.{copied, wrote-long, joined, copied-on}
 use rules.declared.{NextHop.NextHop, Header.Header, FrameRead.the-variants.Trill}
 use specs.declared.way.Own.{Own}
 
@@ -209,36 +210,36 @@ pub ruleset write-error-laws = (needs, error-written)
 
 pub ruleset write-echo-laws = (needs, echo-fits, echo-written)
 
--- an echo body, answered
-module _ (body clock : List ℕ) (at here end : ℕ) (d d1 d2 : List ℕ) where
-  pub received-written : Wrote (fitting d1 here (take (length body - 18) (drop 18 body))) here end d1 d2 → Wrote (fitting d at clock) at here d d1
-      → 18 ≤ length body → length clock ≡ 6 → at + length body ≤ length d + 12 → Wrote (clock ++ drop 18 body) at end d d2
-  received-written q p long six room = copied-on (copied p refl (omega arith)) q (lent-rest body 18) (omega (arith, length-drop 18 body))
+-- an echo body, answered: written in whole, then two of its parts over it
+module _ (body clock : List ℕ) (long : 18 ≤ length body) (six : length clock ≡ 6) (at end here there a o : ℕ) (d d1 d2 d3 : List ℕ)
+    (room : at + length body ≤ length d) where
+  pub body-written : Wrote (fitting d at body) at end d d1 → Wrote (fitting d1 at (a ∷ [])) at here d1 d2
+      → Wrote (fitting d2 (at + 12) (take 6 clock)) (at + 12) there d2 d3 → a ≡ 64 + o % 16 → o ≡ octet body 0 → Wrote (echoBody body clock) at end d d3
+  unfolding echoBody
+  body-written p q r ea eo =
+      let whole = copied p refl room in
+      let kept = wrote-long whole (omega (arith, whole .ends)) in
+      let first = copied q refl (omega (arith, kept)) in
+      let same = wrote-long first (omega (arith, first .ends, kept)) in
+      let timed : Wrote clock (at + 12) there d2 d3 = copied r (take-all 6 clock (omega arith)) (omega (arith, same, kept)) in
+      let is : a ≡ 64 + octet body 0 % 16 = rw eo at ea in
+      let eleven = part body 1 11 in
+      let one = length-part body 1 11 (omega arith) in
+      let times = length-part body 12 6 (omega arith) in
+      let rest : drop 1 body ≡ eleven ++ part body 12 6 ++ drop 18 body =
+      sym (append-assoc eleven (part body 12 6) (drop 18 body) ∙ ap (λ (x : List ℕ). eleven ++ x) (drop-part body 12 6) ∙ drop-part body 1 11) in
+      let over = put-inside d at [] (take 1 body) (drop 1 body) (a ∷ []) (omega arith) (length-take-le 1 body (omega arith)) in
+      let head : d2 ≡ put d at (a ∷ (eleven ++ part body 12 6 ++ drop 18 body)) =
+          first .after ∙ rw (whole .after) (rw (take-append-drop, add-zero) at over) ∙ ap (λ (x : List ℕ). put d at (a ∷ x)) rest in
+      let tail = put-inside d at (a ∷ eleven) (part body 12 6) (drop 18 body) clock (omega arith) (times ∙ sym six) in
+      let twelve : at + length (a ∷ eleven) ≡ at + 12 = omega (arith, one) in
+      rw (← is)
+      (record {
+        ends = omega (arith, whole .ends, one, length-append (a ∷ eleven) clock, length-append (a ∷ eleven ++ clock) (drop 18 body), length-drop 18 body);
+        after = timed .after ∙ rw head (rw twelve at tail);
+      })
 
-pub ruleset write-received-laws = (needs, received-written)
+pub clock-count : (clock : List ℕ) → length clock ≡ 6 → 6 ≡ length (take 6 clock)
+clock-count clock six = sym (length-take-le 6 clock (omega arith))
 
-module _ (body : List ℕ) (at here : ℕ) (d d1 : List ℕ) (long : 18 ≤ length body) where
-  module _ (p : Wrote (fitting d at (part body 1 11)) at here d d1) (room : at + length body ≤ length d + 1) where
-    eleven : Wrote (part body 1 11) at here d d1
-    eleven = copied p refl (omega (arith, length-part body 1 11 (omega arith)))
-
-    pub received-room : length d1 ≡ length d → here + length body ≤ length d1 + 12
-    received-room same = let w = eleven in omega (arith, length-part body 1 11 (omega arith))
-
-    pub times-written : (clock : List ℕ) (end : ℕ) (d2 : List ℕ) → Wrote (clock ++ drop 18 body) here end d1 d2 → Wrote (timesBy body clock) at end d d2
-    times-written clock end d2 = joined eleven
-
-  module _ (a o : ℕ) (p : Wrote (fitting d at (a ∷ [])) at here d d1) (room : at + length body ≤ length d) where
-    pub times-room : length d1 ≡ length d → here + length body ≤ length d1 + 1
-    times-room same = let w : Wrote (a ∷ []) at here d d1 = copied p refl (omega arith) in omega arith
-
-    pub body-written : a ≡ 64 + o % 16 → o ≡ octet body 0 → (clock : List ℕ) (end : ℕ) (d2 : List ℕ) → Wrote (timesBy body clock) here end d1 d2
-        → Wrote (echoBody body clock) at end d d2
-    unfolding echoBody
-    body-written ea eo clock end d2 q =
-        let first : Wrote ((64 + octet body 0 % 16) ∷ []) at here d d1 = copied p (rw (ea, eo)) (omega arith) in
-        rw (append-assoc (part body 1 11) clock (drop 18 body)) (joined first q)
-
-pub ruleset write-times-laws = (needs, received-room, times-written)
-
-pub ruleset write-echo-body-laws = (needs, times-room, body-written)
+pub ruleset write-echo-body-laws = (needs, clock-count, body-written)

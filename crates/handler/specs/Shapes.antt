@@ -189,10 +189,6 @@ pub record Fits (area f : List ℕ) (h : Header) (out : List ℕ) (at : ℕ) : T
   pub area-short : length area ≤ 124
   pub room : at + length (restWith area f h) ≤ length out
 
--- an echo body but for its first octet
-abbrev pub timesBy : List ℕ → List ℕ → List ℕ
-timesBy body clock = part body 1 11 ++ (clock ++ drop 18 body)
-
 -- neither the channel's Ethertype nor that of L2-IS-IS
 abbrev pub foreignBy : ℕ → Bool
 foreignBy ethertype = not (eqb ethertype ethertypeChannel) && not (eqb ethertype ethertypeIsIs)

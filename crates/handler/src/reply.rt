@@ -7,10 +7,10 @@ use rules::NextHop;
 ghost use mathlib.Core.Path.{_≡_};
 ghost use Prim.Native.Nat.{_+_, _%_, _≤_};
 ghost use mathlib.Core.List.{_++_};
-ghost use lib.ListN.{length, drop};
+ghost use lib.ListN.{length};
 ghost use Rattle.rules.specs.Channel.{errorBody, echoBody, errorReply, echoReply};
 ghost use Rattle.octets.specs.Copy.{Wrote};
-ghost use Rattle.handler.specs.Shapes.{replyOctets, timesBy, waysBy, Ready, Replied};
+ghost use Rattle.handler.specs.Shapes.{replyOctets, waysBy, Ready, Replied};
 
 // From the first TRILL word to the flags and ERR word.
 fn reply_octets(own: Own, ingress: u16, protocol: u16, code: u8) -> [u8; 28]
@@ -79,32 +79,16 @@ fn answered(first: u8) -> u8
     0x40 | first & 15
 }
 
-// The clock in time received, and what follows it.
-fn write_received(body: &[u8], clock: &[u8], out: &mut [u8], at: usize) -> usize
-    requires { ⌜ (18 ≤ length (now body)) × (length (now clock) ≡ 6) × (at + length (now body) ≤ length (now out) + 12) ⌝ }
-    ensures { λ r. ⌜ Wrote (now (clock .entry) ++ drop 18 (now (body .entry))) at r (now (out .entry)) (now (out .exit)) ⌝ }
-{
-    let at = octets::copy(out, at, clock);
-    octets::copy(out, at, &body[18..])
-}
-
-// The echo body but for its first octet.
-fn write_times(body: &[u8], clock: &[u8], out: &mut [u8], at: usize) -> usize
-    requires { ⌜ (18 ≤ length (now body)) × (length (now clock) ≡ 6) × (at + length (now body) ≤ length (now out) + 1) ⌝ }
-    ensures { λ r. ⌜ Wrote (timesBy (now (body .entry)) (now (clock .entry))) at r (now (out .entry)) (now (out .exit)) ⌝ }
-{
-    let at = octets::copy(out, at, &body[1..12]);
-    write_received(body, clock, out, at)
-}
-
-// The echo body from `at` on, answered.
+// The echo body from `at` on, answered: as it is, then SPID and time received written over. Says where it ends.
 fn write_echo_body(body: &[u8], clock: &[u8], out: &mut [u8], at: usize) -> usize
     requires { ⌜ (18 ≤ length (now body)) × (length (now clock) ≡ 6) × (at + length (now body) ≤ length (now out)) ⌝ }
     ensures { λ r. ⌜ Wrote (echoBody (now (body .entry)) (now (clock .entry))) at r (now (out .entry)) (now (out .exit)) ⌝ }
 {
+    let end = octets::copy(out, at, body);
     let first = [answered(octets::octet(body, 0))];
-    let at = octets::copy(out, at, &first);
-    write_times(body, clock, out, at)
+    octets::copy(out, at, &first);
+    octets::copy(out, at + 12, &clock[..6]);
+    end
 }
 
 // An echo reply from `at` on, behind its link header; says where it ends.

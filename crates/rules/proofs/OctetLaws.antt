@@ -1,13 +1,13 @@
 -- Laws of octet strings: what is written reads back, reading across a seam, and buffers after one write or two. By computation and append laws.
 --
-use mathlib.Core.Path.{_≡_, refl}
+use mathlib.Core.Path.{_≡_, refl, _∙_}
 use mathlib.Core.List.{List, [], _∷_, _++_, append-assoc, append-nil}
 use Prim.Native.Nat.{ℕ, _+_, _-_, _/_, _%_, _<_, _≤_}
 use native.Mathlib.Omega.{arith}
 use native.Mathlib.Nat.{zero-add, add-zero, add-assoc}
 use native.Mathlib.Numerals.{add-one}
 use lib.ListN.{length, getD, take, drop, length-append, length-drop, drop-of-length-le, take-append-drop, List·getD-append}
-use lib.Seq.{drop-cons, take-all, take-append-seam, take-at, drop-append-add, drop-drop, length-take-le, getD-append-add, getD-drop, getD-take}
+use lib.Seq.{drop-cons, take-all, take-append-seam, take-at, drop-at, drop-append-add, drop-drop, length-take-le, getD-append-add, getD-drop, getD-take}
 use Rattle.rules.proofs.TestLaws.{by-order}
 use Rattle.rules.specs.Octets.{octet, be16, octets16, part, put}
 
@@ -109,6 +109,23 @@ pub put-tail : (d : List ℕ) (at : ℕ) (s t u : List ℕ) → at + length s �
 put-tail d at s t u h k =
     rw (← put-put d at s (at + length s) t refl, put-over (put d at s) (at + length s) t u (rw (length-put d at s h) h) k)
     (put-put d at s (at + length s) u refl)
+
+-- a write within another one
+pub put-inside : (d : List ℕ) (at : ℕ) (s t u v : List ℕ) → at ≤ length d → length t ≡ length v
+    → put (put d at (s ++ t ++ u)) (at + length s) v ≡ put d at (s ++ v ++ u)
+unfolding put
+put-inside d at s t u v h e =
+    let rest = drop (at + length (s ++ t ++ u)) d in
+    let head = take at d ++ s in
+    let long = length-head d at s h in
+    let further : length (head ++ t) ≡ at + length s + length v = length-append head t ∙ rw (long, e) in
+    let one : take at d ++ (s ++ t ++ u) ++ rest ≡ head ++ (t ++ u ++ rest) = simp append-assoc in
+    let two : take at d ++ (s ++ t ++ u) ++ rest ≡ head ++ t ++ (u ++ rest) = simp append-assoc in
+    let tk : take (at + length s) (take at d ++ (s ++ t ++ u) ++ rest) ≡ head = rw one (take-at head (t ++ u ++ rest) (at + length s) long) in
+    let dr : drop (at + length s + length v) (take at d ++ (s ++ t ++ u) ++ rest) ≡ u ++ rest =
+    rw two (drop-at (head ++ t) (u ++ rest) (at + length s + length v) further) in
+    let same : length (s ++ v ++ u) ≡ length (s ++ t ++ u) = rw (length-append (s ++ v) u, length-append (s ++ t) u, length-append s v, length-append s t, e) in
+    rw (tk, dr, same) (simp append-assoc)
 
 pub put-front : (d s : List ℕ) → put d 0 s ≡ s ++ drop (length s) d
 unfolding put
