@@ -230,7 +230,7 @@ module _ (body clock : List ℕ) (long : 18 ≤ length body) (six : length clock
       sym (append-assoc eleven (part body 12 6) (drop 18 body) ∙ ap (λ (x : List ℕ). eleven ++ x) (drop-part body 12 6) ∙ drop-part body 1 11) in
       let over = put-inside d at [] (take 1 body) (drop 1 body) (a ∷ []) (omega arith) (length-take-le 1 body (omega arith)) in
       let head : d2 ≡ put d at (a ∷ (eleven ++ part body 12 6 ++ drop 18 body)) =
-          first .after ∙ rw (whole .after) (rw (take-append-drop, add-zero) at over) ∙ ap (λ (x : List ℕ). put d at (a ∷ x)) rest in
+      first .after ∙ rw (whole .after) (rw (take-append-drop, add-zero) at over) ∙ ap (λ (x : List ℕ). put d at (a ∷ x)) rest in
       let tail = put-inside d at (a ∷ eleven) (part body 12 6) (drop 18 body) clock (omega arith) (times ∙ sym six) in
       let twelve : at + length (a ∷ eleven) ≡ at + 12 = omega (arith, one) in
       rw (← is)

@@ -196,10 +196,10 @@ fn fill_blocks(out: &mut [u8], at: usize, s: &[u8])
     ensures { λ _. ⌜ now (out .exit) ≡ put (now (out .entry)) at (now (s .entry)) ⌝ }
 {
     let last = s.len() - 16;
-    let mut i = 0;
-    while i < last {
-        fill_block(out, at + i, &s[i..i + 16]);
-        i += 16;
+    let mut done = 0;
+    while done < last {
+        fill_block(out, at + done, &s[done..done + 16]);
+        done += 16;
     }
     fill_block(out, at + last, &s[last..]);
 }
