@@ -2,30 +2,56 @@
 use mathlib.Core.Path.{_≡_, refl, sym, _∙_}
 use mathlib.Core.List.{List, [], _∷_, _++_, append-assoc, append-nil}
 use mathlib.Core.Bool.{Bool, true, false}
-use Prim.Native.Nat.{ℕ, suc, _+_, _-_, _≤_, _<_}
+use Prim.Native.Nat.{ℕ, suc, _+_, _-_, _%_, _≤_, _<_}
 use native.Mathlib.Omega.{arith}
 use borrow.Author.Needs.{needs}
-use lib.ListN.{length, take, getD, length-append}
-use lib.Seq.{length-take-le}
+use lib.ListN.{length, take, drop, getD, length-append, drop-of-length-le}
+use lib.Seq.{drop-cons, take-all, length-take-le}
 use Rattle.rules.specs as rules
-use rules.Octets.{be16, part}
+use rules.Octets.{be16, part, put}
 use rules.Options.{TlvOption, options, keyOf, lengthOf, optionSize, optionsFrom, optionsOf, strippable, keptOptions, octetsOf, WellFormed}
 use rules.Options.{draftRead, stripped}
 use Rattle.rules.proofs.TestLaws.{by-test}
-use Rattle.rules.proofs.OctetLaws.{length-part}
+use Rattle.rules.proofs.OctetLaws.{length-part, put-none}
 use Rattle.rules.proofs.OptionLaws.{Walked, ended, took, walked, options-end, kept-nothing, kept-not, kept-too, area-well, stripped-is}
 use Rattle.octets.specs.Copy.{Wrote, fitting}
-use Rattle.octets.proofs.Ends.{wrote-none, wrote-long, copied, joined}
+use Rattle.octets.proofs.Ends.{wrote-none, wrote-long, put-more, copied, joined}
 use Rattle.handler.specs.{Shapes.keptIf, Shapes.keptFrom, Treatment.Treats, Treatment.strippedBy}
+
+-- a word
+word-is : (s : List ℕ) → length s ≡ 4 → (getD s 0 0 ∷ getD s 1 0 ∷ getD s 2 0 ∷ getD s 3 0 ∷ []) ≡ s
+word-is s four = sym (drop-cons s 0 0 (omega arith) ∙ rw (drop-cons s 1 0 (omega arith), drop-cons s 2 0 (omega arith), drop-cons s 3 0 (omega arith), none))
+  where
+    none : drop 4 s ≡ []
+    none = drop-of-length-le s {i = 4} (omega arith)
+
+pub word-put : (d : List ℕ) (at end : ℕ) (s d′ : List ℕ) → length s ≡ 4 → at + 4 ≤ length d
+    → Wrote (fitting d at (getD s 0 0 ∷ getD s 1 0 ∷ getD s 2 0 ∷ getD s 3 0 ∷ [])) at end d d′ → d′ ≡ put d at s
+word-put d at end s d′ four room w = copied w (word-is s four) (omega arith) .after
+
+pub ruleset put-word-laws = (needs, word-put)
+
+-- whole words, one after another: `out` has the first i octets of `s` in it from `to` on
+module _ (d : List ℕ) (to : ℕ) (s : List ℕ) where
+  pub words-begin : d ≡ put d to (take 0 s)
+  words-begin = sym (put-none d to)
+
+  module _ (i : ℕ) (out : List ℕ) (is : out ≡ put d to (take i s)) where
+    pub words-on : i < length s → (out′ : List ℕ) → out′ ≡ put out (to + i) (take (i + 4 - i) (drop i s)) → out′ ≡ put d to (take (i + 4) s)
+    words-on h out′ e = let size : i + 4 - i ≡ 4 = omega arith in put-more d to s i out is out′ 4 (omega arith) (rw size at e)
+
+    pub words-end : length s ≤ i → Wrote s to (to + length s) d out
+    words-end k = record { ends = refl; after = is ∙ rw (take-all i s k) }
+
+pub ruleset put-words-laws = (needs, words-begin, words-on, words-end)
 
 -- what stays of one option
 module _ (out : List ℕ) (to : ℕ) (option : List ℕ) (stripped : Bool) where
   pub keep-none : stripped ≡ true → Wrote (keptIf stripped option) to to out out
   keep-none e = rw e (wrote-none out to)
 
-  pub keep-all : stripped ≡ false → (end : ℕ) (out′ : List ℕ) → Wrote (fitting out to option) to end out out′ → to + length option ≤ length out
-      → Wrote (keptIf stripped option) to end out out′
-  keep-all e end out′ w room = rw e (copied w refl room)
+  pub keep-all : stripped ≡ false → (end : ℕ) (out′ : List ℕ) → Wrote option to end out out′ → Wrote (keptIf stripped option) to end out out′
+  keep-all e end out′ w = rw e w
 
 kept-short : (stripped : Bool) (option : List ℕ) → length (keptIf stripped option) ≤ length option
 kept-short true option = omega arith
@@ -124,6 +150,9 @@ module _ (area out₀ : List ℕ) (from : ℕ) where
         pub strip-fits : to + length lent ≤ length out
         strip-fits = omega (arith, its-part, strip-next)
 
+        pub strip-words : length lent % 4 ≡ 0
+        strip-words = omega (arith, its-part, long)
+
         pub strip-on : (table : List ℕ) → Treats table → (key : ℕ) → key ≡ keyOf w → (gone : Bool) → gone ≡ strippedBy (getD table key 0) key size
             → (out′ : List ℕ) (to′ : ℕ) → Wrote (keptIf gone lent) to to′ out out′ → Stripping area out₀ from out′ (at + step) to′
         strip-on table treats key ik gone ig out′ to′ w =
@@ -153,7 +182,7 @@ module _ (area out₀ : List ℕ) (from : ℕ) where
 pub ruleset keep-laws = (needs, keep-none, keep-all)
 
 pub ruleset strip-options-laws =
-    (needs, strip-begin, strip-wrote, strip-next, strip-fits, strip-on)
+    (needs, strip-begin, strip-wrote, strip-next, strip-fits, strip-words, strip-on)
 
 -- a whole area: its first word, then what is kept
 pub strip-whole : (area : List ℕ) → draftRead area ≡ WellFormed → stripped area ≡ take 4 area ++ keptFrom (optionsOf area)

@@ -2,8 +2,9 @@
 use crate::treatment;
 ghost use mathlib.Core.Path.{_≡_};
 ghost use mathlib.Core.Bool.{false, _||_, _&&_, not};
-ghost use Prim.Native.Nat.{_+_, _<_, _≤_};
+ghost use Prim.Native.Nat.{_+_, _%_, _<_, _≤_};
 ghost use lib.ListN.{length};
+ghost use Rattle.rules.specs.Octets.{put};
 ghost use Rattle.rules.specs.Options as O;
 ghost use Rattle.rules.specs.Options.{WellFormed};
 ghost use Rattle.octets.specs.Copy.{Wrote};
@@ -201,15 +202,37 @@ pub fn area_stops(egress: bool, area: &[u8]) -> bool
     if egress { cite(area) } else { false }
 }
 
+// Four octets, read before one is written, as they then move in one.
+fn put_word(out: &mut [u8], at: usize, s: &[u8])
+    requires { ⌜ (length (now s) ≡ 4) × (at + 4 ≤ length (now out)) ⌝ }
+    ensures { λ _. ⌜ now (out .exit) ≡ put (now (out .entry)) at (now (s .entry)) ⌝ }
+{
+    let word = [s[0], s[1], s[2], s[3]];
+    octets::copy(out, at, &word);
+}
+
+// Writes whole words from `to` on and says where they end.
+fn put_words(out: &mut [u8], to: usize, s: &[u8]) -> usize
+    requires { ⌜ (to + length (now s) ≤ length (now out)) × (length (now s) % 4 ≡ 0) ⌝ }
+    ensures { λ r. ⌜ Wrote (now (s .entry)) to r (now (out .entry)) (now (out .exit)) ⌝ }
+{
+    let mut i = 0;
+    while i < s.len() {
+        put_word(out, to + i, &s[i..i + 4]);
+        i += 4;
+    }
+    to + s.len()
+}
+
 // Writes an option from `to` on unless it is stripped, and says where the next one goes.
 fn keep(out: &mut [u8], to: usize, stripped: bool, option: &[u8]) -> usize
-    requires { ⌜ to + length (now option) ≤ length (now out) ⌝ }
+    requires { ⌜ (to + length (now option) ≤ length (now out)) × (length (now option) % 4 ≡ 0) ⌝ }
     ensures { λ r. ⌜ Wrote (keptIf stripped (now (option .entry))) to r (now (out .entry)) (now (out .exit)) ⌝ }
 {
     if stripped {
         return to;
     }
-    octets::copy(out, to, option)
+    put_words(out, to, option)
 }
 
 // Writes a well formed area of one word or more into `out` from `base` on, without what is stripped, and says where it ends.

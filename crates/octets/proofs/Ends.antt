@@ -139,10 +139,11 @@ module _ (d : List ℕ) (at : ℕ) (s : List ℕ) where
   blocks-begin = sym (put-none d at)
 
   module _ (i : ℕ) (out : List ℕ) (is : out ≡ put d at (take i s)) (out′ : List ℕ) where
+    pub put-more : (n : ℕ) → i ≤ length s → out′ ≡ put out (at + i) (take n (drop i s)) → out′ ≡ put d at (take (i + n) s)
+    put-more n h e = rw (e, is, take-add i n s) (put-put d at (take i s) (at + i) (take n (drop i s)) (rw (length-take-le i s h)))
+
     pub blocks-on : (last : ℕ) → last + 16 ≡ length s → i < last → out′ ≡ put out (at + i) (take (i + 16 - i) (drop i s)) → out′ ≡ put d at (take (i + 16) s)
-    blocks-on last n h e =
-        let size : i + 16 - i ≡ 16 = omega arith in
-        rw (e, is, size, take-add i 16 s) (put-put d at (take i s) (at + i) (take 16 (drop i s)) (rw (length-take-le i s (omega arith))))
+    blocks-on last n h e = let size : i + 16 - i ≡ 16 = omega arith in put-more 16 (omega arith) (rw size at e)
 
     pub blocks-end : (last : ℕ) → last + 16 ≡ length s → last ≤ i → i ≤ length s → at + length s ≤ length d
         → out′ ≡ put out (at + last) (take (length s - last) (drop last s)) → out′ ≡ put d at s
