@@ -96,7 +96,7 @@ pub fn high(n: u16) -> u8
 pub fn low(n: u16) -> u8
     ensures { λ r. ⌜ r ≡ n % 256 ⌝ }
 {
-    (n & 255) as u8
+    (n % 256) as u8
 }
 
 fn low64(n: u64) -> u8
