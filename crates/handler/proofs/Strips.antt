@@ -12,10 +12,10 @@ use rules.Octets.{be16, part, put}
 use rules.Options.{TlvOption, options, keyOf, lengthOf, optionSize, optionsFrom, optionsOf, strippable, keptOptions, octetsOf, WellFormed}
 use rules.Options.{draftRead, stripped}
 use Rattle.rules.proofs.TestLaws.{by-test}
-use Rattle.rules.proofs.OctetLaws.{length-part, put-none}
+use Rattle.rules.proofs.OctetLaws.{length-part}
 use Rattle.rules.proofs.OptionLaws.{Walked, ended, took, walked, options-end, kept-nothing, kept-not, kept-too, area-well, stripped-is}
 use Rattle.octets.specs.Copy.{Wrote, fitting}
-use Rattle.octets.proofs.Ends.{wrote-none, wrote-long, put-more, copied, joined}
+use Rattle.octets.proofs.Ends.{wrote-none, wrote-long, parts, copied, joined}
 use Rattle.handler.specs.{Shapes.keptIf, Shapes.keptFrom, Treatment.Treats, Treatment.strippedBy}
 
 -- a word
@@ -31,19 +31,11 @@ word-put d at end s d′ four room w = copied w (word-is s four) (omega arith) .
 
 pub ruleset put-word-laws = (needs, word-put)
 
--- whole words, one after another: `out` has the first i octets of `s` in it from `to` on
-module _ (d : List ℕ) (to : ℕ) (s : List ℕ) where
-  pub words-begin : d ≡ put d to (take 0 s)
-  words-begin = sym (put-none d to)
+-- whole words, one after another
+pub words-end : (d : List ℕ) (to : ℕ) (s : List ℕ) (i : ℕ) (out : List ℕ) → out ≡ put d to (take i s) → length s ≤ i → Wrote s to (to + length s) d out
+words-end d to s i out is k = record { ends = refl; after = is ∙ rw (take-all i s k) }
 
-  module _ (i : ℕ) (out : List ℕ) (is : out ≡ put d to (take i s)) where
-    pub words-on : i < length s → (out′ : List ℕ) → out′ ≡ put out (to + i) (take (i + 4 - i) (drop i s)) → out′ ≡ put d to (take (i + 4) s)
-    words-on h out′ e = let size : i + 4 - i ≡ 4 = omega arith in put-more d to s i out is out′ 4 (omega arith) (rw size at e)
-
-    pub words-end : length s ≤ i → Wrote s to (to + length s) d out
-    words-end k = record { ends = refl; after = is ∙ rw (take-all i s k) }
-
-pub ruleset put-words-laws = (needs, words-begin, words-on, words-end)
+pub ruleset put-words-laws = (needs, parts, words-end)
 
 -- what stays of one option
 module _ (out : List ℕ) (to : ℕ) (option : List ℕ) (stripped : Bool) where

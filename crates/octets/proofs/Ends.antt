@@ -133,18 +133,18 @@ block-through d at s b n is e =
 
 pub ruleset block-laws = (needs, block-through)
 
--- the loop of `fill_blocks`: `out` has the first i octets of `s` in it from `at` on, in blocks, and the last one is written over its end
+-- a loop that copies parts of one size: `out` has the first i octets of `s` in it from `at` on
 module _ (d : List ℕ) (at : ℕ) (s : List ℕ) where
-  pub blocks-begin : d ≡ put d at (take 0 s)
-  blocks-begin = sym (put-none d at)
+  pub parts-begin : d ≡ put d at (take 0 s)
+  parts-begin = sym (put-none d at)
 
   module _ (i : ℕ) (out : List ℕ) (is : out ≡ put d at (take i s)) (out′ : List ℕ) where
-    pub put-more : (n : ℕ) → i ≤ length s → out′ ≡ put out (at + i) (take n (drop i s)) → out′ ≡ put d at (take (i + n) s)
-    put-more n h e = rw (e, is, take-add i n s) (put-put d at (take i s) (at + i) (take n (drop i s)) (rw (length-take-le i s h)))
+    pub parts-on : (n : ℕ) → i ≤ length s → out′ ≡ put out (at + i) (take (i + n - i) (drop i s)) → out′ ≡ put d at (take (i + n) s)
+    parts-on n h e =
+        let size : i + n - i ≡ n = omega arith in
+        rw (e, is, size, take-add i n s) (put-put d at (take i s) (at + i) (take n (drop i s)) (rw (length-take-le i s h)))
 
-    pub blocks-on : (last : ℕ) → last + 16 ≡ length s → i < last → out′ ≡ put out (at + i) (take (i + 16 - i) (drop i s)) → out′ ≡ put d at (take (i + 16) s)
-    blocks-on last n h e = let size : i + 16 - i ≡ 16 = omega arith in put-more 16 (omega arith) (rw size at e)
-
+    -- the last one of `fill_blocks` is written over the end of the one before
     pub blocks-end : (last : ℕ) → last + 16 ≡ length s → last ≤ i → i ≤ length s → at + length s ≤ length d
         → out′ ≡ put out (at + last) (take (length s - last) (drop last s)) → out′ ≡ put d at s
     blocks-end last n h k room e =
@@ -156,4 +156,6 @@ module _ (d : List ℕ) (at : ℕ) (s : List ℕ) where
         (omega (arith, length-take (i - last) (drop last s))) in
         rw (e, is, rest, split) (rw (long, take-append-drop) at over)
 
-pub ruleset blocks-laws = (needs, blocks-begin, blocks-on, blocks-end)
+pub ruleset parts = (parts-begin, parts-on)
+
+pub ruleset blocks-laws = (needs, parts, blocks-end)
