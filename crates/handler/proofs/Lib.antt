@@ -3,7 +3,6 @@ pub mod TreatmentLaws
 pub mod Walks
 pub mod Stages
 pub mod Refusals
-pub mod Strips
 pub mod ValidationLaws
 pub mod ChannelLaws
 pub mod StageLaws
@@ -12,3 +11,4 @@ pub mod TaskLaws
 pub mod StoreLaws
 pub mod WayOutLaws
 pub mod ScanLaws
+pub mod CallLaws

@@ -1,22 +1,18 @@
 -- One pass over settings octets that validates them and finds the record that rules for a destination: what the loop keeps is what validation keeps and what
--- two folds over the fields keep, and what the folds say of the settings read. Then the whole call on settings octets. By one law of fields for each
--- step, and by induction on the fields.
-use Rattle.rules.specs.Handling.{faulted, echoed, routed, handled}
+-- two folds over the fields keep, and what the folds say of the settings read. By one law of fields for each step, and by induction on the fields.
 use Rattle.rules.specs.Settings.{Ways, Settings, newer, ruling, switchOf, hopOf, withField, opened, settingsRead, waysOf, opens, settingsOf}
-use Rattle.rules.specs.declared.{Alert.Alert, NextHop.NextHop, Ruling.Ruling, FieldRead.FieldRead, Header.Header}
+use Rattle.rules.specs.declared.{NextHop.NextHop, Ruling.Ruling, FieldRead.FieldRead}
 use Rattle.handler.specs
-use specs.declared.handling.{Task.Task, Received.Received}
-use specs.declared.handling.Task.the-variants.{Forward, Error, Echo}
-use specs.declared.way.{Lookup.Lookup, Own.Own}
-use specs.Tasks.{transitQuiet, wantedBy, Routes, Forwardable, askedBy, receivedBy, Receiving, Both}
-use specs.Shapes.{Done, ownOf, ruledBy, noFlags, flaggedBy, FoldedFrom, droppedBy, onlyFor, waysBy}
+use specs.declared.way.Own.{Own}
+use specs.Shapes.{Owns, ruledBy, noFlags, flaggedBy, FoldedFrom}
 use Rattle.handler.proofs
-use proofs.{ValidationLaws.cut-off, ValidationLaws.flag-stops, ValidationLaws.Validating, Stages.if-laws, RouteLaws.received-lent, StageLaws.done-dropped}
-use specs.Keys.{fieldTaken, keysWith, hopTaken, withKey, Taking, Verdict, Scanned, lookupBy, ValidatedBy}
+use proofs.{ValidationLaws.cut-off, ValidationLaws.flag-stops, ValidationLaws.Validating, Stages.if-laws}
+use specs.Keys.{fieldTaken, keysWith, hopTaken, withKey, Taking, Verdict, Scanned, ValidatedBy}
 use mathlib.Core.Path.{_≡_, refl, sym, ap, _∙_}
 use mathlib.Core.List.{List, [], _∷_, foldl, foldl-append}
 use mathlib.Core.Bool.{true, not, Bool, false, true≢false, false≢true}
-use Prim.Native.Nat.{ℕ, _+_, _-_, _≤_, _<_}
+use Prim.Native.Nat.{ℕ, _+_, _-_, _*_, _/_, _%_, _≤_, _<_}
+use native.Mathlib.Omega.{arith}
 use borrow.Author.Needs.{needs}
 use borrow.Author.Tests.{lt-ltb, le-ltb, ltb-true, ltb-false, eq-eqb, ne-eqb, eqb-true, not-true, not-false}
 use lib.Dec.{ltb, eqb}
@@ -27,19 +23,13 @@ use Rattle.rules.specs.Fields.{Field, field, cut, fieldAt, fieldsAt, fields}
 use Rattle.rules.specs.declared.Ruling.the-variants.{Found, Absent}
 use Rattle.rules.specs.declared.FieldRead.the-variants.{Taken, Cut}
 use Rattle.rules.proofs.{TestLaws.by-test, FieldLaws.fields-at-end, FieldLaws.fields-at-cut, Taken.taken-first, Taken.taken-to, Taken.taken}
-use Rattle.rules.proofs.{SettingsLaws.settings-read, HandlingLaws.settings-bad, HandlingLaws.settings-good}
 use Rattle.rules.proofs.FirstLaws.{opened-field, first, switch-fold, settings-cut, settings-bad as not-opened}
 use Rattle.octets.specs.Flags.{flagTag, flagBy}
 use specs.declared.validation.{Flags.Flags, Scan.Scan, Validated.Validated}
-use specs.declared.answers.Answer.{Answer}
-use specs.declared.handling.Received.the-variants.{Refused, Trill}
-use mathlib.Core.Option.{Option, none, some}
-use specs.Calls.{LookupOf}
 use Rattle.octets.proofs.FlagLaws.{flag-is}
 use Rattle.stores.specs.Store.{unlessWithdrawn}
 use Rattle.stores.proofs.LookupLaws.{next-hop}
-use proofs.TaskLaws.{both-of, finds, task-laws, back-error, back-echo, replies-none, replies-so, replied, said-forwardable}
-use Rattle.rules.specs.Answer as A
+use proofs.TaskLaws.{finds}
 use Rattle.handler.proofs.ValidationLaws as J
 
 -- the switch of settings octets
@@ -153,13 +143,19 @@ module _ (s : List ℕ) {tag size next : ℕ} (e : fieldAt s 0 ≡ Taken tag siz
 
 -- our nickname and MAC, as the code reads the first field
 module _ (s : List ℕ) (read : FieldRead) (is : read ≡ fieldAt s 0) where
-  pub own-cut : read ≡ Cut → _≡_ {A = Own} (record { nickname = 0; mac = 0 }) (ownOf (switchAt s))
-  own-cut e = ap (λ (S : Settings). ownOf (waysOf S)) (sym (read-cut s (sym is ∙ e)))
+  pub own-cut : read ≡ Cut → Owns (record { nickname = 0; word = 0 }) (switchAt s)
+  own-cut e = rw (read-cut s (sym is ∙ e)) (record { named = refl; addressed = refl })
 
   pub own-read : (tag size next : ℕ) → read ≡ Taken tag size next → (n m : ℕ) → n ≡ be16 (part s 3 (next - 3)) 0 → m ≡ be48 (part s 3 (next - 3)) 2
-      → _≡_ {A = Own} (record { nickname = n; mac = m }) (ownOf (switchAt s))
+      → Owns (record { nickname = n; word = m * 65536 % 18446744073709551616 }) (switchAt s)
   own-read tag size next e n m en em =
-      rw (en, em, read-on s (sym is ∙ e)) (sym (switch-fold (λ n m. record { nickname = n; mac = m }) (switchOf (part s 3 (next - 3))) (fieldsAt s next)))
+      let v = switchOf (part s 3 (next - 3)) in
+      let high : m * 65536 % 18446744073709551616 / 65536 ≡ m = omega arith in
+      rw (read-on s (sym is ∙ e))
+      (record {
+        named = en ∙ sym (switch-fold (λ n m. n) v (fieldsAt s next));
+        addressed = high ∙ em ∙ sym (switch-fold (λ n m. m) v (fieldsAt s next));
+      })
 
 pub ruleset own-of-laws = (needs, taken-first, taken-to, own-cut, own-read)
 
@@ -242,115 +238,10 @@ module _ (s : List ℕ) (d : ℕ) (read : FieldRead) (q : read ≡ fieldAt s 0) 
     validated-scan scan hop x y z =
         record {
           validated = J.settings-so s (sym q ∙ t) (scan .good) (sym (rw held at is) ∙ not-false o x) (y .verdict);
-          finds = λ g.
+          finds = λ g own o.
               let said = flags-read s (sym q ∙ t) (scan .flags) (y .flagged g) in
-              finds (switchAt s) d (ownOf (switchAt s)) (scan .flags .strip) (scan .flags .rfc7179) hop refl (cc) (cc)
+              finds (switchAt s) d own (scan .flags .strip) (scan .flags .rfc7179) hop o (cc) (cc)
               (cc (rules s (sym q ∙ t) d (scan .best) (y .ruled g), next-hop (settingsRead s) d));
         }
 
 pub ruleset validate-laws = (needs, taken, taken-first, validated-cut, validated-shut, validated-scan)
-
--- the call: bad settings, and good ones
-known-none : (o : Option Settings) → known o ≡ false → o ≡ none
-known-none none k = refl
-known-none (some T) k = absurd (true≢false k)
-
-known-some : (o : Option Settings) (T : Settings) → ((S : Settings) → o ≡ some S → T ≡ S) → known o ≡ true → o ≡ some T
-known-some none T is k = absurd (false≢true k)
-known-some (some S) T is k = ap some (sym (is S refl))
-
-module _ (s : List ℕ) (d : ℕ) (j : Validated) (is : ValidatedBy s d j) where
-  pub settings-none : not (j .good) ≡ true → settingsOf s ≡ none
-  settings-none n = known-none (settingsOf s) (sym (is .validated) ∙ not-true (j .good) n)
-
-  pub settings-some : not (j .good) ≡ false → settingsOf s ≡ some (settingsRead s)
-  settings-some n = known-some (settingsOf s) (settingsRead s) (settings-read s) (sym (is .validated) ∙ not-false (j .good) n)
-
-  module _ (own : Own) (o : own ≡ ownOf (switchAt s)) (t : Lookup) (e : t ≡ lookupBy own j) where
-    pub validated-lookup : known (settingsOf s) ≡ true → waysBy t ≡ onlyFor d (switchAt s)
-    validated-lookup k = rw (e, o) (is .finds (is .validated ∙ k))
-
--- the whole call
-module _ (s clock f out beside : List ℕ) (d : ℕ) (j : Validated) (is : ValidatedBy s d j) where
-  abbrev answer : A.Handled
-  answer = handled s clock (length out) (length beside) f
-
-  pub trill-bad : not (j .good) ≡ true → (r : Answer) → r ≡ droppedBy 1 → Both answer r out out beside beside
-  trill-bad n r e = rw (settings-bad s clock (length out) (length beside) f (settings-none s d j is n)) (both-of beside (done-dropped 1 refl e))
-
-  module _ (n : not (j .good) ≡ false) (own : Own) (o : own ≡ ownOf (switchAt s)) (received : Received)
-      (x : Receiving own clock f (length out) (length beside) received) where
-    comes : answer ≡ receivedBy (switchAt s) clock f received
-    comes = settings-good s clock (length out) (length beside) f (settingsRead s) (settings-some s d j is n) ∙ x .same (switchAt s) o
-
-    pub trill-early : (n : ℕ) → received ≡ Refused n → (a : Answer) → a ≡ droppedBy n → Both answer a out out beside beside
-    trill-early n e a is = rw (comes, e) (both-of beside (done-dropped n refl is))
-
-    module _ (h : Header) (e : received ≡ Trill h) where
-      pub trill-lookup : d ≡ askedBy (own .nickname) received → LookupOf s (wantedBy (own .nickname) h) (lookupBy own j)
-      trill-lookup wants =
-          let good = sym (is .validated) ∙ not-false (j .good) n in
-          let asked : d ≡ wantedBy (own .nickname) h = rw e at wants in
-          record { good = good; lookup = rw asked at (validated-lookup s d j is own o (lookupBy own j) refl good) }
-
-      pub trill-good : (r : Answer) (out2 beside2 : List ℕ) → Both (routed (switchAt s) clock f h) r out out2 beside beside2
-          → Both answer r out out2 beside beside2
-      trill-good r out2 beside2 done = rw (comes, e) done
-
-pub ruleset trill-handle-laws = (needs, received-lent, trill-bad, trill-early, trill-lookup, trill-good)
-
--- what good settings have lookup
-module _ {s : List ℕ} {d : ℕ} (own : Own) (j : Validated) (x : LookupOf s d (lookupBy own j)) where
-  pub lookup-own : own ≡ ownOf (switchAt s)
-  lookup-own = ap ownOf (x .lookup)
-
-  pub lookup-edition : j .rfc7179 ≡ switchAt s .rfc7179
-  lookup-edition = ap (λ (y : Ways). y .rfc7179) (x .lookup)
-
-  pub lookup-ways : waysBy (lookupBy own j) ≡ onlyFor d (switchAt s)
-  lookup-ways = x .lookup
-
-  pub lookup-forwardable : {f : List ℕ} {h : Header} {alert : Alert} → Forwardable (j .rfc7179) f h alert → Forwardable (switchAt s .rfc7179) f h alert
-  lookup-forwardable y = rw lookup-edition at y
-
--- what is done by it
-module _ (own : Own) (j : Validated) (t : Lookup) (e : t ≡ lookupBy own j) where
-  pub by-forwardable : {f : List ℕ} {h : Header} {alert : Alert} → Forwardable (j .rfc7179) f h alert → Forwardable (t .rfc7179) f h alert
-  by-forwardable y = rw e y
-
-  module _ (f : List ℕ) (h : Header) (r : Answer) (out out1 : List ℕ) where
-    pub by-transit : (alert : Alert) → Done (transitQuiet (waysBy t) f h alert) r out out1 → Done (transitQuiet (waysBy (lookupBy own j)) f h alert) r out out1
-    by-transit alert d = rw e at d
-
-    pub by-error : (code : ℕ) → Done (faulted (waysBy t) f h code) r out out1 → Done (faulted (waysBy (lookupBy own j)) f h code) r out out1
-    by-error code d = rw e at d
-
-    pub by-echo : (clock : List ℕ) → Done (echoed (waysBy t) clock f h) r out out1 → Done (echoed (waysBy (lookupBy own j)) clock f h) r out out1
-    by-echo clock d = rw e at d
-
-pub ruleset done-by-laws = (needs, by-forwardable, by-transit, by-error, by-echo)
-
--- of our role's destination
-module _ {s f : List ℕ} {h : Header} (own : Own) (j : Validated) (x : LookupOf s (wantedBy (own .nickname) h) (lookupBy own j)) (task : Task)
-    (routes : Routes (own .nickname) (j .rfc7179) f h task) where
-  module _ (clock : List ℕ) (r : Answer) (out out1 : List ℕ) where
-    pub lookup-error : (code : ℕ) → task ≡ Error code → Done (faulted (waysBy (lookupBy own j)) f h code) r out out1
-        → Done (faulted (switchAt s) f h code) r out out1
-    lookup-error code e = back-error (switchAt s) f h (lookupBy own j) (rw (rw e at (routes .role)) at (x .lookup)) r out out1 code
-
-    pub lookup-echo : task ≡ Echo → Done (echoed (waysBy (lookupBy own j)) clock f h) r out out1 → Done (echoed (switchAt s) clock f h) r out out1
-    lookup-echo e = back-echo (switchAt s) f h (lookupBy own j) (rw (rw e at (routes .role)) at (x .lookup)) r out out1 clock
-
-  pub lookup-onward : (alert : Alert) → task ≡ Forward alert → LookupOf s (h .egress) (lookupBy own j)
-  lookup-onward alert e = rw (rw e at (routes .role)) at x
-
-pub ruleset handle-by-laws = (task-laws, lookup-own, lookup-edition, lookup-error, lookup-echo, lookup-onward)
-
-pub ruleset forward-by-laws = (needs, replied, replies-none, lookup-ways, lookup-own, lookup-forwardable)
-
-pub validated-forwardable : (s : List ℕ) (d : ℕ) (j : Validated) → ValidatedBy s d j → known (settingsOf s) ≡ true → (own : Own)
-    → own ≡ ownOf (switchAt s) → (t : Lookup) → t ≡ lookupBy own j → (f : List ℕ) (h : Header) (alert : Alert)
-    → Forwardable (switchAt s .rfc7179) f h alert → Forwardable (t .rfc7179) f h alert
-validated-forwardable s d j is good own o t e f h alert = said-forwardable (switchAt s) t f h alert d (validated-lookup s d j is own o t e good)
-
-pub ruleset reply-by-laws = (needs, replies-so, validated-lookup, validated-forwardable)

@@ -7,7 +7,7 @@ use rules.declared.{NextHop.NextHop, Header.Header, Ruling.Ruling}
 use rules.declared.Ruling.the-variants.{Found, Absent}
 use Rattle.octets.specs.Copy.{Wrote}
 use Rattle.octets.proofs.Ends.{joined}
-use Rattle.handler.proofs.Stages.{parts, lent-rest, link-sized, rest-long}
+use Rattle.handler.proofs.Stages.{lent-rest, link-sized, rest-long}
 use mathlib.Core.Path.{_≡_, _∙_, refl, sym}
 use mathlib.Core.List.{List, _++_, []}
 use Prim.Native.Nat.{ℕ, _+_, _≤_, _-_, _*_, _<_}
@@ -15,22 +15,20 @@ use native.Mathlib.Omega.{arith}
 use native.Mathlib.Nat.{zero-add}
 use borrow.Author.Needs.{needs}
 use lib.ListN.{length, length-append, length-take, take, drop, length-drop}
-use rules.{Octets.octet, Settings.Ways, Link.link, Options.WellFormed, Options.draftRead, Options.stripped, Extension.areaSent}
+use rules.{Octets.octet, Settings.Ways, Link.link, Extension.areaSent}
 use rules.Channel.{errorBody, echoBody, errorReply, echoReply, replyRest, replyInner, bodyOf, returnPath, silenced}
 use Rattle.rules.proofs as ruleLaws
 use ruleLaws.FrameLaws.{link-most, frame-read, link-length, length-link}
-use ruleLaws.{ReplyLaws.echo-body-length, OptionLaws.stripped-word, OptionLaws.stripped-shorter}
-use ruleLaws.OctetLaws.{put-none, take-put, length-part}
+use ruleLaws.{ReplyLaws.echo-body-length, OptionLaws.stripped-word}
+use ruleLaws.OctetLaws.{put-none, length-part}
 use Rattle.handler.specs
-use specs.declared.way.Own.{Own}
+use specs.declared.way.{Own.Own, Lookup.Lookup}
 use specs.declared.answers.Answer.{Answer}
-use specs.Shapes.{ownOf, replyOctets, Replied, answerOf, wroteBy, linkSize, restWith, Fits, Ready, Done}
+use specs.Shapes.{Owns, Sends, replyOctets, Replied, answerOf, wroteBy, linkSize, restWith, waysBy, Fits, Ready, Done}
 use mathlib.Core.Bool.{Bool, true, false, not, _&&_}
-use borrow.Author.Tests.{lt-leb, le-leb, leb-true, leb-false, not-true}
-use lib.Dec.{leb}
-use lib.Seq.{drop-drop, length-take-le}
+use lib.Seq.{drop-drop}
 use rules.Handling.{forwarded, forwardedRest, onward, faulted, echoed}
-use ruleLaws.TestLaws.{by-test, and-no, and-yes, and-true}
+use ruleLaws.TestLaws.{by-test}
 use ruleLaws.HandlingLaws.{onward-long, onward-sent, faulted-silent, faulted-none, faulted-over, echoed-mode, echoed-none, echoed-over}
 use Rattle.rules.specs.Answer as A
 
@@ -92,6 +90,12 @@ pub room-18 : (out : List ℕ) → 2048 ≤ length out → 18 ≤ length out
 room-18 out h = omega arith
 
 -- 29 and 50, with the area as it is sent
+pub sends-area : {S : Ways} {f : List ℕ} {h : Header} {area : List ℕ} → Sends S f h area → areaSent S (areaOf f h) ≡ area
+sends-area x = x .goes
+
+pub sends-few : {S : Ways} {f : List ℕ} {h : Header} {area : List ℕ} → Sends S f h area → length area ≤ 124
+sends-few x = x .few
+
 module _ (S : Ways) (r : NextHop) (f : List ℕ) (h : Header) (out area : List ℕ) (goes : areaSent S (areaOf f h) ≡ area) where
   forwards : link S r ++ restWith area f h ≡ forwarded S r f h
   unfolding forwarded forwardedRest restWith
@@ -130,7 +134,7 @@ pub ruleset onward-laws = (needs, ready, link-room, room-18, onward-over, onward
 
 -- how long it is
 module _ {f : List ℕ} {h : Header} (ready : Ready f h) where
-  area-words : length (areaOf f h) ≡ 4 * opLength (h .word)
+  pub area-words : length (areaOf f h) ≡ 4 * opLength (h .word)
   area-words = length-part f (h .place + 6) (4 * opLength (h .word)) (ready .area-whole)
 
   pub area-few : length (areaOf f h) ≤ 124
@@ -149,83 +153,22 @@ pub with-long : (f : List ℕ) (h : Header) (area : List ℕ) (inner : ℕ) → 
     → 6 + length area + (length f - inner) ≡ length (restWith area f h)
 with-long f h area inner start = omega (arith, rest-long f h area)
 
-module _ {f : List ℕ} {h : Header} (is : Ready f h) (area : List ℕ) (few : length area ≤ 124) (inner : ℕ) where
+module _ {f : List ℕ} {h : Header} (is : Ready f h) {S : Ways} {area : List ℕ} (few : Sends S f h area) (inner : ℕ) where
   pub with-size : 6 + length area + (length f - inner) < 18446744073709551616
-  with-size = omega arith
+  with-size = omega (arith, few .few)
 
   pub with-sum : (r : NextHop) (k : ℕ) → k ≡ linkSize (r .vlan) → k + (6 + length area + (length f - inner)) < 18446744073709551616
-  with-sum r k e = omega (arith, link-sized (r .vlan))
+  with-sum r k e = omega (arith, link-sized (r .vlan), few .few)
 
-pub ruleset send-with-laws = (onward-laws, with-long, with-size, with-sum)
+pub ruleset send-with-laws = (onward-laws, sends-area, sends-few, with-long, with-size, with-sum)
 
--- what is left of an area, stripped aside
-pub aside-room : {f : List ℕ} {h : Header} → Ready f h → (lent : List ℕ) → lent ≡ areaOf f h → 0 + length lent ≤ 124
-aside-room is lent held = rw held (omega (arith, area-few is))
-
-module _ {f : List ℕ} {h : Header} (is : Ready f h) (n : ℕ) (aside aside1 lent : List ℕ) (wrote : Wrote (stripped lent) 0 n aside aside1)
-    (held : lent ≡ areaOf f h) (well : draftRead (areaOf f h) ≡ WellFormed) where
-  kept-within : n ≤ 124
-  kept-within = omega (arith, rw held at (wrote .ends), stripped-shorter (areaOf f h) well, area-words is)
-
-  module _ (wide : length aside1 ≡ 124) where
-    pub kept-there : n ≤ length aside1
-    kept-there = omega (arith, kept-within)
-
-    pub kept-count : n ≡ length (take n aside1)
-    kept-count = sym (length-take-le n aside1 kept-there)
-
-    pub kept-few : length (take n aside1) ≤ 124
-    kept-few = omega (arith, kept-count, kept-within)
-
-  pub kept-sent : (S : Ways) → areaSent S (areaOf f h) ≡ stripped (areaOf f h) → areaSent S (areaOf f h) ≡ take n aside1
-  kept-sent S goes = cc (take-put aside (stripped lent), zero-add (length (stripped lent)))
-
-pub lent-well : (f : List ℕ) (h : Header) (lent : List ℕ) → lent ≡ areaOf f h → draftRead (areaOf f h) ≡ WellFormed → draftRead lent ≡ WellFormed
-lent-well f h lent held well = rw held well
-
-pub ruleset send-stripped-laws = (needs, ready, area-held, aside-room, kept-there, kept-count, kept-few, kept-sent, lent-well, held-least)
-
--- which area is sent
-abbrev pub stripsBy : Header → Bool → Bool → Bool
-stripsBy h strip rfc7179 = leb 2 (opLength (h .word)) && (strip && not rfc7179)
-
-pub strips-some : (f : List ℕ) (h : Header) → Ready f h → (strip flag : Bool) → strip ≡ (leb 2 (opLength (h .word)) && flag) → strip ≡ true
-    → 4 ≤ length (areaOf f h)
-strips-some f h is strip flag so t = let e = sym so ∙ t in omega (arith, area-words is, leb-true 2 (opLength (h .word)) (search parts))
-
-module _ (S : Ways) (f : List ℕ) (h : Header) (ready : Ready f h) (strip : Bool)
-    (flag : strip ≡ stripsBy h (S .strip) (S .rfc7179)) where
-  pub sends-stripped : strip ≡ true → areaSent S (areaOf f h) ≡ stripped (areaOf f h)
+-- a frame without an area goes on as it is
+module _ (S : Ways) {f : List ℕ} {h : Header} (is : Ready f h) (none : opLength (h .word) ≡ 0) where
+  pub plain-sent : areaSent S (areaOf f h) ≡ areaOf f h
   unfolding areaSent
-  sends-stripped t = rw (and-true (leb 2 (opLength (h .word))) (S .strip && not (S .rfc7179)) (sym flag ∙ t) .1)
-
-  pub sends-whole : strip ≡ false → areaSent S (areaOf f h) ≡ areaOf f h
-  unfolding areaSent
-  sends-whole t =
-      by-test (leb 2 (opLength (h .word)))
-      (λ e. let off : (S .strip && not (S .rfc7179)) ≡ false = sym (sym t ∙ flag ∙ (rw e)) in rw off)
-      (λ e.
-      let word : length (areaOf f h) ≤ 4 = omega (arith, area-words ready, leb-false 2 (opLength (h .word)) e) in
-      by-test (S .strip && not (S .rfc7179)) (λ u. rw (u, stripped-word (areaOf f h) word)) (λ u. rw u))
-
--- it is stripped in edition 1 alone
-pub strips-well : (f : List ℕ) (h : Header) (strip flag rfc7179 : Bool) → strip ≡ stripsBy h flag rfc7179 → strip ≡ true
-    → (rfc7179 ≡ false → draftRead (areaOf f h) ≡ WellFormed) → draftRead (areaOf f h) ≡ WellFormed
-strips-well f h strip flag rfc7179 so t well = let e = sym so ∙ t in well (not-true rfc7179 (search parts))
-
-module _ (h : Header) (strip rfc7179 : Bool) (n : ℕ) (words : n ≡ opLength (h .word)) where
-  pub strips-none : n < 2 → false ≡ stripsBy h strip rfc7179
-  strips-none few = rw (lt-leb 2 (opLength (h .word)) (omega arith))
-
-  pub strips-not : rfc7179 ≡ true → false ≡ stripsBy h strip rfc7179
-  strips-not e = rw (e, and-no, and-no)
-
-  pub strips-so : 2 ≤ n → rfc7179 ≡ false → strip ≡ stripsBy h strip rfc7179
-  strips-so more e = rw (le-leb 2 (opLength (h .word)) (omega arith), e, and-yes)
-
-pub ruleset strips-laws = (needs, strips-none, strips-not, strips-so)
-
-pub ruleset send-laws = (needs, ready, strips-some, strips-well, sends-stripped, sends-whole)
+  plain-sent =
+      let word : length (areaOf f h) ≤ 4 = omega (arith, area-words is) in
+      by-test (S .strip && not (S .rfc7179)) (λ u. rw (u, stripped-word (areaOf f h) word)) (λ u. rw u)
 
 -- a reply, or none
 unreplied : {a : A.Handled} (n : ℕ) (out : List ℕ) → a ≡ A.dropped n → Replied (a .octets) 0 out out
@@ -266,7 +209,7 @@ pub ruleset echoed-laws = (needs, ready, body-held, body-within, held-least, hel
 -- the two replies towards a next hop: what is written behind the link header makes one write
 module _ (S : Ways) (r : NextHop) (out : List ℕ) (roomy : 576 ≤ length out) where
   module _ (out1 : List ℕ) (k : ℕ) (linked : Wrote (link S r) 0 k out out1) where
-    module _ (own : Own) (owned : own ≡ ownOf S) (h : Header) (end : ℕ) (out2 : List ℕ) where
+    module _ (own : Own) (owned : Owns own S) (h : Header) (end : ℕ) (out2 : List ℕ) where
       reply-made : (number code : ℕ) (body octets : List ℕ) → link S r ++ (replyOctets own (h .ingress) number code ++ body) ≡ octets → length body ≤ 530
           → Wrote (replyOctets own (h .ingress) number code ++ body) k end out1 out2 → Replied octets end out out2
       reply-made number code body octets is few w =
@@ -277,13 +220,13 @@ module _ (S : Ways) (r : NextHop) (out : List ℕ) (roomy : 576 ≤ length out) 
       pub error-made : (f : List ℕ) (code : ℕ) → Wrote (replyOctets own (h .ingress) 0x001 code ++ errorBody f h) k end out1 out2
           → Replied (errorReply S r f h code) end out out2
       unfolding errorReply replyRest replyInner
-      error-made f code = reply-made 0x001 code (errorBody f h) (errorReply S r f h code) (rw owned) (rw length-take (omega arith))
+      error-made f code = reply-made 0x001 code (errorBody f h) (errorReply S r f h code) (rw (owned .named, owned .addressed)) (rw length-take (omega arith))
 
       pub echo-made : (clock body : List ℕ) → length clock ≡ 6 → 18 ≤ length body → length body ≤ 530
           → Wrote (replyOctets own (h .ingress) 0xFF8 0 ++ echoBody body clock) k end out1 out2 → Replied (echoReply S r h clock body) end out out2
       unfolding echoReply replyRest replyInner
       echo-made clock body six enough few =
-          reply-made 0xFF8 0 (echoBody body clock) (echoReply S r h clock body) (rw owned) (rw (echo-body-length body clock enough six) few)
+          reply-made 0xFF8 0 (echoBody body clock) (echoReply S r h clock body) (rw (owned .named, owned .addressed)) (rw (echo-body-length body clock enough six) few)
 
     module _ (same : length out1 ≡ length out) where
       pub error-room : k + 156 ≤ length out1
@@ -295,4 +238,7 @@ module _ (S : Ways) (r : NextHop) (out : List ℕ) (roomy : 576 ≤ length out) 
 pub reply-18 : (out : List ℕ) → 576 ≤ length out → 18 ≤ length out
 reply-18 out h = omega arith
 
-pub ruleset reply-laws = (needs, ready, link-room, reply-18, error-made, echo-made, error-room, echo-room)
+pub lookup-owns : (t : Lookup) → Owns (t .own) (waysBy t)
+lookup-owns t = record { named = refl; addressed = refl }
+
+pub ruleset reply-laws = (needs, ready, link-room, reply-18, lookup-owns, error-made, echo-made, error-room, echo-room)

@@ -12,18 +12,21 @@ use mathlib.Core.List.{List, _++_, append-assoc, [], _∷_}
 use Prim.Native.Nat.{ℕ, _+_, _-_, _≤_, _*_, _/_, _<_, _%_}
 use native.Mathlib.Omega.{arith}
 use native.Mathlib.Nat.{add-zero}
-use lib.ListN.{length, take, drop, length-drop, length-append, getD, length-take, take-append-drop}
-use lib.Seq.{take-all, take-add, drop-drop, length-take-le}
+use lib.ListN.{length, take, drop, length-drop, length-append, getD, length-take, take-append-drop, drop-of-length-le}
+use lib.Seq.{take-all, take-add, drop-drop, drop-cons, length-take-le}
+use lib.Bits.{bitOr}
 use lib.Dec.{eqb}
-use Rattle.rules.proofs.{OctetLaws.length-part, OctetLaws.drop-part, OctetLaws.put-inside, OctetLaws.octets16-be16, FrameLaws.frame-read, FrameLaws.link-length}
+use Rattle.rules.proofs.{OctetLaws.length-part, OctetLaws.drop-part, OctetLaws.put-inside, OctetLaws.put-tail, OctetLaws.octets16-be16, FrameLaws.frame-read, FrameLaws.link-length}
 use mir.Syntax.{w8}
 use mir.Val as Val
 use Rattle.handler.specs
-use specs.Shapes.{linkSize, taggedOctets, Fits, sentBy, headerSent, restWith, replyOctets}
+use specs.Shapes.{linkSize, taggedOctets, Fits, sentBy, headerSent, restWith, replyHead, replyChannel, replyOctets, waysBy}
+use Rattle.octets.specs.Words.{octets64}
+use Rattle.octets.proofs.Bits.{or-add}
 use Rattle.octets.specs.Copy.{Wrote, fitting}
 use Rattle.octets.proofs.Ends.{copied, wrote-long, joined, copied-on}
 use rules.declared.{NextHop.NextHop, Header.Header, FrameRead.the-variants.Trill}
-use specs.declared.way.Own.{Own}
+use specs.declared.way.{Own.Own, Lookup.Lookup}
 
 -- what is lent from a place on is what is left from there on
 pub lent-rest : (s : List ℕ) (n : ℕ) → take (length s - n) (drop n s) ≡ drop n s
@@ -46,10 +49,36 @@ module _ {A : Type 0} (r x y : A) (n k : ℕ) where
 
 pub ruleset if-laws = (needs, if-equal, if-other)
 
+-- a write over the end of the one before
+over : (s t : List ℕ) {out mid out′ u : List ℕ} {at here from end : ℕ} → Wrote (s ++ t) at here out mid → from ≡ at + length s → Wrote u from end mid out′
+    → length t ≤ length u → at + length s ≤ length out → Wrote (s ++ u) at end out out′
+over s t {out} {u = u} {at = at} a e b short room =
+    record { ends = rw length-append (omega arith); after = b .after ∙ rw (a .after, e) (put-tail out at s t u room short) }
+
+-- a MAC above 16 bits more
+octets-above : (mac low : ℕ) → low < 65536 → octets48 ((mac % 281474976710656 * 65536 + low) / 65536) ≡ octets48 mac
+octets-above mac low small =
+    let x = (mac % 281474976710656 * 65536 + low) / 65536 in
+    let a : x / 4294967296 / 256 % 256 ≡ mac / 4294967296 / 256 % 256 = omega arith in
+    let b : x / 4294967296 % 256 ≡ mac / 4294967296 % 256 = omega arith in
+    let c : x / 65536 / 256 % 256 ≡ mac / 65536 / 256 % 256 = omega arith in
+    let d : x / 65536 % 256 ≡ mac / 65536 % 256 = omega arith in
+    let e : x / 256 % 256 ≡ mac / 256 % 256 = omega arith in
+    let f : x % 256 ≡ mac % 256 = omega arith in
+    rw (a, b, c, d, e, f)
+
+pub above-or : (mac low : ℕ) → low < 65536 → bitOr (mac * 65536 % 18446744073709551616) low ≡ mac % 281474976710656 * 65536 + low
+above-or mac low small = or-add (mac * 65536 % 18446744073709551616) 16 low (omega arith) small ∙ omega arith
+
 -- both MACs
-pub macs-written : (to own : ℕ) (d d1 d2 a b : List ℕ) (m n : ℕ) → Wrote (fitting d1 m b) m n d1 d2 → Wrote (fitting d 0 a) 0 m d d1 → a ≡ octets48 to
-    → b ≡ octets48 own → 14 ≤ length d → Wrote (octets48 to ++ octets48 own) 0 n d d2
-macs-written to own d d1 d2 a b m n q p is its room = copied-on (copied p is (omega arith)) q its (omega arith)
+pub macs-written : (to : NextHop) (own w : ℕ) (d d1 d2 a b : List ℕ) (m n : ℕ) → w ≡ to .mac % 281474976710656 * 65536 + to .neighbour → to .neighbour < 65536
+    → a ≡ octets64 w → b ≡ octets64 own → Wrote (fitting d 0 a) 0 m d d1 → Wrote (fitting d1 6 b) 6 n d1 d2 → 14 ≤ length d
+    → Wrote (octets48 (to .mac) ++ octets64 own) 0 14 d d2
+macs-written to own w d d1 d2 a b m n is small ea eb p q room =
+    let first : Wrote (octets48 (w / 65536) ++ octets16 w) 0 m d d1 = copied p ea (omega arith) in
+    let both = over (octets48 (w / 65536)) (octets16 w) first refl (copied q eb (omega (arith, wrote-long first (omega (arith, first .ends))))) (omega arith) (omega arith) in
+    let mac : octets48 (w / 65536) ≡ octets48 (to .mac) = rw is (octets-above (to .mac) (to .neighbour) small) in
+    record { ends = refl; after = both .after ∙ ap (λ (x : List ℕ). put d 0 (x ++ octets64 own)) mac }
 
 pub ruleset write-macs-laws = (needs, macs-written)
 
@@ -57,17 +86,29 @@ pub ruleset write-macs-laws = (needs, macs-written)
 pub macs-room : (r : NextHop) (out : List ℕ) → linkSize (r .vlan) ≤ length out → 14 ≤ length out
 macs-room r out h = omega (arith, link-sized (r .vlan))
 
-module _ (S : Ways) (r : NextHop) (mac : ℕ) (own : mac ≡ S .mac) (d d1 d2 end : List ℕ) (m n : ℕ) (p : Wrote (octets48 (r .mac) ++ octets48 mac) 0 m d d1)
-    (q : Wrote (fitting d1 m end) m n d1 d2) (room : linkSize (r .vlan) ≤ length d) where
+module _ (S : Ways) (r : NextHop) (word : ℕ) (own : word / 65536 ≡ S .mac) (d d1 d2 end : List ℕ) (n : ℕ)
+    (p : Wrote (octets48 (r .mac) ++ octets64 word) 0 14 d d1) (q : Wrote (fitting d1 12 end) 12 n d1 d2) (room : linkSize (r .vlan) ≤ length d) where
+  macs : List ℕ
+  macs = octets48 (r .mac) ++ octets48 (word / 65536)
+
+  behind : {rest : List ℕ} → end ≡ rest → 12 + length rest ≤ length d → 2 ≤ length rest → Wrote (macs ++ rest) 0 n d d2
+  unfolding macs
+  behind {rest} e fits more =
+      let first : Wrote (macs ++ octets16 word) 0 14 d d1 = record { ends = refl; after = p .after } in
+      over macs (octets16 word) first refl (copied q e (omega (arith, wrote-long first (omega arith)))) more (omega arith)
+
   pub plain-written : r .vlan ≡ 0 → end ≡ octets16 0x22F3 → Wrote (link S r) 0 n d d2
-  unfolding link outerTag
-  plain-written z e = rw (z, ← own) (copied-on p q e (rw z at room))
+  unfolding link outerTag macs
+  plain-written z e = rw (z, ← own) (behind e (rw z at room) (omega arith))
 
   pub tagged-written : (r .vlan ≡ 0 → ⊥) → end ≡ taggedOctets (r .vlan) → Wrote (link S r) 0 n d d2
-  unfolding link outerTag
-  tagged-written z e = rw (ne-eqb (r .vlan) 0 z, ← own) (copied-on p q e (rw (ne-eqb (r .vlan) 0 z) at room))
+  unfolding link outerTag macs
+  tagged-written z e = rw (ne-eqb (r .vlan) 0 z, ← own) (behind e (rw (ne-eqb (r .vlan) 0 z) at room) (omega arith))
 
-pub ruleset write-link-laws = (needs, macs-room, plain-written, tagged-written)
+pub lookup-mac : (t : Lookup) → t .own .word / 65536 ≡ waysBy t .mac
+lookup-mac t = refl
+
+pub ruleset write-link-laws = (needs, macs-room, plain-written, tagged-written, lookup-mac)
 
 -- a forwarded frame behind its link header
 module _ (f : List ℕ) (h : Header) (area : List ℕ) where
@@ -165,36 +206,62 @@ pub ruleset forward-laws = (needs, fits-near, fits-whole, fits-header, with-writ
 
 pub ruleset header-laws = (needs, header-written)
 
--- the 28 octets of a reply, and its buffer
+-- the 28 octets of a reply: its two parts, and our own MAC between them
+pub head-made : (nickname ingress a b c d : ℕ) → a ≡ ingress / 256 % 256 → b ≡ ingress % 256 → c ≡ nickname / 256 % 256 → d ≡ nickname % 256
+    → (0x00 ∷ 0x3F ∷ a ∷ b ∷ c ∷ d ∷ 0x01 ∷ 0x80 ∷ 0xC2 ∷ 0x00 ∷ 0x00 ∷ 0x42 ∷ []) ≡ replyHead nickname ingress
+head-made nickname ingress a b c d ea eb ec ed = rw (ea, eb, ec, ed)
+
+pub channel-made : (number code e f : ℕ) → e ≡ number / 256 % 256 → f ≡ number % 256 → code < 256
+    → (0x81 ∷ 0x00 ∷ 0x00 ∷ 0x01 ∷ 0x89 ∷ 0x46 ∷ e ∷ f ∷ 0xC0 ∷ code ∷ []) ≡ replyChannel number code
+channel-made number code e f ee ef small =
+    let e1 : (0xC000 + code) / 256 % 256 ≡ 0xC0 = omega arith in
+    let e2 : (0xC000 + code) % 256 ≡ code = omega arith in
+    rw (ee, ef, e1, e2)
+
+pub ruleset head-octets-laws = (needs, head-made)
+
+pub ruleset channel-octets-laws = (needs, channel-made)
+
 module _ (own : Own) (ingress number code : ℕ) where
   abbrev reply : List ℕ
   reply = replyOctets own ingress number code
 
-  pub head-made : (m : List ℕ) (a b c d e f : ℕ) → m ≡ octets48 (own .mac) → a ≡ ingress / 256 % 256 → b ≡ ingress % 256 → c ≡ own .nickname / 256 % 256
-      → d ≡ own .nickname % 256 → e ≡ number / 256 % 256 → f ≡ number % 256 → code < 256
-      → (0x00 ∷ 0x3F ∷ a ∷ b ∷ c ∷ d ∷ 0x01 ∷ 0x80 ∷ 0xC2 ∷ 0x00 ∷ 0x00 ∷ 0x42
-      ∷ getD m 0 0 ∷ getD m 1 0 ∷ getD m 2 0 ∷ getD m 3 0 ∷ getD m 4 0 ∷ getD m 5 0
-      ∷ 0x81 ∷ 0x00 ∷ 0x00 ∷ 0x01 ∷ 0x89 ∷ 0x46 ∷ e ∷ f ∷ 0xC0 ∷ code ∷ [])
-      ≡ reply
-  head-made m a b c d e f em ea eb ec ed ee ef small =
-      let e1 : (0xC000 + code) / 256 % 256 ≡ 0xC0 = omega arith in
-      let e2 : (0xC000 + code) % 256 ≡ code = omega arith in
-      rw (em, ea, eb, ec, ed, ee, ef, e1, e2)
+  module _ (at here x : ℕ) (d d1 d2 a b : List ℕ) (room : at + 28 ≤ length d) (ea : a ≡ replyHead (own .nickname) ingress) (p : Wrote (fitting d at a) at here d d1)
+      (eb : b ≡ octets64 (own .word)) (q : Wrote (fitting d1 here b) here x d1 d2) where
+    abbrev first : List ℕ
+    first = replyHead (own .nickname) ingress ++ octets48 (own .word / 65536)
+
+    two : Wrote (first ++ octets16 (own .word)) at x d d2
+    two = copied-on (copied p ea (omega arith)) q eb (omega arith)
+
+    pub reply-from : 2 ≤ x
+    reply-from = omega (arith, two .ends)
+
+    pub reply-written : (end : ℕ) (d3 c : List ℕ) → c ≡ replyChannel number code → Wrote (fitting d2 (x - 2) c) (x - 2) end d2 d3 → Wrote reply at end d d3
+    reply-written end d3 c ec r =
+        let same = wrote-long two (omega (arith, two .ends)) in
+        over first (octets16 (own .word)) two (omega (arith, two .ends)) (copied r ec (omega (arith, two .ends, same))) (omega arith) (omega arith)
 
   -- with what is written behind them
-  module _ (at here end : ℕ) (d d1 d2 head : List ℕ) (p : Wrote (fitting d at head) at here d d1) (is : head ≡ reply) where
+  module _ (at here end : ℕ) (d d1 d2 : List ℕ) (p : Wrote reply at here d d1) where
     pub error-written : (f : List ℕ) (n : ℕ) (body : List ℕ) → Wrote (fitting d1 here body) here end d1 d2 → body ≡ take 128 (drop n f) → at + 156 ≤ length d
         → Wrote (reply ++ take 128 (drop n f)) at end d d2
-    error-written f n body q eb room = copied-on (copied p is (omega arith)) q eb (omega (arith, length-take 128 (drop n f)))
+    error-written f n body q eb room = copied-on p q eb (omega (arith, length-take 128 (drop n f)))
 
     module _ (body : List ℕ) (room : at + 28 + length body ≤ length d) where
       pub echo-fits : length d1 ≡ length d → here + length body ≤ length d1
-      echo-fits same = let w = copied p is (omega arith) in omega arith
+      echo-fits same = omega (arith, p .ends)
 
       pub echo-written : (clock : List ℕ) → Wrote (echoBody body clock) here end d1 d2 → Wrote (reply ++ echoBody body clock) at end d d2
-      echo-written clock = joined (copied p is (omega arith))
+      echo-written clock = joined p
 
-pub ruleset reply-octets-laws = (needs, head-made)
+pub ruleset write-head-laws = (needs, reply-from, reply-written)
+
+pub error-head : (at : ℕ) (d : List ℕ) → at + 156 ≤ length d → at + 28 ≤ length d
+error-head at d h = omega arith
+
+pub echo-head : (at : ℕ) (body d : List ℕ) → at + 28 + length body ≤ length d → at + 28 ≤ length d
+echo-head at body d h = omega arith
 
 -- at most 128 octets from a place on
 module _ (f : List ℕ) (n : ℕ) where
@@ -206,22 +273,36 @@ module _ (f : List ℕ) (n : ℕ) where
 
 pub ruleset cited-laws = (needs, cited-all, cited-most)
 
-pub ruleset write-error-laws = (needs, error-written)
+pub ruleset write-error-laws = (needs, error-head, error-written)
 
-pub ruleset write-echo-laws = (needs, echo-fits, echo-written)
+pub ruleset write-echo-laws = (needs, echo-head, echo-fits, echo-written)
+
+-- six octets one by one
+six-is : (s : List ℕ) → length s ≡ 6 → (getD s 0 0 ∷ getD s 1 0 ∷ getD s 2 0 ∷ getD s 3 0 ∷ getD s 4 0 ∷ getD s 5 0 ∷ []) ≡ s
+six-is s n =
+    sym (drop-cons s 0 0 (omega arith)
+    ∙ rw (
+      drop-cons s 1 0 (omega arith),
+      drop-cons s 2 0 (omega arith),
+      drop-cons s 3 0 (omega arith),
+      drop-cons s 4 0 (omega arith),
+      drop-cons s 5 0 (omega arith),
+      drop-of-length-le s {i = 6} (omega arith),
+    ))
 
 -- an echo body, answered: written in whole, then two of its parts over it
 module _ (body clock : List ℕ) (long : 18 ≤ length body) (six : length clock ≡ 6) (at end here there a o : ℕ) (d d1 d2 d3 : List ℕ)
     (room : at + length body ≤ length d) where
   pub body-written : Wrote (fitting d at body) at end d d1 → Wrote (fitting d1 at (a ∷ [])) at here d1 d2
-      → Wrote (fitting d2 (at + 12) (take 6 clock)) (at + 12) there d2 d3 → a ≡ 64 + o % 16 → o ≡ octet body 0 → Wrote (echoBody body clock) at end d d3
+      → Wrote (fitting d2 (at + 12) (getD clock 0 0 ∷ getD clock 1 0 ∷ getD clock 2 0 ∷ getD clock 3 0 ∷ getD clock 4 0 ∷ getD clock 5 0 ∷ []))
+      (at + 12) there d2 d3 → a ≡ 64 + o % 16 → o ≡ octet body 0 → Wrote (echoBody body clock) at end d d3
   unfolding echoBody
   body-written p q r ea eo =
       let whole = copied p refl room in
       let kept = wrote-long whole (omega (arith, whole .ends)) in
       let first = copied q refl (omega (arith, kept)) in
       let same = wrote-long first (omega (arith, first .ends, kept)) in
-      let timed : Wrote clock (at + 12) there d2 d3 = copied r (take-all 6 clock (omega arith)) (omega (arith, same, kept)) in
+      let timed : Wrote clock (at + 12) there d2 d3 = copied r (six-is clock six) (omega (arith, same, kept)) in
       let is : a ≡ 64 + octet body 0 % 16 = rw eo at ea in
       let eleven = part body 1 11 in
       let one = length-part body 1 11 (omega arith) in
@@ -239,7 +320,4 @@ module _ (body clock : List ℕ) (long : 18 ≤ length body) (six : length clock
         after = timed .after ∙ rw head (rw twelve at tail);
       })
 
-pub clock-count : (clock : List ℕ) → length clock ≡ 6 → 6 ≡ length (take 6 clock)
-clock-count clock six = sym (length-take-le 6 clock (omega arith))
-
-pub ruleset write-echo-body-laws = (needs, clock-count, body-written)
+pub ruleset write-echo-body-laws = (needs, body-written)

@@ -20,8 +20,8 @@ use specs.declared.answers.Answer.{Answer}
 use specs.declared.way.Own.{Own}
 use specs.declared.handling.Received.{Received}
 use specs.declared.handling.Received.the-variants.{Refused, Trill}
-use specs.{Shapes.droppedBy, Shapes.ownOf, Shapes.onlyFor, Shapes.waysBy, Tasks.receivedBy, Tasks.Receiving, Tasks.Both}
-use proofs.TaskLaws.{both-of, finds, replies-none, replies-so, replied, said-forwardable}
+use specs.{Shapes.droppedBy, Shapes.Owns, Shapes.onlyFor, Shapes.waysBy, Tasks.receivedBy, Tasks.Receiving, Tasks.Both}
+use proofs.TaskLaws.{both-of, finds, back-message, both-plain, front-count, front-done, front-room}
 use Rattle.stores.proofs.PlaceLaws.{good-whole, step-past, step-up, step-stay, place-hinted, place-searched, for-past, for-other}
 use Rattle.stores.specs.Store.{nicknameIn, countIn, destAt, hopOf, hopAt, lastAt, hintAt, placeIn, hopFor, waysIn, storeGood, handledIn, Whole}
 use Rattle.rules.specs.Answer as A
@@ -108,7 +108,7 @@ pub ruleset hop-for-laws = (needs, for-past, for-other, for-withdrawn, for-found
 pub ruleset place-in-laws = (needs, place-hinted, place-searched)
 
 pub lookup-at : (w : List ℕ) (d i n : ℕ) (own : Own) (strip rfc7179 : Bool) (hop : Ruling) → hop ≡ hopFor w n d i → n ≡ countIn w → i ≡ placeIn w (countIn w) d
-    → own ≡ ownOf (waysIn w) → strip ≡ waysIn w .strip → rfc7179 ≡ waysIn w .rfc7179
+    → Owns own (waysIn w) → strip ≡ waysIn w .strip → rfc7179 ≡ waysIn w .rfc7179
     → waysBy (record { own = own; strip = strip; rfc7179 = rfc7179; hop = hop }) ≡ onlyFor d (waysIn w)
 lookup-at w d i n own strip rfc7179 hop e c p o s t = finds (waysIn w) d own strip rfc7179 hop o s t (e ∙ rw (c, p))
 
@@ -127,7 +127,7 @@ module _ (w clock f out beside : List ℕ) (ok : Bool) (is : ok ≡ storeGood w)
     pub good-store : Whole w
     good-store = good-whole w (sym is ∙ not-false ok n)
 
-    module _ (own : Own) (o : own ≡ ownOf (waysIn w)) (received : Received) (x : Receiving own clock f (length out) (length beside) received) where
+    module _ (own : Own) (o : Owns own (waysIn w)) (received : Received) (x : Receiving own clock f (length out) (length beside) received) where
       comes : answer ≡ receivedBy (waysIn w) clock f received
       unfolding handledIn
       comes = rw (← is, not-false ok n) (x .same (waysIn w) o)
@@ -141,7 +141,16 @@ module _ (w clock f out beside : List ℕ) (ok : Bool) (is : ok ≡ storeGood w)
 
 pub ruleset handle-prepared-laws = (needs, received-lent, good-store, store-bad, store-early, store-done)
 
--- a frame that was received, by a good store
-pub ruleset forward-in-laws = (needs, replied, replies-none, said-forwardable)
+-- our own nickname and MAC in it
+pub own-in : (w : List ℕ) → Owns (record { nickname = getD w 0 0; word = getD w 1 0 }) (waysIn w)
+own-in w = record { named = refl; addressed = refl }
 
-pub ruleset reply-in-laws = (needs, replies-so, said-forwardable)
+pub ruleset own-in-laws = (needs, own-in)
+
+-- a frame that was received, by a good store
+pub ruleset message-in-laws = (needs, back-message, front-count, front-done, front-room)
+
+pub edition-in : (w : List ℕ) (b known : Bool) → b ≡ waysIn w .rfc7179 → b ≡ known → known ≡ waysIn w .rfc7179
+edition-in w b known e k = sym k ∙ e
+
+pub ruleset handle-in-laws = (needs, both-plain, edition-in)

@@ -1,34 +1,39 @@
 -- A task carried out: the answer without what is replied to an alert, the reply to one, and both together as the rules have them. By one law for each need.
-use Rattle.rules.proofs.TestLaws.{by-equal}
 use Rattle.rules.specs as rules
-use rules.Handling.{forwardedRest, forwarded, onward, faulted, echoed, routed}
-use rules.{Extension.areaSent, Octets.if_then_else_, Settings.Ways, Header.innerOf, Link.link}
-use rules.Channel.{replyInner, bodyOf, replyMode, silenced, returnPath, errorReply, echoReply, replyRest, errorBody, echoBody}
-use Rattle.handler.proofs.{StageLaws.by-hop, StageLaws.back, StageLaws.done-dropped, StageLaws.done-unwritten}
+use rules.Handling.{forwardedRest, forwarded, onward, faulted, echoed, routed, transit, alerted, alertOf, channelled}
+use rules.{Octets.if_then_else_, Settings.Ways, Options.WellFormed, Options.draftStops, Link.link}
+use rules.{Header.opLength, Header.areaOf, Header.innerOf, Header.weAreEgress}
+use rules.Extension.{areaSent, areaRead, areaStops, flagUnsummarized, summaryBare, extensionRead, extensionStops}
+use rules.Channel.{replyInner, bodyOf, replyMode, silenced, returnPath, errorReply, echoReply, replyRest, errorBody, echoBody, channelRead}
+use Rattle.handler.proofs
+use proofs.StageLaws.{by-hop, back, ready, inner-held, done-dropped, done-unwritten, plain-sent}
+use proofs.Walks.{area-short}
 use mathlib.Core.Path.{_≡_, refl, sym, ap, _∙_}
-use mathlib.Core.List.{List, [], _++_}
-use mathlib.Core.Bool.{Bool, true, false, not, true≢false}
-use Prim.Native.Nat.{ℕ, _+_, _≤_}
+use mathlib.Core.List.{List, [], _++_, append-assoc}
+use mathlib.Core.Bool.{Bool, true, false, not, _&&_, true≢false}
+use Prim.Native.Nat.{ℕ, _+_, _-_, _≤_}
 use native.Mathlib.Omega.{arith}
 use borrow.Author.Needs.{needs}
-use borrow.Author.Tests.{ne-eqb, not-true}
+use borrow.Author.Tests.{ne-eqb, not-true, not-false}
 use lib.Dec.{ltb, eqb}
-use lib.ListN.{length, length-append}
-use rules.declared.{NextHop.NextHop, Header.Header, Ruling.Ruling, Alert.Alert}
+use lib.Seq.{length-take-le, drop-append-le}
+use lib.ListN.{length, length-append, length-take, length-drop, take, drop, take-append-drop, getD, List·getD-eq-default}
+use rules.declared.{NextHop.NextHop, Header.Header, Ruling.Ruling, Alert.Alert, ChannelRead.ChannelRead}
 use rules.declared.Ruling.the-variants.{Found, Absent}
 use rules.declared.Alert.the-variants.{NoAlert, AlertFault, AlertErr, AlertRequest}
-use Rattle.rules.proofs.{TestLaws.by-test, OctetLaws.put-none, FrameLaws.link-length, FrameLaws.link-written}
+use rules.declared.ChannelRead.the-variants.{Fault, BadErr, ErrorHeard, BadEcho, EchoHeard, EchoRequest}
+use Rattle.rules.proofs.{TestLaws.by-test, TestLaws.by-equal, TestLaws.and-no, OctetLaws.put-none, OctetLaws.put-front, FrameLaws.link-length, FrameLaws.link-written}
 use Rattle.rules.proofs.HandlingLaws.{faulted-silent, faulted-none, faulted-over, echoed-mode, echoed-none, echoed-over}
+use Rattle.rules.proofs.HandlingLaws.{echo-ranged, channel-echo, routed-egress, routed-transit}
 use Rattle.handler.specs
 use specs.declared.answers.{Refusal.Refusal, Answer.Answer}
 use specs.declared.answers.Refusal.the-variants.{Refused, Passed}
 use specs.declared.way.{Own.Own, Lookup.Lookup}
-use specs.declared.handling.Task.{Task}
-use specs.declared.handling.Task.the-variants.{Dropped, Answered, Forward, Error, Echo}
-use specs.Tasks.{alertRefusal, alertQuiet, transitQuiet, alertedBy, transitBy, transitAt, doneAt, asksBack, Forwardable}
-use specs.Tasks.{Routes, FaultAnswered, EchoAnswered, AlertAnswered, Both}
-use specs.Calls.{Replies}
-use specs.Shapes.{answerOf, repliedBy, besideBy, viaOf, neighbourOf, ownOf, onlyFor, waysBy, Replied, Done}
+use specs.declared.handling.{Local.Local, Task.Task}
+use specs.declared.handling.Local.the-variants.{Dropped, Answered, Message}
+use specs.declared.handling.Task.the-variants.{Ended, Forward}
+use specs.Tasks.{PutAside, alertRefusal, alertQuiet, transitQuiet, transitAt, messaged, localAt, asksBack, Answerable, Forwardable, Ends, Comes, Routes, Replies, RepliesBy, Both}
+use specs.Shapes.{sentOf, answerOf, repliedBy, besideBy, viaOf, neighbourOf, Owns, Sends, onlyFor, waysBy, Ready, Replied, Done}
 use Rattle.rules.specs.Answer as A
 
 -- a reply has octets, and goes to the next hop that is lookup
@@ -69,17 +74,11 @@ module _ (t : Lookup) (f : List ℕ) (h : Header) where
       (sent hop (replyRest S (h .ingress) 0xFF8 0 (echoBody (bodyOf (innerOf f h)) clock)) (lookup-back t h hop q))))
       (λ other. rw (echoed-mode S f h clock other) unsent)
 
--- written, it is the answer, or goes beside one
-module _ {refusal number : ℕ} {S : Ways} {via n : ℕ} where
-  reply-done : {a : A.Handled} {out out1 : List ℕ} → Reply refusal number S via a → Replied (a .octets) n out out1
-      → Done a (repliedBy refusal number n via) out out1
-  reply-done unsent p = record { answer = rw (p .long); after = p .after; alone = refl }
-  reply-done (sent hop rest v) p = record { answer = rw (p .long, some-octets S hop rest, v); after = p .after; alone = refl }
-
-  reply-beside : (octets : List ℕ) {to : ℕ} {a : Answer} {y : A.Handled} → Reply refusal number S via y → n ≡ length (y .octets)
-      → a ≡ answerOf (A.wrote 50 octets to) → besideBy a n via ≡ answerOf (A.wroteBoth 50 octets to (y .octets) (y .via))
-  reply-beside octets unsent long made = rw (long, made)
-  reply-beside octets (sent hop rest v) long made = rw (long, some-octets S hop rest, made, v)
+-- written, it is the answer
+reply-done : {refusal number : ℕ} {S : Ways} {via n : ℕ} {a : A.Handled} {out out1 : List ℕ} → Reply refusal number S via a → Replied (a .octets) n out out1
+    → Done a (repliedBy refusal number n via) out out1
+reply-done unsent p = record { answer = rw (p .long); after = p .after; alone = refl }
+reply-done {S = S} (sent hop rest v) p = record { answer = rw (p .long, some-octets S hop rest, v); after = p .after; alone = refl }
 
 -- 21, the alert's 25 and 26, and 50
 module _ (T : Ways) (f : List ℕ) (h : Header) (alert : Alert) (out : List ℕ) (R : Ruling) (asks : R ≡ T .hop (h .egress)) where
@@ -96,7 +95,13 @@ module _ (T : Ways) (f : List ℕ) (h : Header) (alert : Alert) (out : List ℕ)
     unfolding transitQuiet
     transit-sent e out1 d = rw (transitQuiet, sym asks ∙ found, ← refuses, e) d
 
+pub plain-forwarded : (T : Ways) (f : List ℕ) (h : Header) (R : Ruling) → R ≡ T .hop (h .egress) → (r : NextHop) → R ≡ Found r → (a : Answer) (out out1 : List ℕ)
+    → Done (onward T r f h [] 0) a out out1 → Done (transitQuiet T f h NoAlert) a out out1
+plain-forwarded T f h R asks r found a out out1 = transit-sent T f h NoAlert out R asks r found Passed refl a refl out1
+
 pub ruleset transit-laws = (needs, transit-lost, transit-refused, transit-sent)
+
+pub ruleset forward-laws = (needs, plain-sent, transit-lost, plain-forwarded)
 
 -- the answers of a reply that is made, or not
 module _ (t : Lookup) (f : List ℕ) (h : Header) (n via : ℕ) (v : via ≡ neighbourOf t) (r : Answer) (out out1 : List ℕ) where
@@ -110,22 +115,83 @@ module _ (t : Lookup) (f : List ℕ) (h : Header) (n via : ℕ) (v : via ≡ nei
 
 pub ruleset reply-answer-laws = (needs, error-answered, echo-answered)
 
--- what is left to do
-module _ {nickname : ℕ} {rfc7179 : Bool} {f : List ℕ} {h : Header} {task : Task} (x : Routes nickname rfc7179 f h task) where
-  pub left-onward : (edition : Bool) → rfc7179 ≡ edition → (alert : Alert) → task ≡ Forward alert → Forwardable edition f h alert
-  left-onward edition two alert e = rw (← two) (rw e at (x .left))
+-- what a channel message comes to, by what it is found to be
+module _ (S : Ways) (clock f : List ℕ) (h : Header) (inner : List ℕ) (held : inner ≡ innerOf f h) (read : ChannelRead) (is : read ≡ channelRead inner)
+    (r : Answer) (out : List ℕ) where
+  pub message-fault : (code : ℕ) → read ≡ Fault code → (out1 : List ℕ) → Done (faulted S f h code) r out out1 → Done (messaged S clock f h) r out out1
+  unfolding channelled
+  message-fault code e out1 d = let found : channelRead (innerOf f h) ≡ Fault code = cc in rw found d
 
-  pub left-start : (n start size : ℕ) → task ≡ Answered n start size → start ≤ 2048
-  left-start n start size e = rw e at (x .left) .0
+  pub message-request : read ≡ EchoRequest → (out1 : List ℕ) → Done (echoed S clock f h) r out out1 → Done (messaged S clock f h) r out out1
+  unfolding channelled
+  message-request e out1 d = let found : channelRead (innerOf f h) ≡ EchoRequest = cc in rw found d
 
-  pub left-size : (n start size : ℕ) → task ≡ Answered n start size → size ≤ 2048
-  left-size n start size e = rw e at (x .left) .1
+  unanswered : (n : ℕ) (c : ChannelRead) → channelled S clock f h c ≡ A.dropped n → read ≡ c → r ≡ answerOf (A.dropped n) → Done (messaged S clock f h) r out out
+  unanswered n c so e made = let found : channelRead (innerOf f h) ≡ c = cc in done-dropped n (rw found so) made
 
-  pub left-18 : task ≡ Echo → 18 ≤ length (bodyOf (innerOf f h))
-  left-18 e = rw e at (x .left) .0 .0
+  pub message-err : read ≡ BadErr → r ≡ answerOf (A.dropped 26) → Done (messaged S clock f h) r out out
+  unfolding channelled
+  message-err = unanswered 26 BadErr refl
 
-  pub left-530 : task ≡ Echo → length (bodyOf (innerOf f h)) ≤ 530
-  left-530 e = rw e at (x .left) .0 .1
+  pub message-error : read ≡ ErrorHeard → r ≡ answerOf (A.dropped 55) → Done (messaged S clock f h) r out out
+  unfolding channelled
+  message-error = unanswered 55 ErrorHeard refl
+
+  pub message-bad : read ≡ BadEcho → r ≡ answerOf (A.dropped 27) → Done (messaged S clock f h) r out out
+  unfolding channelled
+  message-bad = unanswered 27 BadEcho refl
+
+  pub message-echo : read ≡ EchoHeard → r ≡ answerOf (A.dropped 56) → Done (messaged S clock f h) r out out
+  unfolding channelled
+  message-echo = unanswered 56 EchoHeard refl
+
+module _ (f : List ℕ) (h : Header) (inner : List ℕ) (held : inner ≡ innerOf f h) (read : ChannelRead) (is : read ≡ channelRead inner)
+    (e : read ≡ EchoRequest) where
+  ranged : (18 ≤ length (bodyOf (innerOf f h))) × (length (bodyOf (innerOf f h)) ≤ 530)
+  ranged = echo-ranged (bodyOf (innerOf f h)) (channel-echo (innerOf f h) (cc))
+
+  pub request-18 : 18 ≤ length (bodyOf (innerOf f h))
+  request-18 = ranged .0
+
+  pub request-530 : length (bodyOf (innerOf f h)) ≤ 530
+  request-530 = ranged .1
+
+pub ruleset message-laws = (
+  needs,
+  ready,
+  inner-held,
+  message-fault,
+  message-request,
+  message-err,
+  message-error,
+  message-bad,
+  message-echo,
+  request-18,
+  request-530,
+)
+
+-- what is not forwarded
+module _ (S : Ways) (clock f : List ℕ) (h : Header) (local : Local) (r : Answer) (out : List ℕ) where
+  pub local-dropped : (n : ℕ) → local ≡ Dropped n → r ≡ answerOf (A.dropped n) → Done (localAt S clock f h local) r out out
+  local-dropped n e is = rw e (done-dropped n refl is)
+
+  pub local-answered : (n start size : ℕ) → local ≡ Answered n start size → r ≡ answerOf (A.delivered n start size) → Done (localAt S clock f h local) r out out
+  local-answered n start size e is = rw e (done-unwritten n start size refl is)
+
+  pub local-message : local ≡ Message → (out1 : List ℕ) → Done (messaged S clock f h) r out out1 → Done (localAt S clock f h local) r out out1
+  local-message e out1 d = rw e d
+
+module _ {local : Local} (x : Ends local) where
+  pub ends-start : (n start size : ℕ) → local ≡ Answered n start size → start ≤ 2048
+  ends-start n start size e = rw e at x .0
+
+  pub ends-size : (n start size : ℕ) → local ≡ Answered n start size → size ≤ 2048
+  ends-size n start size e = rw e at x .1
+
+pub room-576 : (out : List ℕ) → 2048 ≤ length out → 576 ≤ length out
+room-576 out h = omega arith
+
+pub ruleset local-laws = (needs, local-dropped, local-answered, local-message, ends-start, ends-size, room-576)
 
 -- with nothing beside it
 pub both-of : {a : A.Handled} {r : Answer} {out out1 : List ℕ} (beside : List ℕ) → Done a r out out1 → Both a r out out1 beside beside
@@ -134,181 +200,268 @@ both-of beside d = record { answer = d .answer; after = d .after; after-beside =
 numbered : {a : A.Handled} {r : Answer} {out out1 : List ℕ} → Done a r out out1 → r .number ≡ a .number
 numbered d = ap (λ (x : Answer). x .number) (d .answer)
 
--- a frame in transit without what is replied to an alert, and with it: by the next hop, and for an echo request by the length too
-module _ (T B : Ways) (clock f : List ℕ) (h : Header) (P : A.Handled → A.Handled → Type 0) where
-  by-transit : (alert : Alert) → P (A.dropped 21) (A.dropped 21)
-      → ((r : NextHop) → P (alertQuiet T r f h alert) (alertedBy T B r clock f h alert)) → P (transitQuiet T f h alert) (transitBy T B clock f h alert)
-  unfolding transitQuiet transitBy
+-- what is looked up for one destination says as much of it as the switch: of the ingress for a message, of the egress for a frame in transit
+module _ (S : Ways) (f : List ℕ) (h : Header) where
+  pub same-channelled : (clock : List ℕ) (c : ChannelRead) → channelled S clock f h c ≡ channelled (onlyFor (h .ingress) S) clock f h c
+  unfolding channelled faulted echoed returnPath errorReply echoReply replyRest replyInner link
+  same-channelled clock (Fault code) = refl
+  same-channelled clock BadErr = refl
+  same-channelled clock ErrorHeard = refl
+  same-channelled clock BadEcho = refl
+  same-channelled clock EchoHeard = refl
+  same-channelled clock EchoRequest = refl
+
+  same-quiet : (alert : Alert) → transitQuiet S f h alert ≡ transitQuiet (onlyFor (h .egress) S) f h alert
+  unfolding transitQuiet onward forwarded forwardedRest areaSent link
+  same-quiet alert = refl
+
+  pub same-message : (t : Lookup) → waysBy t ≡ onlyFor (h .ingress) S → (clock : List ℕ) → messaged S clock f h ≡ messaged (waysBy t) clock f h
+  same-message t said clock = rw (same-channelled clock (channelRead (innerOf f h)), ← said)
+
+  module _ (t : Lookup) (r : Answer) (out out1 : List ℕ) where
+    pub back-message : waysBy t ≡ onlyFor (h .ingress) S → (clock : List ℕ) → Done (messaged (waysBy t) clock f h) r out out1
+        → Done (messaged S clock f h) r out out1
+    back-message said clock d = rw (same-message t said clock) d
+
+    pub quiet-lookup : waysBy t ≡ onlyFor (h .egress) S → (alert : Alert) → Done (transitQuiet (waysBy t) f h alert) r out out1
+        → Done (transitQuiet S f h alert) r out out1
+    quiet-lookup said alert d = rw (same-quiet alert, ← said) d
+
+  pub sends-lookup : (t : Lookup) (d : ℕ) → waysBy t ≡ onlyFor d S → (area : List ℕ) → Sends S f h area → Sends (waysBy t) f h area
+  unfolding areaSent
+  sends-lookup t d said area x = rw said (record { goes = x .goes; few = x .few })
+
+-- a frame without an area
+area-none : (f : List ℕ) (h : Header) → opLength (h .word) ≡ 0 → areaOf f h ≡ []
+area-none f h e = rw e
+
+nil-octet : (i : ℕ) → getD {A = ℕ} [] i 0 ≡ 0
+nil-octet i = List·getD-eq-default [] 0 {n = i} (omega arith)
+
+module _ (S : Ways) (clock f : List ℕ) (h : Header) (none : opLength (h .word) ≡ 0) where
+  pub none-read : areaRead S (areaOf f h) ≡ WellFormed
+  unfolding areaRead extensionRead flagUnsummarized summaryBare
+  none-read = rw (area-none f h none) (by-test (S .rfc7179) (λ e. simp (e, nil-octet)) (λ e. rw e (sym (area-short [] (omega arith)))))
+
+  pub none-stops : (egress : Bool) → areaStops S egress (areaOf f h) ≡ false
+  unfolding areaStops extensionStops draftStops
+  none-stops egress = rw (area-none f h none) (by-test (S .rfc7179) (λ e. simp (e, nil-octet)) (λ e. simp (e, nil-octet)))
+
+  pub none-alert : alertOf S f h ≡ NoAlert
+  unfolding alertOf
+  none-alert = rw (area-none f h none) (by-test (S .rfc7179) (λ e. simp (e, nil-octet)) (λ e. rw e))
+
+  module _ (nickname : ℕ) (named : nickname ≡ S .nickname) (egress : Bool) (e : egress ≡ weAreEgress nickname h) (r : Answer) (out out1 : List ℕ) where
+    pub plain-egress : egress ≡ true → (local : Local) → Comes f h local → Done (localAt S clock f h local) r out out1 → Done (routed S clock f h) r out out1
+    plain-egress t local x d =
+        rw (routed-egress S clock f h none-read (none-stops (weAreEgress (S .nickname) h)) (cc), x .same S clock) d
+
+    pub plain-transit : egress ≡ false → Done (transitQuiet S f h NoAlert) r out out1 → Done (routed S clock f h) r out out1
+    unfolding transit transitQuiet alerted
+    plain-transit t d =
+        rw (routed-transit S clock f h none-read (none-stops (weAreEgress (S .nickname) h)) (cc))
+        (by-hop (S .hop (h .egress)) (λ q. rw (transit, q) (rw (transitQuiet, q) at d)) (λ hop q. rw (transit, q, none-alert) (rw (transitQuiet, q) at d)))
+
+pub comes-ends : {f : List ℕ} {h : Header} {local : Local} → Comes f h local → Ends local
+comes-ends x = x .ends
+
+pub owns-named : {own : Own} {S : Ways} → Owns own S → own .nickname ≡ S .nickname
+owns-named x = x .named
+
+pub ruleset plain-in-laws = (needs, comes-ends, owns-named, plain-egress, plain-transit, quiet-lookup)
+
+-- a frame in transit without what is replied to an alert, and with it: by the next hop
+module _ (S : Ways) (clock f : List ℕ) (h : Header) (P : A.Handled → A.Handled → Type 0) where
+  by-transit : (alert : Alert) → P (A.dropped 21) (A.dropped 21) → ((r : NextHop) → P (alertQuiet S r f h alert) (alerted S r clock f h alert))
+      → P (transitQuiet S f h alert) (transitAt S clock f h alert)
+  unfolding transitQuiet transitAt
   by-transit alert lost found =
-      by-hop (T .hop (h .egress)) (λ q. rw (transitQuiet, transitBy, q) lost) (λ r q. rw (transitQuiet, transitBy, q) (found r))
+      by-hop (S .hop (h .egress)) (λ q. rw (transitQuiet, transitAt, q) lost) (λ r q. rw (transitQuiet, transitAt, q) (found r))
 
-  by-request : ((n : ℕ) → (n ≡ 50 → ⊥) → P (A.dropped n) (A.dropped n))
-      → ((r : NextHop) → P (A.wrote 50 (forwarded T r f h) (r .neighbour))
-      (A.wroteBoth 50 (forwarded T r f h) (r .neighbour) (echoed B clock f h .octets) (echoed B clock f h .via)))
-      → P (transitQuiet T f h AlertRequest) (transitBy T B clock f h AlertRequest)
-  unfolding onward
+  -- of an echo request by the length too
+  by-request : ((n : ℕ) → (n ≡ 25 → ⊥) → (n ≡ 50 → ⊥) → P (A.dropped n) (A.dropped n))
+      → ((r : NextHop) → P (A.wrote 50 (forwarded S r f h) (r .neighbour))
+      (A.wroteBoth 50 (forwarded S r f h) (r .neighbour) (echoed S clock f h .octets) (echoed S clock f h .via)))
+      → P (transitQuiet S f h AlertRequest) (transitAt S clock f h AlertRequest)
+  unfolding onward alerted
   by-request lost goes =
-      by-transit AlertRequest (lost 21 (omega arith))
-      (λ r. by-test (ltb 2048 (length (forwarded T r f h))) (λ l. rw l (lost 29 (omega arith))) (λ l. rw l (goes r)))
+      by-transit AlertRequest (lost 21 (omega arith) (omega arith))
+      (λ r. by-test (ltb 2048 (length (forwarded S r f h))) (λ l. rw l (lost 29 (omega arith) (omega arith))) (λ l. rw l (goes r)))
 
--- 53 or 25 in place of 50
-module _ (b : Lookup) (f : List ℕ) (h : Header) (code : ℕ) (a : Answer) (out : List ℕ) where
-  pub fault-21 : a .number ≡ 21 → FaultAnswered (waysBy b) f h code a a out out
-  fault-21 e =
-      record {
-        over = λ T clock before.
-            by-transit T (waysBy b) clock f h (λ quiet lookup. Done quiet a before out → Done lookup a before out) (AlertFault code)
-            (λ d. d) (λ r d. absurd (omega (arith, e, numbered d)));
-      }
-
-  pub fault-so : (a .number ≡ 21 → ⊥) → (r : Answer) (out1 : List ℕ) → Done (faulted (waysBy b) f h code) r out out1
-      → FaultAnswered (waysBy b) f h code a r out out1
-  fault-so z r out1 p =
-      record {
-        over = λ T clock before.
-            by-transit T (waysBy b) clock f h (λ quiet lookup. Done quiet a before out → Done lookup r before out1) (AlertFault code)
-            (λ d. absurd (z (numbered d))) (λ hop d. rw (d .after ∙ put-none before 0) at p);
-      }
-
-pub ruleset answer-fault-laws = (needs, fault-21, fault-so, error-answered)
-
--- an echo reply beside 50
-module _ (b : Lookup) (clock f : List ℕ) (h : Header) (a : Answer) (beside : List ℕ) where
-  pub echo-not : (a .number ≡ 50 → ⊥) → EchoAnswered (waysBy b) clock f h a a beside beside
-  echo-not z =
-      record {
-        over = λ T before out.
-            by-request T (waysBy b) clock f h (λ quiet over. Done quiet a before out → Both over a before out beside beside)
-            (λ n other. both-of beside) (λ r d. absurd (z (numbered d)));
-      }
-
-  pub echo-so : a .number ≡ 50 → (n via : ℕ) (beside1 : List ℕ) → Replied (echoed (waysBy b) clock f h .octets) n beside beside1 → via ≡ neighbourOf b
-      → (r : Answer) → r ≡ besideBy a n via → EchoAnswered (waysBy b) clock f h a r beside beside1
-  echo-so e n via beside1 p v r is =
-      record {
-        over = λ T before out.
-            by-request T (waysBy b) clock f h (λ quiet over. Done quiet a before out → Both over r before out beside beside1)
-            (λ n other d. absurd (other (sym (numbered d) ∙ e)))
-            (λ hop d.
-            record {
-              answer = is ∙ rw v (reply-beside (forwarded T hop f h) (echo-reply b f h clock) (p .long) (d .answer));
-              after = d .after;
-              after-beside = p .after;
-            });
-      }
-
-pub ruleset answer-echo-laws = (needs, echo-not, echo-so)
-
--- an alert that asks for no reply, and one that does
-module _ (T B : Ways) (clock f : List ℕ) (h : Header) where
-  same-alert : (alert : Alert) → asksBack alert ≡ false → (r : NextHop) → alertQuiet T r f h alert ≡ alertedBy T B r clock f h alert
-  same-alert NoAlert e r = refl
-  same-alert (AlertFault code) e r = absurd (true≢false e)
-  same-alert AlertErr e r = refl
-  same-alert AlertRequest e r = absurd (true≢false e)
-
-  same-transit : (alert : Alert) → asksBack alert ≡ false → transitQuiet T f h alert ≡ transitBy T B clock f h alert
-  same-transit alert e = by-transit T B clock f h (λ quiet over. quiet ≡ over) alert refl (same-alert alert e)
-
-module _ (B : Ways) (clock f : List ℕ) (h : Header) (alert : Alert) (a : Answer) (out beside : List ℕ) where
-  pub alert-quiet : (x : Alert) → alert ≡ x → asksBack x ≡ false → AlertAnswered B clock f h alert a a out out beside beside
-  alert-quiet x e n = rw e (record { over = λ T before d. both-of beside (rw (same-transit T B clock f h x n) at d) })
-
-  pub alert-fault : (code : ℕ) → alert ≡ AlertFault code → (r : Answer) (out1 : List ℕ) → FaultAnswered B f h code a r out out1
-      → AlertAnswered B clock f h alert a r out out1 beside beside
-  alert-fault code e r out1 x = rw e (record { over = λ T before d. both-of beside (x .over T clock before d) })
-
-  pub alert-request : alert ≡ AlertRequest → (r : Answer) (beside1 : List ℕ) → EchoAnswered B clock f h a r beside beside1
-      → AlertAnswered B clock f h alert a r out out beside beside1
-  alert-request e r beside1 x = rw e (record { over = λ T before d. x .over T before out d })
-
-module _ {rfc7179 : Bool} {f : List ℕ} {h : Header} {alert : Alert} (x : Forwardable rfc7179 f h alert) (e : alert ≡ AlertRequest) where
-  pub alert-18 : 18 ≤ length (bodyOf (innerOf f h))
-  alert-18 = rw e at (x .answerable) .0
-
-  pub alert-530 : length (bodyOf (innerOf f h)) ≤ 530
-  alert-530 = rw e at (x .answerable) .1
-
-pub ruleset answer-alert-laws = (needs, alert-quiet, alert-fault, alert-request, alert-18, alert-530)
-
-pub finds : (S : Ways) (d : ℕ) (own : Own) (strip rfc7179 : Bool) (hop : Ruling) → own ≡ ownOf S → strip ≡ S .strip → rfc7179 ≡ S .rfc7179 → hop ≡ S .hop d
-    → waysBy (record { own = own; strip = strip; rfc7179 = rfc7179; hop = hop }) ≡ onlyFor d S
-finds S d own strip rfc7179 hop o s t p = rw (o, s, t, p)
-
--- transit by what is looked up for the egress and, where an alert asks, of the ingress
+-- an alert that asks for no reply
 module _ (S : Ways) (clock f : List ℕ) (h : Header) where
-  asks-two : (alert : Alert) (B : Ways) → (asksBack alert ≡ true → B ≡ onlyFor (h .ingress) S)
-      → transitAt S clock f h alert ≡ transitBy (onlyFor (h .egress) S) B clock f h alert
-  unfolding transitBy onward faulted echoed returnPath forwarded forwardedRest areaSent link errorReply echoReply replyRest replyInner
-  asks-two NoAlert B back = refl
-  asks-two (AlertFault code) B back = rw (back refl)
-  asks-two AlertErr B back = refl
-  asks-two AlertRequest B back = rw (back refl)
+  same-transit : (alert : Alert) → asksBack alert ≡ false → transitQuiet S f h alert ≡ transitAt S clock f h alert
+  unfolding alerted
+  same-transit NoAlert e = by-transit S clock f h (λ quiet over. quiet ≡ over) NoAlert refl (λ r. refl)
+  same-transit (AlertFault code) e = absurd (true≢false e)
+  same-transit AlertErr e = by-transit S clock f h (λ quiet over. quiet ≡ over) AlertErr refl (λ r. refl)
+  same-transit AlertRequest e = absurd (true≢false e)
 
-  module _ (alert : Alert) (a : Answer) (out beside : List ℕ) where
-    pub replies-none : (asks : Bool) → asks ≡ asksBack alert → not asks ≡ true → Replies S clock f h alert a a out out beside beside
-    replies-none asks is n =
-        let none : asksBack alert ≡ false = sym is ∙ not-true asks n in
-        record {
-          over = λ t before said d.
-              rw (asks-two alert (waysBy t) (λ e. absurd (true≢false (sym e ∙ none))), ← said)
-              (both-of beside (rw (same-transit (waysBy t) (waysBy t) clock f h alert none) at d));
-        }
+  pub replies-quiet : (alert : Alert) (a : Answer) (out beside : List ℕ) (asks : Bool) → asks ≡ asksBack alert → not asks ≡ true
+      → Replies S clock f h alert a a out out beside beside
+  replies-quiet alert a out beside asks is n =
+      record { over = λ before d. both-of beside (rw (same-transit alert (sym is ∙ not-true asks n)) at d) }
 
-    pub replies-so : (b : Lookup) → waysBy b ≡ onlyFor (h .ingress) S → (r : Answer) (out1 beside1 : List ℕ)
-        → AlertAnswered (waysBy b) clock f h alert a r out out1 beside beside1 → Replies S clock f h alert a r out out1 beside beside1
-    replies-so b back r out1 beside1 x =
-        record { over = λ t before said d. rw (asks-two alert (waysBy b) (λ e. back), ← said) (x .over (waysBy t) before d) }
+  pub transit-replied : (alert : Alert) (a : Answer) (before out : List ℕ) → Done (transitQuiet S f h alert) a before out
+      → (r : Answer) (out1 beside beside1 : List ℕ) → Replies S clock f h alert a r out out1 beside beside1
+      → Both (transitAt S clock f h alert) r before out1 beside beside1
+  transit-replied alert a before out quiet r out1 beside beside1 x = x .over before quiet
 
-    pub replied : (r : Answer) (out1 beside1 : List ℕ) → Replies S clock f h alert a r out out1 beside beside1 → (t : Lookup) → waysBy t ≡ onlyFor (h .egress) S
-        → (before : List ℕ) → Done (transitQuiet (waysBy t) f h alert) a before out → Both (transitAt S clock f h alert) r before out1 beside beside1
-    replied r out1 beside1 x t said before d = x .over t before said d
+pub asks-so : (alert : Alert) (asks : Bool) → asks ≡ asksBack alert → not asks ≡ false → asksBack alert ≡ true
+asks-so alert asks is n = sym is ∙ not-false asks n
 
--- a reply asks for the ingress alone
-module _ (S : Ways) (f : List ℕ) (h : Header) (t : Lookup) (said : waysBy t ≡ onlyFor (h .ingress) S) (r : Answer) (out out1 : List ℕ) where
-  same-error : (code : ℕ) → faulted S f h code ≡ faulted (waysBy t) f h code
-  unfolding faulted returnPath errorReply replyRest replyInner link
-  same-error code = sym (ap (λ (y : Ways). faulted y f h code) said)
+pub forwardable-ready : {f : List ℕ} {h : Header} {alert : Alert} → Forwardable f h alert → Ready f h
+forwardable-ready x = x .is-ready
 
-  pub back-error : (code : ℕ) → Done (faulted (waysBy t) f h code) r out out1 → Done (faulted S f h code) r out out1
-  back-error code d = rw (same-error code) d
+pub ruleset transit-in-laws = (needs, sends-lookup, quiet-lookup)
 
-  same-echo : (clock : List ℕ) → echoed S clock f h ≡ echoed (waysBy t) clock f h
-  unfolding echoed returnPath echoReply replyRest replyInner link
-  same-echo clock = sym (ap (λ (y : Ways). echoed y clock f h) said)
+pub ruleset forward-in-laws = (needs, forwardable-ready, transit-replied)
 
-  pub back-echo : (clock : List ℕ) → Done (echoed (waysBy t) clock f h) r out out1 → Done (echoed S clock f h) r out out1
-  back-echo clock d = rw (same-echo clock) d
+-- the reply to an alert: an error in place of 25, or an echo reply beside 50
+module _ (S : Ways) (clock f : List ℕ) (h : Header) where
+  abbrev Replied-so : Alert → Answer → Answer → List ℕ → List ℕ → List ℕ → List ℕ → Type 0
+  Replied-so alert a r out out1 beside beside1 =
+      asksBack alert ≡ true → Answerable f h alert → (before : List ℕ) → Done (transitQuiet S f h alert) a before out
+      → Both (transitAt S clock f h alert) r before out1 beside beside1
 
-pub ruleset back-laws = (needs, back-error, back-echo)
+  module _ (a : Answer) (out beside : List ℕ) where
+    fault-so : (alert : Alert) → a .number ≡ 25 → (r : Answer) (out1 : List ℕ) → Done (messaged S clock f h) r out out1
+        → Replied-so alert a r out out1 beside beside
+    unfolding channelled alerted
+    fault-so NoAlert e r out1 p asks x before = absurd (true≢false (sym asks))
+    fault-so (AlertFault code) e r out1 p asks x before =
+        by-transit S clock f h (λ quiet over. Done quiet a before out → Both over r before out1 beside beside) (AlertFault code)
+        (λ d. absurd (omega (arith, e, numbered d)))
+        (λ hop d. both-of beside (rw (x, d .after ∙ put-none before 0) at p))
+    fault-so AlertErr e r out1 p asks x before = absurd (true≢false (sym asks))
+    fault-so AlertRequest e r out1 p asks x before =
+        by-request S clock f h (λ quiet over. Done quiet a before out → Both over r before out1 beside beside)
+        (λ n other more d. absurd (other (sym (numbered d) ∙ e)))
+        (λ hop d. absurd (omega (arith, e, numbered d)))
 
--- what is lookup has the edition, and a frame can be forwarded by it
-pub said-forwardable : (S : Ways) (t : Lookup) (f : List ℕ) (h : Header) (alert : Alert) (d : ℕ) → waysBy t ≡ onlyFor d S → Forwardable (S .rfc7179) f h alert
-    → Forwardable (t .rfc7179) f h alert
-said-forwardable S t f h alert d said x = rw (ap (λ (y : Ways). y .rfc7179) said) x
+    none-so : (alert : Alert) → (a .number ≡ 25 → ⊥) → (a .number ≡ 50 → ⊥) → Replied-so alert a a out out beside beside
+    none-so NoAlert k n asks x before = absurd (true≢false (sym asks))
+    none-so (AlertFault code) k n asks x before =
+        by-transit S clock f h (λ quiet over. Done quiet a before out → Both over a before out beside beside) (AlertFault code)
+        (both-of beside) (λ hop d. absurd (k (numbered d)))
+    none-so AlertErr k n asks x before = absurd (true≢false (sym asks))
+    none-so AlertRequest k n asks x before =
+        by-request S clock f h (λ quiet over. Done quiet a before out → Both over a before out beside beside)
+        (λ m other more. both-of beside) (λ hop d. absurd (n (numbered d)))
 
--- a frame that was received, by its task
-module _ (S : Ways) (clock f : List ℕ) (h : Header) (own : Own) (o : own ≡ ownOf S) (rfc7179 : Bool) (two : rfc7179 ≡ S .rfc7179) (task : Task)
-    (x : Routes (own .nickname) rfc7179 f h task) (r : Answer) (out beside : List ℕ) where
-  comes : routed S clock f h ≡ doneAt S clock f h task
-  comes = x .same S clock (ap (λ (y : Own). y .nickname) o) two
+    beside-so : (alert : Alert) → a .number ≡ 50 → (b : Answer) (beside1 : List ℕ) → Done (messaged S clock f h) b beside beside1
+        → Replied-so alert a (besideBy a b) out out beside beside1
+    unfolding channelled
+    beside-so NoAlert e b beside1 p asks x before = absurd (true≢false (sym asks))
+    beside-so (AlertFault code) e b beside1 p asks x before =
+        by-transit S clock f h (λ quiet over. Done quiet a before out → Both over (besideBy a b) before out beside beside1) (AlertFault code)
+        (λ d. absurd (omega (arith, e, numbered d))) (λ hop d. absurd (omega (arith, e, numbered d)))
+    beside-so AlertErr e b beside1 p asks x before = absurd (true≢false (sym asks))
+    beside-so AlertRequest e b beside1 p asks x before =
+        by-request S clock f h (λ quiet over. Done quiet a before out → Both over (besideBy a b) before out beside beside1)
+        (λ n other more d. absurd (more (sym (numbered d) ∙ e)))
+        (λ hop d.
+        let echo = rw x at p in
+        record { answer = rw (d .answer, echo .answer); after = d .after; after-beside = echo .after })
 
-  pub task-dropped : (n : ℕ) → task ≡ Dropped n → r ≡ answerOf (A.dropped n) → Both (routed S clock f h) r out out beside beside
-  task-dropped n e is = rw (comes, e) (both-of beside (done-dropped n refl is))
+    module _ (alert : Alert) (asks : asksBack alert ≡ true) (x : Forwardable f h alert) where
+      pub replies-fault : a .number ≡ 25 → (r : Answer) (out1 : List ℕ) → Done (messaged S clock f h) r out out1
+          → Replies S clock f h alert a r out out1 beside beside
+      replies-fault e r out1 p = record { over = fault-so alert e r out1 p asks (x .answerable) }
 
-  pub task-answered : (n start size : ℕ) → task ≡ Answered n start size → r ≡ answerOf (A.delivered n start size)
-      → Both (routed S clock f h) r out out beside beside
-  task-answered n start size e is = rw (comes, e) (both-of beside (done-unwritten n start size refl is))
+      module _ (k : a .number ≡ 25 → ⊥) where
+        pub replies-none : (a .number ≡ 50 → ⊥) → Replies S clock f h alert a a out out beside beside
+        replies-none n = record { over = none-so alert k n asks (x .answerable) }
 
-  module _ (out1 : List ℕ) where
-    pub task-forward : (alert : Alert) → task ≡ Forward alert → (beside1 : List ℕ) → Both (transitAt S clock f h alert) r out out1 beside beside1
-        → Both (routed S clock f h) r out out1 beside beside1
-    task-forward alert e beside1 d = rw (comes, e) d
+        pub replies-beside : a .number ≡ 50 → (b : Answer) (beside1 : List ℕ) → Done (messaged S clock f h) b beside beside1 → (r : Answer) → r ≡ besideBy a b
+            → Replies S clock f h alert a r out out beside beside1
+        replies-beside e b beside1 p r is = rw is (record { over = beside-so alert e b beside1 p asks (x .answerable) })
 
-    pub task-error : (code : ℕ) → task ≡ Error code → Done (faulted S f h code) r out out1 → Both (routed S clock f h) r out out1 beside beside
-    task-error code e d = rw (comes, e) (both-of beside d)
+pub ruleset reply-in-laws = (needs, asks-so, replies-quiet)
 
-    pub task-echo : task ≡ Echo → Done (echoed S clock f h) r out out1 → Both (routed S clock f h) r out out1 beside beside
-    task-echo e d = rw (comes, e) (both-of beside d)
+pub ruleset answer-in-laws = (needs, forwardable-ready, room-576, replies-fault, replies-none, replies-beside)
 
-pub ruleset task-laws = (needs, task-dropped, task-answered, task-forward, task-error, task-echo, left-onward, left-start, left-size, left-18, left-530)
+-- the same by what is looked up for the ingress
+module _ (B : Ways) (clock f : List ℕ) (h : Header) (a : Answer) (out beside : List ℕ) (alert : Alert) (asks : asksBack alert ≡ true)
+    (x : Forwardable f h alert) where
+  pub answers-fault : a .number ≡ 25 → (r : Answer) (out1 : List ℕ) → Done (messaged B clock f h) r out out1
+      → RepliesBy B clock f h alert a r out out1 beside beside
+  answers-fault e r out1 p = record { at-switch = λ S same. replies-fault S clock f h a out beside alert asks x e r out1 (rw same p) }
+
+  module _ (k : a .number ≡ 25 → ⊥) where
+    pub answers-none : (a .number ≡ 50 → ⊥) → RepliesBy B clock f h alert a a out out beside beside
+    answers-none n = record { at-switch = λ S same. replies-none S clock f h a out beside alert asks x k n }
+
+    pub answers-beside : a .number ≡ 50 → (b : Answer) (beside1 : List ℕ) → Done (messaged B clock f h) b beside beside1 → (r : Answer) → r ≡ besideBy a b
+        → RepliesBy B clock f h alert a r out out beside beside1
+    answers-beside e b beside1 p r is =
+        record { at-switch = λ S same. replies-beside S clock f h a out beside alert asks x k e b beside1 (rw same p) r is }
+
+pub ruleset answer-by-laws = (needs, forwardable-ready, room-576, answers-fault, answers-none, answers-beside)
+
+pub finds : (S : Ways) (d : ℕ) (own : Own) (strip rfc7179 : Bool) (hop : Ruling) → Owns own S → strip ≡ S .strip → rfc7179 ≡ S .rfc7179 → hop ≡ S .hop d
+    → waysBy (record { own = own; strip = strip; rfc7179 = rfc7179; hop = hop }) ≡ onlyFor d S
+finds S d own strip rfc7179 hop o s t p = rw (o .named, o .addressed, s, t, p)
+
+-- a frame with an area, by its task
+module _ (S : Ways) (clock f : List ℕ) (h : Header) {nickname : ℕ} {rfc7179 strip : Bool} {kept : List ℕ} (named : nickname ≡ S .nickname)
+    (two : rfc7179 ≡ S .rfc7179) {task : Task} (x : Routes nickname rfc7179 strip f h kept task) (r : Answer) (out out1 beside : List ℕ) where
+  pub task-ended : (local : Local) → task ≡ Ended local → Done (localAt S clock f h local) r out out1 → Both (routed S clock f h) r out out1 beside beside
+  task-ended local e d = rw (x .same S clock named two, e) (both-of beside d)
+
+  pub task-forward : (alert : Alert) (size : ℕ) → task ≡ Forward alert size → (beside1 : List ℕ) → Both (transitAt S clock f h alert) r out out1 beside beside1
+      → Both (routed S clock f h) r out out1 beside beside1
+  task-forward alert size e beside1 d = rw (x .same S clock named two, e) d
+
+module _ {nickname : ℕ} {rfc7179 strip : Bool} {f : List ℕ} {h : Header} {kept : List ℕ} {task : Task}
+    (x : Routes nickname rfc7179 strip f h kept task) where
+  pub left-ended : (local : Local) → task ≡ Ended local → Ends local
+  left-ended local e = rw e at (x .left)
+
+  module _ (alert : Alert) (size : ℕ) (e : task ≡ Forward alert size) where
+    pub left-onward : Forwardable f h alert
+    left-onward = rw e at (x .left)
+
+    put-aside : PutAside (sentOf (strip && not rfc7179) (areaOf f h)) kept size
+    put-aside = rw e at (x .aside)
+
+    pub aside-within : size ≤ length kept
+    aside-within = omega (arith, put-aside .few, put-aside .wide)
+
+    pub aside-count : size ≡ length (take size kept)
+    aside-count = sym (length-take-le size kept aside-within)
+
+    pub aside-sent : (S : Ways) → strip ≡ S .strip → rfc7179 ≡ S .rfc7179 → Sends S f h (take size kept)
+    unfolding areaSent
+    aside-sent S s two =
+        record { goes = rw (← s, ← two) (put-aside .stands); few = omega (arith, length-take size kept, put-aside .few) }
+
+pub ruleset task-laws = (needs, owns-named, task-ended, task-forward, left-ended, left-onward, aside-within, aside-count, aside-sent)
+
+pub both-plain : (S : Ways) (clock f : List ℕ) (h : Header) (r : Answer) (out out1 beside : List ℕ) → Done (routed S clock f h) r out out1
+    → Both (routed S clock f h) r out out1 beside beside
+both-plain S clock f h r out out1 beside d = both-of beside d
+
+-- what is written at the start of a buffer, by way of its first octets
+pub front-count : (out : List ℕ) → 576 ≤ length out → 576 ≡ length (take 576 out)
+front-count out h = sym (length-take-le 576 out h)
+
+pub front-room : (out : List ℕ) → 576 ≤ length out → 576 ≤ length (take 576 out)
+front-room out h = omega (arith, front-count out h)
+
+pub front-done : (a : A.Handled) (r : Answer) (out out1 : List ℕ) → Done a r (take 576 out) out1 → length out1 ≡ length (take 576 out)
+    → Done a r out (out1 ++ drop 576 out)
+front-done a r out out1 d same =
+    let x = take 576 out in
+    let long : length out1 ≡ length (a .octets) + (length x - length (a .octets)) =
+    rw (d .after, put-front x (a .octets)) (length-append (a .octets) (drop (length (a .octets)) x) ∙ rw (length-drop (length (a .octets)) x)) in
+    let rest : drop (length (a .octets)) (x ++ drop 576 out) ≡ drop (length (a .octets)) x ++ drop 576 out =
+    drop-append-le (length (a .octets)) x (drop 576 out) (omega arith) in
+    record {
+      answer = d .answer;
+      after =
+          rw (d .after, put-front x (a .octets), put-front out (a .octets))
+          (append-assoc (a .octets) (drop (length (a .octets)) x) (drop 576 out)
+          ∙ ap (λ (y : List ℕ). a .octets ++ y) (sym rest ∙ rw (take-append-drop 576 out)));
+      alone = d .alone;
+    }

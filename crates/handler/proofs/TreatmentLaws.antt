@@ -2,8 +2,8 @@
 use Rattle.handler.proofs.Stages.{parts}
 use mathlib.Core.{Path._≡_, Path.refl, Path.sym, Path._∙_, List.List}
 use mathlib.Core.Bool.{Bool, true, false, not, _&&_, _||_, false≢true}
-use Prim.Native.Nat.{ℕ}
-use borrow.Author.{Needs.needs, Tests.eq-eqb, Tests.ne-eqb}
+use Prim.Native.Nat.{ℕ, _%_, _<_}
+use borrow.Author.{Needs.needs, Tests.eq-eqb, Tests.ne-eqb, Tests.not-true, Tests.not-false}
 use lib.{ListN.getD, Dec.eqb}
 use Rattle.rules.specs.Options.{hopByHopCritical, ingressToEgressCritical, implemented, strippable}
 use Rattle.rules.proofs.TestLaws.{and-no, and-yes, by-equal, everyBelow, each-below}
@@ -45,6 +45,10 @@ table-treats table all =
     }
 
 -- the tests beside the table
+pub alone-discards : (entry : ℕ) → entry < 256 → eqb (entry % 4) 2 ≡ (egressDiscards entry && not (transitDiscards entry))
+alone-discards entry h =
+    is-same _ _ (each-below 256 (λ e. same (eqb (e % 4) 2) (egressDiscards e && not (transitDiscards e))) refl entry h)
+
 module _ (key size : ℕ) where
   pub no-flow-id : (key ≡ 0x083 → ⊥) → false ≡ isFlowId key size
   no-flow-id h = rw (ne-eqb key 0x083 h)
@@ -52,13 +56,19 @@ module _ (key size : ℕ) where
   pub flow-id : key ≡ 0x083 → eqb size 2 ≡ isFlowId key size
   flow-id h = rw (eq-eqb key 0x083 h)
 
-  module _ (entry : ℕ) {b : Bool} (is : b ≡ isFlowId key size) where
-    pub flow-stays : b ≡ true → false ≡ strippedBy entry key size
-    flow-stays e = rw (sym is ∙ e)
+  module _ (strip : Bool) (entry : ℕ) where
+    pub none-goes : not strip ≡ true → false ≡ (strip && strippedBy entry key size)
+    none-goes e = rw (not-true strip e)
 
-    pub other-goes : b ≡ false → {r : Bool} → r ≡ stripApplies entry → r ≡ strippedBy entry key size
-    other-goes e t = rw (sym is ∙ e) t
+    module _ (on : not strip ≡ false) {b : Bool} (is : b ≡ isFlowId key size) where
+      pub flow-stays : b ≡ true → false ≡ (strip && strippedBy entry key size)
+      flow-stays e = rw (not-false strip on, sym is ∙ e)
+
+      pub other-goes : b ≡ false → {r : Bool} → r ≡ stripApplies entry → r ≡ (strip && strippedBy entry key size)
+      other-goes e t = rw (not-false strip on, sym is ∙ e) t
+
+pub ruleset alone-laws = (needs, alone-discards)
 
 pub ruleset flow-id-laws = (needs, no-flow-id, flow-id)
 
-pub ruleset stripped-laws = (needs, flow-stays, other-goes)
+pub ruleset stripped-laws = (needs, none-goes, flow-stays, other-goes)

@@ -1,123 +1,181 @@
--- The options of an area as the code reads them: one option by its ways out, the walk (what is found from a place on, with what was met
--- before, is what is found in all), and the whole area by its summary tests.
-use Rattle.handler.proofs.Stages.{parts}
+-- One option by its ways out; a walk: what was met and written so far, with what is found from here on, is what is found in all; the area by its summary.
 use mathlib.Core.Path.{_≡_, refl, sym, ap, _∙_}
-use mathlib.Core.List.{List, []}
+use mathlib.Core.List.{List, [], _∷_, _++_, append-assoc, append-nil}
 use mathlib.Core.Bool.{Bool, true, false, not, _&&_, _||_}
-use Prim.Native.Nat.{ℕ, suc, _+_, _-_, _≤_, _<_}
+use Prim.Native.Nat.{ℕ, suc, _+_, _-_, _%_, _≤_, _<_}
 use native.Mathlib.Omega.{arith}
 use borrow.Author.Needs.{needs}
 use borrow.Author.Tests.{eqb-true, ne-eqb}
-use lib.ListN.{length, getD}
+use lib.ListN.{length, take, drop, getD, take-append-drop, drop-of-length-le}
+use lib.Seq.{drop-cons, take-all, length-take-le}
 use Rattle.rules.specs as rules
-use rules.Octets.{if_then_else_, be16, part}
+use rules.Octets.{if_then_else_, be16, part, put}
 use rules.Options.{Taken, Fault, TlvOption, Options, options, fault, keyOf, lengthOf, optionSize, optionFirst, optionAt, optionsFrom, optionsOf}
 use rules.Options.{some-key, ie, hopByHopCritical, ingressToEgressCritical, chbh, cite, summarized, draftRead, draftStops}
-use Rattle.rules.proofs.TestLaws.{and-no, and-yes, or-no, or-assoc, apart}
+use rules.Options.{strippable, octetsOf}
+use Rattle.rules.proofs.TestLaws.{by-test, and-left, and-no, and-yes, or-no, or-assoc, apart}
+use Rattle.rules.proofs.OctetLaws.{length-part, length-put, be16-part}
 use Rattle.rules.proofs.OptionLaws.{option-reserved, option-past, option-below, option-equal, option-taken, option-read, options-end, options-fault}
-use Rattle.rules.proofs.OptionLaws.{options-on}
+use Rattle.rules.proofs.OptionLaws.{options-on, walk-laid, kept-nothing, kept-not, kept-too, stripped-is, stripped-word}
+use Rattle.octets.specs.Copy.{Wrote, fitting}
+use Rattle.octets.proofs.Ends.{wrote-none, wrote-long, parts, copied, joined}
 use Rattle.handler.specs
 use specs.declared.options.{Cursor.Cursor, AreaRead.AreaRead}
 use specs.declared.options.AreaRead.the-variants.{Read, Faulty}
-use specs.Shapes.{readBy, ended, foundBy, walkOf, areaReadOf}
-use specs.Treatment.{Treats, transitDiscards, egressDiscards}
+use specs.Shapes.{AreaWords, Place, WholeOption, cursorBy, readBy, sentOf, optionsSent, ended, foundBy, walkOf, AreaWalked, summarizedBy, areaReadOf, AreaKept, AllKept}
+use specs.Treatment.{Treats, transitDiscards, egressDiscards, strippedBy}
 use Rattle.rules.specs.Options as O
 
--- what the table says of an option met
-module _ (seen : Bool) (entry : ℕ) {discards : Bool} (none-yet : seen ≡ false) (is : discards ≡ transitDiscards entry) where
-  pub egress-not : discards ≡ true → false ≡ (seen || (egressDiscards entry && not (transitDiscards entry)))
-  egress-not e = rw (none-yet, sym is ∙ e, and-no)
-
-  pub egress-now : discards ≡ false → {r : Bool} → r ≡ egressDiscards entry → r ≡ (seen || (egressDiscards entry && not (transitDiscards entry)))
-  egress-now e t = rw (none-yet, sym is ∙ e, and-yes) t
-
+-- a critical option of one kind is none of the other
 egress-alone : (h e : Bool) → (h ≡ true → e ≡ false) → ((h || e) && not h) ≡ e
 egress-alone false e x = and-yes e
 egress-alone true e x = sym (x refl)
 
 critical-kinds : (key : ℕ) → hopByHopCritical key ≡ true → ingressToEgressCritical key ≡ false
-critical-kinds key e = let i = eqb-true (ie key) 0 (search parts) in rw (ne-eqb (ie key) 1 (omega arith))
+critical-kinds key e = let i = eqb-true (ie key) 0 (search and-left) in rw (ne-eqb (ie key) 1 (omega arith))
+
+-- what the table says of an option
+module _ {c : Cursor} {key n : ℕ} (b : WholeOption c key n) (table : List ℕ) (t : Treats table) (strip : Bool) (size : ℕ) (sized : size ≡ optionSize n) where
+  pub behind-at : c .at + size < 18446744073709551616
+  behind-at = omega arith
+
+  pub behind-room : c .to + size ≤ 124
+  behind-room = omega arith
+
+  pub behind-is : (gone : Bool) → gone ≡ (strip && strippedBy (getD table key 0) key n) → (to : ℕ) → to ≡ (if gone then c .to else c .to + size)
+      → (transit : Bool) → transit ≡ transitDiscards (getD table key 0) → (hop : Bool) → hop ≡ (c .hop || transit)
+      → (alone : Bool) → alone ≡ (egressDiscards (getD table key 0) && not (transitDiscards (getD table key 0)))
+      → (egress : Bool) → egress ≡ (c .egress || alone)
+      → record { at = c .at + size; to = to; floor = key + 1; hop = hop; egress = egress } ≡ cursorBy strip c key n (c .at + optionSize n)
+  behind-is gone g to e transit tr hop h alone a egress eg =
+      cc (
+        t .strip key n (b .its-key),
+        t .transit key (b .its-key),
+        t .egress key (b .its-key),
+        egress-alone (hopByHopCritical key) (ingressToEgressCritical key) (critical-kinds key),
+      )
+
+pub ruleset behind-laws = (needs, behind-at, behind-room, behind-is)
 
 -- one option, by its ways out
-module _ (area : List ℕ) (c : Cursor) (w : ℕ) (word : w ≡ be16 area (c .at)) (n : ℕ) (its-length : n ≡ lengthOf w) where
-  abbrev found : O.OptionRead
-  found = optionAt area (c .floor) (c .at)
+module _ {area : List ℕ} {c : Cursor} (o : Place area c) (more : c .at < length area) where
+  pub option-there : c .at + 4 ≤ length area
+  option-there = omega arith
 
-  long : lengthOf (be16 area (c .at)) ≡ n
-  long = rw (its-length, word)
+  module _ (strip : Bool) (w : ℕ) (word : w ≡ be16 (part area (c .at) (c .at + 4 - c .at)) 0) (n : ℕ) (its-length : n ≡ lengthOf w) (size : ℕ)
+      (sized : size ≡ optionSize n) where
+    abbrev found : O.OptionRead
+    found = optionAt area (c .floor) (c .at)
 
-  pub at-reserved : 119 ≤ n → Faulty 30 (c .at) ≡ readBy c found
-  at-reserved h = ap (readBy c) (option-reserved area (c .floor) (c .at) (rw long h))
+    here : be16 area (c .at) ≡ w
+    here = sym (word ∙ be16-part area (c .at) (c .at + 4 - c .at) (omega arith))
 
-  module _ (h : n < 119) (size : ℕ) (sized : size ≡ optionSize n) (within : c .at ≤ length area) where
-    small : lengthOf (be16 area (c .at)) < 119
-    small = rw long h
+    long : lengthOf (be16 area (c .at)) ≡ n
+    long = rw (here, its-length)
 
     taken : c .at + optionSize (lengthOf (be16 area (c .at))) ≡ c .at + size
     taken = rw (long, ← sized)
 
-    pub at-past : length area - c .at < size → Faulty 31 (c .at) ≡ readBy c found
-    at-past p = ap (readBy c) (option-past area (c .floor) (c .at) small (rw taken (omega arith)))
+    pub at-reserved : 119 ≤ n → Faulty 30 (c .at) ≡ readBy strip c found
+    at-reserved h = ap (readBy strip c) (option-reserved area (c .floor) (c .at) (rw long h))
+
+    pub at-past : n < 119 → length area - c .at < size → Faulty 31 (c .at) ≡ readBy strip c found
+    at-past h p = ap (readBy strip c) (option-past area (c .floor) (c .at) (rw long h) (rw taken (omega arith)))
 
     module _ (p : size ≤ length area - c .at) (key : ℕ) (its-key : key ≡ keyOf w) where
+      small : lengthOf (be16 area (c .at)) < 119
+      small = rw long (omega arith)
+
       fits : c .at + optionSize (lengthOf (be16 area (c .at))) ≤ length area
       fits = rw taken (omega arith)
 
       keyed : keyOf (be16 area (c .at)) ≡ key
-      keyed = rw (its-key, word)
+      keyed = rw (here, its-key)
 
-      pub key-small : key < 512
-      key-small = omega (arith, its-key)
+      pub at-below : key + 1 < c .floor → Faulty 32 (c .at) ≡ readBy strip c found
+      at-below k = ap (readBy strip c) (option-below area (c .floor) (c .at) small fits (rw keyed k))
 
-      pub at-below : key + 1 < c .floor → Faulty 32 (c .at) ≡ readBy c found
-      at-below k = ap (readBy c) (option-below area (c .floor) (c .at) small fits (rw keyed k))
+      pub at-equal : key + 1 ≤ c .floor → c .floor ≤ key + 1 → Faulty 33 (c .at) ≡ readBy strip c found
+      at-equal k l = ap (readBy strip c) (option-equal area (c .floor) (c .at) small fits (rw keyed (omega arith)))
 
-      module _ (k : c .floor ≤ key + 1) where
-        pub at-equal : key + 1 ≡ c .floor → Faulty 33 (c .at) ≡ readBy c found
-        at-equal e = ap (readBy c) (option-equal area (c .floor) (c .at) small fits (rw keyed e))
+      pub at-whole : WholeOption c key n
+      at-whole = record { its-key = omega (arith, its-key); short = omega arith; inside = omega arith; fewer = o .fewer }
 
-        pub at-read : (key + 1 ≡ c .floor → ⊥) → (table : List ℕ) → Treats table → (hop egress : Bool) → hop ≡ (c .hop || transitDiscards (getD table key 0))
-            → egress ≡ (c .egress || (egressDiscards (getD table key 0) && not (transitDiscards (getD table key 0))))
-            → Read (record { at = c .at + size; floor = key + 1; hop = hop; egress = egress }) ≡ readBy c found
-        at-read other table t hop egress eh ee =
-            cc (
-              option-taken area (c .floor) (c .at) small fits (rw keyed (omega arith)),
-              keyed,
-              long,
-              taken,
-              t .transit key key-small,
-              t .egress key key-small,
-              egress-alone (hopByHopCritical key) (ingressToEgressCritical key) (critical-kinds key),
-            )
+      pub at-read : c .floor < key + 1 → (d : Cursor) → d ≡ cursorBy strip c key n (c .at + optionSize n) → Read d ≡ readBy strip c found
+      at-read k d is = cc (option-taken area (c .floor) (c .at) small fits (rw keyed (omega arith)), keyed, long)
 
-pub ruleset egress-met-laws = (needs, egress-not, egress-now)
+pub ruleset option-at-laws = (needs, option-there, at-reserved, at-past, at-below, at-equal, at-whole, at-read)
 
-pub ruleset option-at-laws = (needs, at-reserved, at-past, at-below, at-equal, at-read)
+-- what is sent of an option and those after it
+abbrev sentIf : Bool → List ℕ → List ℕ
+sentIf gone octets = if gone then [] else octets
+
+sent-first : (strip : Bool) (o : TlvOption) (os : List TlvOption)
+    → octetsOf (optionsSent strip (o ∷ os)) ≡ sentIf (strip && strippable (o .key) (o .size)) (o .octets) ++ octetsOf (optionsSent strip os)
+unfolding octetsOf
+sent-first false o os = refl
+sent-first true o os = by-test (strippable (o .key) (o .size)) (λ e. rw (kept-not o os e, e)) (λ e. rw (kept-too o os e, e))
+
+sent-none : (strip : Bool) → octetsOf (optionsSent strip []) ≡ []
+unfolding octetsOf
+sent-none false = refl
+sent-none true = rw kept-nothing
+
+-- what one option adds to what is kept
+record Adds (gone : Bool) (area : List ℕ) (at to size end : ℕ) : Type 0 where
+  long : end ≡ to + length (sentIf gone (part area at size))
+  most : end ≤ to + size
+  words : size % 4 ≡ 0 → (end - to) % 4 ≡ 0
+  lent : part area at (at + (end - to) - at) ≡ sentIf gone (part area at size)
+
+adds : (gone : Bool) (area : List ℕ) (at to size : ℕ) → at + size ≤ length area → Adds gone area at to size (if gone then to else to + size)
+adds true area at to size h =
+    let none : at + (to - to) - at ≡ 0 = omega arith in
+    record { long = omega arith; most = omega arith; words = λ m. omega arith; lent = rw none }
+adds false area at to size h =
+    let all : at + (to + size - to) - at ≡ size = omega arith in
+    record { long = rw (length-part area at size h); most = omega arith; words = λ m. omega arith; lent = rw all }
 
 -- a place in an area, with fuel enough for what is left
-pub record Walking (area : List ℕ) (c : Cursor) : Type 0 where
+pub record Walking (strip : Bool) (area kept₀ kept : List ℕ) (c : Cursor) : Type 0 where
   pub fuel : ℕ
   pub enough : length area < c .at + suc fuel
-  pub rest : walkOf (c .hop) (c .egress) (optionsFrom (suc fuel) area (c .floor) (c .at)) ≡ walkOf false false (optionsOf area)
+  pub place : Place area c
+  pub written : List ℕ
+  pub wrote : Wrote written 4 (c .to) kept₀ kept
+  pub rest : walkOf strip (c .hop) (c .egress) written (optionsFrom (suc fuel) area (c .floor) (c .at)) ≡ walkOf strip false false [] (optionsOf area)
 
 -- an option in front
-walk-first : (hop egress : Bool) (o : TlvOption) (w : Options)
-    → walkOf hop egress (optionFirst o w) ≡ walkOf (hop || hopByHopCritical (o .key)) (egress || ingressToEgressCritical (o .key)) w
+walk-first : (strip hop egress : Bool) (written : List ℕ) (o : TlvOption) (w : Options)
+    → walkOf strip hop egress written (optionFirst o w)
+    ≡ walkOf strip (hop || hopByHopCritical (o .key)) (egress || ingressToEgressCritical (o .key))
+    (written ++ sentIf (strip && strippable (o .key) (o .size)) (o .octets)) w
 unfolding some-key
-walk-first hop egress o (options os) =
+walk-first strip hop egress written o (options os) =
     rw (
       or-assoc hop (hopByHopCritical (o .key)) (some-key hopByHopCritical os),
       or-assoc egress (ingressToEgressCritical (o .key)) (some-key ingressToEgressCritical os),
+      sent-first strip o os,
+      append-assoc written (sentIf (strip && strippable (o .key) (o .size)) (o .octets)) (octetsOf (optionsSent strip os)),
     )
-walk-first hop egress o (fault number place) = refl
+walk-first strip hop egress written o (fault number place) = refl
 
-walk-none : (hop egress : Bool) → walkOf hop egress (options []) ≡ ended hop egress
+walk-none : (strip hop egress : Bool) (written : List ℕ) → walkOf strip hop egress written (options []) ≡ ended hop egress written
 unfolding some-key
-walk-none hop egress = rw (or-no hop, or-no egress)
+walk-none strip hop egress written = rw (or-no hop, or-no egress, sent-none strip, append-nil written)
 
-pub walk-begin : (area : List ℕ) → Walking area (record { at = 4; floor = 0; hop = false; egress = false })
+pub walk-begin : (strip : Bool) (area kept : List ℕ) → AreaWords area → 4 < length area
+    → Walking strip area kept kept (record { at = 4; to = 4; floor = 0; hop = false; egress = false })
 unfolding optionsOf
-walk-begin area = record { fuel = length area; enough = omega arith; rest = refl }
+walk-begin strip area kept words h =
+    record {
+      fuel = length area;
+      enough = omega arith;
+      place = record { words = words; from = omega arith; aligned = refl; inside = omega arith; fewer = omega arith };
+      written = [];
+      wrote = wrote-none kept 4;
+      rest = refl;
+    }
 
 -- by what is read, of one option and of all
 by-read : {X : Type 0} (o : O.OptionRead) → ((m q : ℕ) → o ≡ Fault m q → X) → ((key size next : ℕ) → o ≡ Taken key size next → X) → X
@@ -131,77 +189,206 @@ by-options (options os) bad good = good os refl
 read-same : {c d : Cursor} → Read c ≡ Read d → c ≡ d
 read-same e = cc
 
-module _ (area : List ℕ) (c : Cursor) (w : Walking area c) where
-  pub walk-end : length area ≤ c .at → ended (c .hop) (c .egress) ≡ walkOf false false (optionsOf area)
-  walk-end h = cc (walk-none (c .hop) (c .egress), options-end (w .fuel) area (c .floor) (c .at) h)
+-- what is known of the next place
+abbrev lentTo : List ℕ → Cursor → Cursor → List ℕ
+lentTo area c d = part area (c .at) (c .at + (d .to - c .to) - c .at)
 
-  module _ (h : c .at < length area) (read : AreaRead) (r : read ≡ readBy c (optionAt area (c .floor) (c .at))) where
-    pub walk-stop : (number place : ℕ) → read ≡ Faulty number place → foundBy read ≡ walkOf false false (optionsOf area)
+record Next (strip : Bool) (area kept₀ kept : List ℕ) (c d : Cursor) : Type 0 where
+  long : d .to ≡ c .to + length (lentTo area c d)
+  most : d .to + c .at ≤ c .to + d .at
+  words : (d .to - c .to) % 4 ≡ 0
+  forth : c .at < d .at
+  within : d .at ≤ length area
+  on : (kept′ : List ℕ) → kept′ ≡ put kept (c .to) (lentTo area c d) → Walking strip area kept₀ kept′ d
+
+module _ {strip : Bool} {area kept₀ kept : List ℕ} {c : Cursor} (w : Walking strip area kept₀ kept c) (entry : length kept₀ ≡ 124) where
+  wide : length kept ≡ 124
+  wide = wrote-long (w .wrote) (omega arith) ∙ entry
+
+  pub walk-end : length area ≤ c .at → AreaWalked strip area kept₀ kept (Read c)
+  walk-end h =
+      record {
+        written = w .written;
+        found = cc (walk-none strip (c .hop) (c .egress) (w .written), options-end (w .fuel) area (c .floor) (c .at) h);
+        wrote = λ d e. rw (← read-same e) (w .wrote);
+        few = λ d e. rw (← read-same e) (omega arith);
+        wide = wide;
+      }
+
+  module _ (h : c .at < length area) (read : AreaRead) (r : read ≡ readBy strip c (optionAt area (c .floor) (c .at))) where
+    pub walk-stop : (number place : ℕ) → read ≡ Faulty number place → AreaWalked strip area kept₀ kept read
     walk-stop number place e =
-        by-read (optionAt area (c .floor) (c .at)) (λ m q f. cc (options-fault (w .fuel) area (c .floor) (c .at) m q h f)) (λ key size next f. cc)
+        record {
+          written = [];
+          found =
+              by-read (optionAt area (c .floor) (c .at))
+              (λ m q f. cc (options-fault (w .fuel) area (c .floor) (c .at) m q h f))
+              (λ key size next f. apart cc);
+          wrote = λ d f. apart cc;
+          few = λ d f. apart cc;
+          wide = wide;
+        }
 
     module _ (d : Cursor) (e : read ≡ Read d) where
-      walk-next : (length area - d .at < length area - c .at) × Walking area d
-      walk-next =
+      next : Next strip area kept₀ kept c d
+      next =
           by-read (optionAt area (c .floor) (c .at))
           (λ m q f. apart cc)
-          (λ key size next f.
-          let its = option-read area (c .floor) (c .at) key size next f in
+          (λ key size to f.
+          let its = option-read area (c .floor) (c .at) key size to f in
+          let gone = strip && strippable key size in
+          let a = adds gone area (c .at) (c .to) (optionSize size) (omega arith) in
           let fuel : suc (w .fuel - 1) ≡ w .fuel = omega arith in
-          let o : TlvOption = record { key = key; size = size; octets = part area (c .at) (next - c .at) } in
-          rw (← read-same (ap (readBy c) (sym f) ∙ sym r ∙ e)) (
-            omega arith,
-            record {
-              fuel = w .fuel - 1;
-              enough = omega arith;
-              rest =
-                  cc (
-                    fuel,
-                    walk-first (c .hop) (c .egress) o (optionsFrom (w .fuel) area (key + 1) next),
-                    options-on (w .fuel) area (c .floor) (c .at) key size next h f,
-                  );
-            },
-          ))
+          let step : to - c .at ≡ optionSize size = omega arith in
+          let o : TlvOption = record { key = key; size = size; octets = part area (c .at) (to - c .at) } in
+          rw (← read-same (ap (readBy strip c) (sym f) ∙ sym r ∙ e))
+          record {
+            long = rw (a .lent) (a .long);
+            most = omega arith;
+            words = a .words (omega arith);
+            forth = omega arith;
+            within = omega arith;
+            on = λ kept′ is.
+                record {
+                  fuel = w .fuel - 1;
+                  enough = omega arith;
+                  place = record { words = w .place .words; from = omega arith; aligned = omega arith; inside = omega arith; fewer = omega arith };
+                  written = w .written ++ sentIf gone (part area (c .at) (optionSize size));
+                  wrote = joined (w .wrote) (record { ends = a .long; after = is ∙ rw (a .lent) });
+                  rest =
+                      cc (
+                        fuel,
+                        step,
+                        walk-first strip (c .hop) (c .egress) (w .written) o (optionsFrom (w .fuel) area (key + 1) to),
+                        options-on (w .fuel) area (c .floor) (c .at) key size to h f,
+                      );
+                };
+          })
+
+      pub walk-back : c .to ≤ d .to
+      walk-back = omega (arith, next .long)
+
+      pub walk-within : c .at + (d .to - c .to) ≤ length area
+      walk-within = omega (arith, next .most, next .within)
+
+      pub walk-add : c .at + (d .to - c .to) < 18446744073709551616
+      walk-add = omega (arith, walk-within)
+
+      pub walk-room : c .to + length (lentTo area c d) ≤ length kept
+      walk-room = omega (arith, wide, next .long, next .most, next .within)
+
+      pub walk-words : length (lentTo area c d) % 4 ≡ 0
+      walk-words = omega (arith, next .long, next .words)
 
       pub walk-less : length area - d .at < length area - c .at
-      walk-less = walk-next .0
+      walk-less = omega (arith, next .forth, next .within)
 
-      pub walk-on : Walking area d
-      walk-on = walk-next .1
+      pub walk-on : (kept′ : List ℕ) → kept′ ≡ put kept (c .to) (lentTo area c d) → Walking strip area kept₀ kept′ d
+      walk-on = next .on
 
-pub ruleset walk-area-laws = (needs, walk-begin, walk-end, walk-stop, walk-less, walk-on)
+pub ruleset walk-area-laws = (needs, walk-begin, walk-end, walk-stop, walk-back, walk-within, walk-add, walk-room, walk-words, walk-less, walk-on)
+
+-- 34 and 35, by the two summary tests
+module _ (area : List ℕ) (read : AreaRead) (c : Cursor) (e : read ≡ Read c) {there lacks : Bool} (s : there ≡ chbh area)
+    (m : lacks ≡ (c .hop && not there)) where
+  pub summed-hop : lacks ≡ true → Faulty 34 0 ≡ summarizedBy area read
+  summed-hop t = cc
+
+  module _ (t : lacks ≡ false) {there2 lacks2 : Bool} (s2 : there2 ≡ cite area) (m2 : lacks2 ≡ (c .egress && not there2)) where
+    pub summed-egress : lacks2 ≡ true → Faulty 35 0 ≡ summarizedBy area read
+    summed-egress t2 = cc
+
+    pub summed-whole : lacks2 ≡ false → Read c ≡ summarizedBy area read
+    summed-whole t2 = cc
+
+pub ruleset summarized-laws = (needs, summed-hop, summed-egress, summed-whole)
+
+-- what is read after them was read before, and is what the rules say of the options
+summed-read : (area : List ℕ) (read : AreaRead) (c : Cursor) → summarizedBy area read ≡ Read c → read ≡ Read c
+summed-read area (Faulty m q) c e = e
+summed-read area (Read d) c e =
+    by-test (d .hop && not (chbh area))
+    (λ t. apart cc)
+    (λ t. by-test (d .egress && not (cite area)) (λ u. apart cc) (λ u. cc))
+
+summed-is : (strip : Bool) (area written : List ℕ) (read : AreaRead) (o : Options) → foundBy written read ≡ walkOf strip false false [] o
+    → areaReadOf (summarizedBy area read) ≡ summarized area o
+unfolding summarized
+summed-is strip area written (Faulty m q) (fault n p) e = cc
+summed-is strip area written (Faulty m q) (options os) e = apart cc
+summed-is strip area written (Read c) (fault n p) e = apart cc
+summed-is strip area written (Read c) (options os) e =
+    by-test (c .hop && not (chbh area))
+    (λ t. cc)
+    (λ t. by-test (c .egress && not (cite area)) (λ u. cc) (λ u. cc))
 
 -- an area of one word, or none, has no option
 pub area-short : (area : List ℕ) → length area ≤ 4 → O.WellFormed ≡ draftRead area
 unfolding draftRead summarized optionsOf some-key
 area-short area h = rw (options-end (length area) area 0 4 h)
 
--- the whole area, by the walk's end and the two summary tests
-module _ (area : List ℕ) (read : AreaRead) (is : foundBy read ≡ walkOf false false (optionsOf area)) where
-  pub area-faulty : (number place : ℕ) → read ≡ Faulty number place → areaReadOf read ≡ draftRead area
-  unfolding draftRead summarized
-  area-faulty number place e = by-options (optionsOf area) (λ m q f. cc) (λ os f. cc)
+module _ (strip : Bool) (area : List ℕ) (h : length area ≤ 4) where
+  short-sent : sentOf strip area ≡ area
+  short-sent = by-test strip (λ e. rw e (stripped-word area h)) (λ e. rw e)
 
-  module _ (c : Cursor) (e : read ≡ Read c) where
-    area-ended : draftRead area
-        ≡ (if c .hop && not (chbh area) then O.Faulty 34 0 else if c .egress && not (cite area) then O.Faulty 35 0 else O.WellFormed)
-    unfolding draftRead summarized
-    area-ended = by-options (optionsOf area) (λ m q f. cc) (λ os f. cc)
+  pub short-kept : (kept kept′ : List ℕ) (r : AreaRead) → AllKept area kept kept′ r → AreaKept strip area kept kept′ r
+  short-kept kept kept′ r x =
+      record {
+        read = x .read ∙ area-short area h;
+        wrote = λ c e. rw short-sent (x .wrote c e);
+        few = λ c e. omega (arith, x .wrote c e .ends);
+        wide = x .wide;
+      }
 
-    module _ {summary lacks : Bool} (s : summary ≡ chbh area) (m : lacks ≡ (c .hop && not summary)) where
-      pub area-hop : lacks ≡ true → O.Faulty 34 0 ≡ draftRead area
-      area-hop t = cc area-ended
+-- all of an area
+pub all-kept : (area kept kept′ : List ℕ) → kept′ ≡ put kept 0 area → AreaWords area → length kept ≡ 124
+    → AllKept area kept kept′ (Read (record { at = 4; to = length area; floor = 0; hop = false; egress = false }))
+all-kept area kept kept′ is words wide =
+    record {
+      read = refl;
+      wrote = λ c e. rw (← read-same e) (record { ends = omega arith; after = is });
+      wide = rw is (length-put kept 0 area (omega (arith, words .few)) ∙ wide);
+    }
 
-      module _ (t : lacks ≡ false) {summary2 lacks2 : Bool} (s2 : summary2 ≡ cite area) (m2 : lacks2 ≡ (c .egress && not summary2)) where
-        pub area-egress : lacks2 ≡ true → O.Faulty 35 0 ≡ draftRead area
-        area-egress t2 = cc area-ended
+pub ruleset keep-all-laws = (needs, all-kept)
 
-        pub area-whole : lacks2 ≡ false → O.WellFormed ≡ draftRead area
-        area-whole t2 = cc area-ended
+-- another is its first word and its options
+module _ (strip : Bool) (area : List ℕ) (h : 4 < length area) where
+  area-sent : (os : List TlvOption) → optionsOf area ≡ options os → sentOf strip area ≡ take 4 area ++ octetsOf (optionsSent strip os)
+  unfolding optionsOf
+  area-sent os is =
+      by-test strip
+      (λ e. rw e (stripped-is area os is))
+      (λ e. rw (e, ← walk-laid (suc (length area)) area 0 4 os (omega arith) (omega arith) is .1, take-append-drop))
 
-pub ruleset summarized-laws = (needs, area-faulty, area-hop, area-egress, area-whole)
+  pub word-long : length (take 4 area) ≡ 4
+  word-long = length-take-le 4 area (omega arith)
 
-pub ruleset read-area-laws = (needs, area-short)
+  pub word-lent : 4 ≡ length (take 4 area)
+  word-lent = sym word-long
+
+  pub word-wide : (kept kept1 : List ℕ) → kept1 ≡ put kept 0 (take 4 area) → length kept ≡ 124 → length kept1 ≡ 124
+  word-wide kept kept1 first wide = rw first (length-put kept 0 (take 4 area) (omega (arith, word-long)) ∙ wide)
+
+  pub area-kept : (kept kept1 kept2 : List ℕ) (read r : AreaRead) → AreaWalked strip area kept1 kept2 read → kept1 ≡ put kept 0 (take 4 area)
+      → r ≡ summarizedBy area read → AreaKept strip area kept kept2 r
+  unfolding draftRead
+  area-kept kept kept1 kept2 read r w first is =
+      let word : Wrote (take 4 area) 0 4 kept kept1 = record { ends = omega (arith, word-lent); after = first } in
+      record {
+        read = rw is (summed-is strip area (w .written) read (optionsOf area) (w .found));
+        wrote = λ c e.
+            let before = summed-read area read c (sym is ∙ e) in
+            by-options (optionsOf area)
+            (λ m q f. apart cc)
+            (λ os f.
+            let written : w .written ≡ octetsOf (optionsSent strip os) = cc in
+            rw (area-sent os f, ← written) (joined word (w .wrote c before)));
+        few = λ c e. w .few c (summed-read area read c (sym is ∙ e));
+        wide = w .wide;
+      }
+
+pub ruleset read-area-laws = (needs, short-kept, word-long, word-lent, word-wide, area-kept)
 
 -- 20, as the code finds it
 module _ (egress : Bool) (area : List ℕ) (b : Bool) (is : b ≡ chbh area) where
@@ -219,3 +406,22 @@ module _ (egress : Bool) (area : List ℕ) (b : Bool) (is : b ≡ chbh area) whe
     stops-none t = cc (and-no (cite area))
 
 pub ruleset area-stops-laws = (needs, stops-hop, stops-egress, stops-none)
+
+-- a word
+word-is : (s : List ℕ) → length s ≡ 4 → (getD s 0 0 ∷ getD s 1 0 ∷ getD s 2 0 ∷ getD s 3 0 ∷ []) ≡ s
+word-is s four = sym (drop-cons s 0 0 (omega arith) ∙ rw (drop-cons s 1 0 (omega arith), drop-cons s 2 0 (omega arith), drop-cons s 3 0 (omega arith), none))
+  where
+    none : drop 4 s ≡ []
+    none = drop-of-length-le s {i = 4} (omega arith)
+
+pub word-put : (d : List ℕ) (at end : ℕ) (s d′ : List ℕ) → length s ≡ 4 → at + 4 ≤ length d
+    → Wrote (fitting d at (getD s 0 0 ∷ getD s 1 0 ∷ getD s 2 0 ∷ getD s 3 0 ∷ [])) at end d d′ → d′ ≡ put d at s
+word-put d at end s d′ four room w = copied w (word-is s four) (omega arith) .after
+
+pub ruleset put-word-laws = (needs, word-put)
+
+-- whole words, one after another
+pub words-end : (d : List ℕ) (to : ℕ) (s : List ℕ) (i : ℕ) (out : List ℕ) → out ≡ put d to (take i s) → length s ≤ i → out ≡ put d to s
+words-end d to s i out is k = is ∙ rw (take-all i s k)
+
+pub ruleset put-words-laws = (needs, parts, words-end)

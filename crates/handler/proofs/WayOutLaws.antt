@@ -19,10 +19,10 @@ use Rattle.octets.specs.Copy.{Wrote}
 use Rattle.handler.specs
 use specs.declared.validation.Validated.{Validated}
 use specs.declared.way.{Own.Own, Lookup.Lookup, WayOut.WayOut}
-use specs.{Shapes.linkSize, Shapes.waysBy, Shapes.onlyFor, Shapes.ownOf, Shapes.WayDone, Keys.lookupBy, Keys.ValidatedBy}
+use specs.{Shapes.linkSize, Shapes.waysBy, Shapes.onlyFor, Shapes.Owns, Shapes.WayDone, Keys.lookupBy, Keys.ValidatedBy}
 use Rattle.stores.specs.Store.{storeGood, waysIn, wayOutIn, Whole}
 use Rattle.stores.proofs.PlaceLaws.{good-whole}
-use Rattle.handler.proofs.ScanLaws.{settings-none, settings-some, validated-lookup}
+use Rattle.handler.proofs.CallLaws.{settings-none, settings-some, validated-lookup}
 use Rattle.rules.specs.WayOut as W
 
 -- T-11, by what is lookup of one destination
@@ -66,7 +66,7 @@ module _ (settings : List ℕ) (d : ℕ) (out : List ℕ) (j : Validated) (is : 
   unfolding wayOut
   settings-no-way n e = rw (wayOut, settings-none settings d j is n) (record { answer = e; after = sym (put-none out 0) })
 
-  pub settings-way : not (j .good) ≡ false → (own : Own) → own ≡ ownOf (waysOf (settingsRead settings)) → (t : Lookup) → t ≡ lookupBy own j
+  pub settings-way : not (j .good) ≡ false → (own : Own) → Owns own (waysOf (settingsRead settings)) → (t : Lookup) → t ≡ lookupBy own j
       → (out′ : List ℕ) → WayDone (wayOutBy (waysBy t) 0 (length out)) r out out′ → WayDone (wayOut settings d (length out)) r out out′
   unfolding wayOut
   settings-way n own o t e out′ w =

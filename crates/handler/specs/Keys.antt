@@ -16,7 +16,7 @@ use Rattle.handler.specs.declared.validation.Scan.{Scan}
 use Rattle.handler.specs.declared.validation.Validated.{Validated}
 use Rattle.handler.specs.declared.way.Own.{Own}
 use Rattle.handler.specs.declared.way.Lookup.{Lookup}
-use Rattle.handler.specs.Shapes.{ruledBy, noFlags, flaggedBy, FoldedFrom, ownOf, waysBy, onlyFor}
+use Rattle.handler.specs.Shapes.{ruledBy, noFlags, flaggedBy, FoldedFrom, Owns, waysBy, onlyFor}
 
 -- destination above serial: two records of one destination with equal serials have one key
 abbrev pub keyOf : NextHop → ℕ
@@ -90,4 +90,4 @@ lookupBy own r = record { own = own; strip = r .strip; rfc7179 = r .rfc7179; hop
 -- settings octets validated, and what they say of one destination if they are good
 pub record ValidatedBy (s : List ℕ) (d : ℕ) (r : Validated) : Type 0 where
   pub validated : r .good ≡ known (settingsOf s)
-  pub finds : r .good ≡ true → waysBy (lookupBy (ownOf (waysOf (settingsRead s))) r) ≡ onlyFor d (waysOf (settingsRead s))
+  pub finds : r .good ≡ true → (own : Own) → Owns own (waysOf (settingsRead s)) → waysBy (lookupBy own r) ≡ onlyFor d (waysOf (settingsRead s))

@@ -1,5 +1,5 @@
 -- The rules' answers, settings and readings in the shapes that the code hands on.
-use Prim.Native.Nat.{ℕ, suc, _+_, _-_, _/_, _≤_, _<_}
+use Prim.Native.Nat.{ℕ, suc, _+_, _-_, _/_, _%_, _≤_, _<_}
 use mathlib.Core.Path.{_≡_}
 use mathlib.Core.List.{List, [], _++_, foldl}
 use mathlib.Core.Bool.{Bool, false, not, _&&_, _||_}
@@ -9,11 +9,14 @@ use Rattle.rules.specs.Octets.{if_then_else_, octet, octets16, octets48, part, 
 use Rattle.rules.specs.Fields.{Field, field, cut, fieldsAt}
 use Rattle.rules.specs.Settings.{Ways, newer, hopOf}
 use Rattle.rules.specs.Link.{ethertypeTag, ethertypeTrill}
-use Rattle.rules.specs.Header.{version, reserved, multi, hopCount, headerWord, readFrame, innerStart, innerOf}
+use Rattle.rules.specs.Header.{version, reserved, multi, hopCount, headerWord, readFrame, innerStart, areaOf, innerOf}
+use Rattle.rules.specs.Extension.{areaSent}
 use Rattle.rules.specs.Options as O
-use Rattle.rules.specs.Options.{OptionRead, Taken, Fault, Options, options, fault, some-key, hopByHopCritical, ingressToEgressCritical, keptOptions, octetsOf}
+use Rattle.rules.specs.Options.{OptionRead, Taken, Fault, TlvOption, Options, options, fault, some-key, hopByHopCritical, ingressToEgressCritical}
+use Rattle.rules.specs.Options.{optionSize, strippable, keptOptions, octetsOf, stripped}
 use Rattle.rules.specs.Channel.{allEgressRBridges, ethertypeChannel, ethertypeIsIs}
 use Rattle.rules.specs.Answer as A
+use Rattle.octets.specs.Copy.{Wrote}
 use Rattle.rules.specs.WayOut as W
 use Rattle.rules.specs.declared.Ruling.{Ruling}
 use Rattle.rules.specs.declared.Ruling.the-variants.{Found, Absent}
@@ -65,26 +68,27 @@ refusalBy n = if eqb n 0 then Passed else Refused n
 abbrev pub repliedBy : ℕ → ℕ → ℕ → ℕ → Answer
 repliedBy refusal number written via = if eqb written 0 then droppedBy refusal else wroteBy number written via
 
--- with a reply of so many octets beside it
-abbrev pub besideBy : Answer → ℕ → ℕ → Answer
-besideBy a written via =
-    if eqb written 0 then a else
+-- with a reply beside it
+abbrev pub besideBy : Answer → Answer → Answer
+besideBy a reply =
     record {
       number = a .number;
       written = a .written;
       start = a .start;
       length = a .length;
       neighbour = a .neighbour;
-      beside = written;
-      «beside_neighbour» = via;
+      beside = reply .written;
+      «beside_neighbour» = reply .neighbour;
     }
 
-abbrev pub ownOf : Ways → Own
-ownOf S = record { nickname = S .nickname; mac = S .mac }
+-- our own nickname and MAC, which stands above 16 bits of anything
+pub record Owns (own : Own) (S : Ways) : Type 0 where
+  pub named : own .nickname ≡ S .nickname
+  pub addressed : own .word / 65536 ≡ S .mac
 
 -- what a handling looks up, which asks for the next hop of one destination only
 abbrev pub waysBy : Lookup → Ways
-waysBy t = record { nickname = t .own .nickname; mac = t .own .mac; strip = t .strip; rfc7179 = t .rfc7179; hop = λ d. t .hop }
+waysBy t = record { nickname = t .own .nickname; mac = t .own .word / 65536; strip = t .strip; rfc7179 = t .rfc7179; hop = λ d. t .hop }
 
 abbrev pub viaOf : Ruling → ℕ
 viaOf Absent = 0
@@ -117,37 +121,89 @@ pub record WayDone (a : W.WayOut) (r : WayOut) (out out′ : List ℕ) : Type 0 
   pub answer : r ≡ record { number = a .number; length = length (a .octets) }
   pub after : out′ ≡ put out 0 (a .octets)
 
--- the cursor behind an option that was read, or the fault
-abbrev pub readBy : Cursor → OptionRead → AreaRead
-readBy c (Taken key size next) =
-    Read (record { at = next; floor = key + 1; hop = c .hop || hopByHopCritical key; egress = c .egress || ingressToEgressCritical key })
-readBy c (Fault number place) = Faulty number place
+-- an area as a frame has it: whole words, of which Op-Length counts at most 31
+pub record AreaWords (area : List ℕ) : Type 0 where
+  pub few : length area ≤ 124
+  pub whole : length area % 4 ≡ 0
 
--- what a walk over the options finds: critical options of the two kinds, or the first fault
+-- a place in an area, behind its first word; what is kept never ends further on than what is read
+pub record Place (area : List ℕ) (c : Cursor) : Type 0 where
+  pub words : AreaWords area
+  pub from : 4 ≤ c .at
+  pub aligned : c .at % 4 ≡ 0
+  pub inside : c .at ≤ length area
+  pub fewer : c .to ≤ c .at
+
+-- an option that is whole in an area
+pub record WholeOption (c : Cursor) (key size : ℕ) : Type 0 where
+  pub its-key : key < 512
+  pub short : size < 119
+  pub inside : c .at + optionSize size ≤ 124
+  pub fewer : c .to ≤ c .at
+
+-- the cursor behind an option that was read, or the fault
+abbrev pub cursorBy : Bool → Cursor → ℕ → ℕ → ℕ → Cursor
+cursorBy strip c key size next =
+    record {
+      at = next;
+      to = if strip && strippable key size then c .to else c .to + optionSize size;
+      floor = key + 1;
+      hop = c .hop || hopByHopCritical key;
+      egress = c .egress || ingressToEgressCritical key;
+    }
+
+abbrev pub readBy : Bool → Cursor → OptionRead → AreaRead
+readBy strip c (Taken key size next) = Read (cursorBy strip c key size next)
+readBy strip c (Fault number place) = Faulty number place
+
+-- an area as it is sent, and which of its options are
+abbrev pub sentOf : Bool → List ℕ → List ℕ
+sentOf strip area = if strip then stripped area else area
+
+abbrev pub optionsSent : Bool → List TlvOption → List TlvOption
+optionsSent strip os = if strip then keptOptions os else os
+
+-- what a walk over the options finds: critical options of the two kinds and the octets of those that are sent, or the first fault
 pub data Walk : Type 0 where
-  ended : Bool → Bool → Walk
+  ended : Bool → Bool → List ℕ → Walk
   stopped : ℕ → ℕ → Walk
 
-abbrev pub foundBy : AreaRead → Walk
-foundBy (Read c) = ended (c .hop) (c .egress)
-foundBy (Faulty number place) = stopped number place
+abbrev pub foundBy : List ℕ → AreaRead → Walk
+foundBy written (Read c) = ended (c .hop) (c .egress) written
+foundBy written (Faulty number place) = stopped number place
 
--- once `hop` and `egress` critical ones were met
-abbrev pub walkOf : Bool → Bool → Options → Walk
-walkOf hop egress (fault number place) = stopped number place
-walkOf hop egress (options os) = ended (hop || some-key hopByHopCritical os) (egress || some-key ingressToEgressCritical os)
+-- once `hop` and `egress` critical ones were met and some octets written
+abbrev pub walkOf : Bool → Bool → Bool → List ℕ → Options → Walk
+walkOf strip hop egress written (fault number place) = stopped number place
+walkOf strip hop egress written (options os) =
+    ended (hop || some-key hopByHopCritical os) (egress || some-key ingressToEgressCritical os) (written ++ octetsOf (optionsSent strip os))
+
+-- all options read, and those that are sent written behind the first word
+pub record AreaWalked (strip : Bool) (area kept kept′ : List ℕ) (r : AreaRead) : Type 0 where
+  pub written : List ℕ
+  pub found : foundBy written r ≡ walkOf strip false false [] (O.optionsOf area)
+  pub wrote : (c : Cursor) → r ≡ Read c → Wrote written 4 (c .to) kept kept′
+  pub few : (c : Cursor) → r ≡ Read c → c .to ≤ 124
+  pub wide : length kept′ ≡ 124
+
+-- 34 and 35
+abbrev pub summarizedBy : List ℕ → AreaRead → AreaRead
+summarizedBy area (Faulty number place) = Faulty number place
+summarizedBy area (Read c) =
+    if c .hop && not (O.chbh area) then Faulty 34 0 else
+    if c .egress && not (O.cite area) then Faulty 35 0
+    else Read c
 
 abbrev pub areaReadOf : AreaRead → O.AreaRead
 areaReadOf (Read c) = O.WellFormed
 areaReadOf (Faulty number place) = O.Faulty number place
 
--- what stays of one option, and of all
-abbrev pub keptIf : Bool → List ℕ → List ℕ
-keptIf stripped octets = if stripped then [] else octets
-
-abbrev pub keptFrom : Options → List ℕ
-keptFrom (options os) = octetsOf (keptOptions os)
-keptFrom (fault number place) = []
+-- an area read, and what is sent of it put aside; what is put aside of a faulty one does not matter
+pub record AreaKept (strip : Bool) (area kept kept′ : List ℕ) (r : AreaRead) : Type 0 where
+  pub read : areaReadOf r ≡ O.draftRead area
+  pub wrote : (c : Cursor) → r ≡ Read c → Wrote (sentOf strip area) 0 (c .to) kept kept′
+  pub few : (c : Cursor) → r ≡ Read c → c .to ≤ 124
+  pub wide : length kept′ ≡ 124
 
 -- a link header's outer tag and Ethertype, how long the header is, and the octets of a TRILL header
 abbrev pub taggedOctets : ℕ → List ℕ
@@ -156,19 +212,15 @@ taggedOctets vlan = octets16 ethertypeTag ++ octets16 vlan ++ octets16 ethertype
 abbrev pub linkSize : ℕ → ℕ
 linkSize vlan = if eqb vlan 0 then 14 else 18
 
--- the 28 octets of a reply between its link header and its body
+-- the 28 octets of a reply between its link header and its body: before our own MAC and behind it, and all
+abbrev pub replyHead : ℕ → ℕ → List ℕ
+replyHead nickname ingress = octets16 0x003F ++ octets16 ingress ++ octets16 nickname ++ octets48 allEgressRBridges
+
+abbrev pub replyChannel : ℕ → ℕ → List ℕ
+replyChannel number code = octets16 ethertypeTag ++ octets16 0x0001 ++ octets16 ethertypeChannel ++ octets16 number ++ octets16 (0xC000 + code)
+
 abbrev pub replyOctets : Own → ℕ → ℕ → ℕ → List ℕ
-replyOctets own ingress number code =
-    octets16 0x003F
-    ++ octets16 ingress
-    ++ octets16 (own .nickname)
-    ++ octets48 allEgressRBridges
-    ++ octets48 (own .mac)
-    ++ octets16 ethertypeTag
-    ++ octets16 0x0001
-    ++ octets16 ethertypeChannel
-    ++ octets16 number
-    ++ octets16 (0xC000 + code)
+replyOctets own ingress number code = replyHead (own .nickname) ingress ++ octets48 (own .word / 65536) ++ replyChannel number code
 
 -- a forwarded frame behind its link header, with the area as it is sent
 abbrev pub sentBy : ℕ → ℕ → ℕ
@@ -180,6 +232,11 @@ headerSent f h words = octets16 (sentBy (h .word) words) ++ part f (h .place + 2
 
 unfoldable pub restWith : List ℕ → List ℕ → Header → List ℕ
 restWith area f h = octets16 (sentBy (h .word) (length area / 4)) ++ octets16 (h .egress) ++ octets16 (h .ingress) ++ area ++ innerOf f h
+
+-- the area that goes on
+pub record Sends (S : Ways) (f : List ℕ) (h : Header) (area : List ℕ) : Type 0 where
+  pub goes : areaSent S (areaOf f h) ≡ area
+  pub few : length area ≤ 124
 
 -- a frame whose area is whole and whose hop count is not 0, and room to forward it from `at` on with an area as it is sent
 pub record Fits (area f : List ℕ) (h : Header) (out : List ℕ) (at : ℕ) : Type 0 where
@@ -215,3 +272,9 @@ pub record Done (a : A.Handled) (r : Answer) (out out′ : List ℕ) : Type 0 wh
   pub answer : r ≡ answerOf a
   pub after : out′ ≡ put out 0 (a .octets)
   pub alone : a .beside ≡ []
+
+-- an area of which all is put aside
+pub record AllKept (area kept kept′ : List ℕ) (r : AreaRead) : Type 0 where
+  pub read : areaReadOf r ≡ O.WellFormed
+  pub wrote : (c : Cursor) → r ≡ Read c → Wrote area 0 (c .to) kept kept′
+  pub wide : length kept′ ≡ 124

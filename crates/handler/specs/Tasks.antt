@@ -3,39 +3,50 @@ use Prim.Native.Nat.{ℕ, _≤_}
 use mathlib.Core.Path.{_≡_}
 use mathlib.Core.List.{List, []}
 use mathlib.Core.Bool.{Bool, true, false, not, _&&_, _||_}
-use lib.Dec.{eqb}
-use lib.ListN.{length}
+use lib.ListN.{length, take}
 use Rattle.rules.specs.Octets.{if_then_else_, put}
 use Rattle.rules.specs.Settings.{Ways}
 use Rattle.rules.specs.Header.{areaOf, innerOf, weAreEgress}
 use Rattle.rules.specs.Options as O
-use Rattle.rules.specs.Options.{WellFormed, draftRead, draftStops}
+use Rattle.rules.specs.Options.{draftRead, draftStops}
 use Rattle.rules.specs.Extension.{flagsWord, criticalAlert, nonCriticalAlert, extensionRead, extensionStops}
 use Rattle.rules.specs.Channel.{bodyOf, channelRead}
-use Rattle.rules.specs.Handling.{onward, channelMessage, alertTo, faulted, echoed, routed, handling, handledWith}
+use Rattle.rules.specs.Handling.{onward, channelMessage, alertTo, alerted, channelled, decapsulated, routed, handling, handledWith}
 use Rattle.rules.specs.Answer as A
 use Rattle.rules.specs.declared.NextHop.{NextHop}
 use Rattle.rules.specs.declared.Header.{Header}
 use Rattle.rules.specs.declared.Ruling.the-variants.{Found, Absent}
+use Rattle.rules.specs.declared.ChannelRead.the-variants.{Fault, EchoRequest}
 use Rattle.rules.specs.declared.Alert.{Alert}
 use Rattle.rules.specs.declared.Alert.the-variants.{NoAlert, AlertFault, AlertErr, AlertRequest}
 use Rattle.handler.specs.declared.answers.Answer.{Answer}
 use Rattle.handler.specs.declared.answers.Refusal.{Refusal}
 use Rattle.handler.specs.declared.answers.Refusal.the-variants.{Refused, Passed}
 use Rattle.handler.specs.declared.way.Own.{Own}
+use Rattle.handler.specs.declared.options.Cursor.{Cursor}
 use Rattle.handler.specs.declared.options.AreaRead.{AreaRead}
+use Rattle.handler.specs.declared.options.AreaRead.the-variants.{Read}
+use Rattle.handler.specs.declared.handling.Local.{Local}
+use Rattle.handler.specs.declared.handling.Local.the-variants.{Dropped, Answered, Message}
 use Rattle.handler.specs.declared.handling.Task.{Task}
-use Rattle.handler.specs.declared.handling.Task.the-variants.{Dropped, Answered, Forward, Error, Echo}
+use Rattle.handler.specs.declared.handling.Task.the-variants.{Ended, Forward}
 use Rattle.handler.specs.declared.handling.Received.{Received}
 use Rattle.handler.specs.declared.handling.Received.the-variants as R
-use Rattle.handler.specs.Shapes.{answerOf, ownOf, areaReadOf, Ready, Done}
+use Rattle.handler.specs.Shapes.{answerOf, Owns, areaReadOf, sentOf, Ready, Done}
 
 -- the area by the edition
 abbrev pub areaReadBy : Bool → List ℕ → O.AreaRead
 areaReadBy rfc7179 area = if rfc7179 then extensionRead area else draftRead area
 
-abbrev pub ReadBy : Bool → List ℕ → AreaRead → Type 0
-ReadBy rfc7179 area r = areaReadOf r ≡ areaReadBy rfc7179 area
+-- an area as it is sent put aside, in so many octets
+pub record PutAside (sent kept : List ℕ) (size : ℕ) : Type 0 where
+  pub wide : length kept ≡ 124
+  pub few : size ≤ 124
+  pub stands : sent ≡ take size kept
+
+pub record ReadBy (rfc7179 strip : Bool) (area kept : List ℕ) (r : AreaRead) : Type 0 where
+  pub read : areaReadOf r ≡ areaReadBy rfc7179 area
+  pub aside : (c : Cursor) → r ≡ Read c → PutAside (sentOf (strip && not rfc7179) area) kept (c .to)
 
 abbrev pub stopsBy : Bool → Bool → List ℕ → Bool
 stopsBy rfc7179 egress area = if rfc7179 then extensionStops egress (flagsWord area) else draftStops egress area
@@ -46,29 +57,23 @@ alertBy rfc7179 area inner =
     then alertTo (criticalAlert (flagsWord area)) (not (stopsBy rfc7179 true area)) (channelRead inner)
     else NoAlert
 
--- the reply beside a forwarded frame; `B` is asked for the next hop of the ingress
-abbrev pub besideOf : Ways → Ways → NextHop → List ℕ → List ℕ → Header → A.Handled
-besideOf T B r clock f h = onward T r f h (echoed B clock f h .octets) (echoed B clock f h .via)
+-- transit, with an alert
+unfoldable pub transitAt : Ways → List ℕ → List ℕ → Header → Alert → A.Handled
+transitAt S clock f h alert = elim (S .hop (h .egress)) [ Absent ↦ A.dropped 21 | Found r ↦ alerted S r clock f h alert ]
 
-abbrev pub alertedBy : Ways → Ways → NextHop → List ℕ → List ℕ → Header → Alert → A.Handled
-alertedBy T B r clock f h NoAlert = onward T r f h [] 0
-alertedBy T B r clock f h (AlertFault code) = faulted B f h code
-alertedBy T B r clock f h AlertErr = A.dropped 26
-alertedBy T B r clock f h AlertRequest = besideOf T B r clock f h
+-- a channel message to us
+abbrev pub messaged : Ways → List ℕ → List ℕ → Header → A.Handled
+messaged S clock f h = channelled S clock f h (channelRead (innerOf f h))
 
-unfoldable pub transitBy : Ways → Ways → List ℕ → List ℕ → Header → Alert → A.Handled
-transitBy T B clock f h alert = elim (T .hop (h .egress)) [ Absent ↦ A.dropped 21 | Found r ↦ alertedBy T B r clock f h alert ]
+-- what is not forwarded, and what a task comes to at a switch
+abbrev pub localAt : Ways → List ℕ → List ℕ → Header → Local → A.Handled
+localAt S clock f h (Dropped number) = A.dropped number
+localAt S clock f h (Answered number start size) = A.delivered number start size
+localAt S clock f h Message = messaged S clock f h
 
-abbrev pub transitAt : Ways → List ℕ → List ℕ → Header → Alert → A.Handled
-transitAt S = transitBy S S
-
--- what a task comes to at a switch
 abbrev pub doneAt : Ways → List ℕ → List ℕ → Header → Task → A.Handled
-doneAt S clock f h (Dropped number) = A.dropped number
-doneAt S clock f h (Answered number start size) = A.delivered number start size
-doneAt S clock f h (Forward alert) = transitAt S clock f h alert
-doneAt S clock f h (Error code) = faulted S f h code
-doneAt S clock f h Echo = echoed S clock f h
+doneAt S clock f h (Ended local) = localAt S clock f h local
+doneAt S clock f h (Forward alert size) = transitAt S clock f h alert
 
 -- transit without what is replied to an alert: a fault is dropped while no reply is made
 abbrev pub alertRefusal : Alert → Refusal
@@ -107,48 +112,59 @@ EchoIn f h = (18 ≤ length (bodyOf (innerOf f h))) × (length (bodyOf (innerOf 
 
 abbrev pub Answerable : List ℕ → Header → Alert → Type 0
 Answerable f h NoAlert = Unit {0}
-Answerable f h (AlertFault code) = Unit {0}
+Answerable f h (AlertFault code) = channelRead (innerOf f h) ≡ Fault code
 Answerable f h AlertErr = Unit {0}
-Answerable f h AlertRequest = EchoIn f h
+Answerable f h AlertRequest = channelRead (innerOf f h) ≡ EchoRequest
 
-pub record Forwardable (rfc7179 : Bool) (f : List ℕ) (h : Header) (alert : Alert) : Type 0 where
-  pub well : rfc7179 ≡ false → draftRead (areaOf f h) ≡ WellFormed
+pub record Forwardable (f : List ℕ) (h : Header) (alert : Alert) : Type 0 where
   pub is-ready : Ready f h
   pub answerable : Answerable f h alert
 
-abbrev pub Left : Bool → List ℕ → Header → Task → Type 0
-Left rfc7179 f h (Dropped number) = Unit {0}
-Left rfc7179 f h (Answered number start size) = (start ≤ 2048) × (size ≤ 2048)
-Left rfc7179 f h (Forward alert) = Forwardable rfc7179 f h alert
-Left rfc7179 f h (Error code) = Ready f h
-Left rfc7179 f h Echo = EchoIn f h × Ready f h
+-- the inner frame at the egress
+abbrev pub Ends : Local → Type 0
+Ends (Dropped number) = Unit {0}
+Ends (Answered number start size) = (start ≤ 2048) × (size ≤ 2048)
+Ends Message = Unit {0}
 
--- a task of an egress, which forwards nothing
-abbrev pub Ends : List ℕ → Header → Task → Type 0
-Ends f h (Dropped number) = Unit {0}
-Ends f h (Answered number start size) = (start ≤ 2048) × (size ≤ 2048)
-Ends f h (Forward alert) = ⊥
-Ends f h (Error code) = Ready f h
-Ends f h Echo = EchoIn f h × Ready f h
+pub record Comes (f : List ℕ) (h : Header) (local : Local) : Type 0 where
+  pub same : (S : Ways) (clock : List ℕ) → decapsulated S clock f h ≡ localAt S clock f h local
+  pub ends : Ends local
 
--- a stage of the egress comes to a task
-pub record Comes (f : List ℕ) (h : Header) (stage : Ways → List ℕ → A.Handled) (t : Task) : Type 0 where
-  pub same : (S : Ways) (clock : List ℕ) → stage S clock ≡ doneAt S clock f h t
-  pub ends : Ends f h t
+-- a task: what is known of it, and that it is that of our role
+abbrev pub Left : List ℕ → Header → Task → Type 0
+Left f h (Ended local) = Ends local
+Left f h (Forward alert size) = Forwardable f h alert
 
--- a task is that of our role
+abbrev pub LocalRole : ℕ → Header → Local → Type 0
+LocalRole nickname h (Dropped number) = Unit {0}
+LocalRole nickname h (Answered number start size) = Unit {0}
+LocalRole nickname h Message = weAreEgress nickname h ≡ true
+
 abbrev pub Role : ℕ → Header → Task → Type 0
-Role nickname h (Dropped number) = Unit {0}
-Role nickname h (Answered number start size) = Unit {0}
-Role nickname h (Forward alert) = weAreEgress nickname h ≡ false
-Role nickname h (Error code) = weAreEgress nickname h ≡ true
-Role nickname h Echo = weAreEgress nickname h ≡ true
+Role nickname h (Ended local) = LocalRole nickname h local
+Role nickname h (Forward alert size) = weAreEgress nickname h ≡ false
 
--- a frame that was received comes to a task, at every switch of a nickname and an edition
-pub record Routes (nickname : ℕ) (rfc7179 : Bool) (f : List ℕ) (h : Header) (t : Task) : Type 0 where
+-- how many octets it sends of its area, and that they are put aside
+abbrev pub Sized : ℕ → Task → Type 0
+Sized size (Ended local) = Unit {0}
+Sized size (Forward alert n) = n ≡ size
+
+abbrev pub Aside : Bool → Bool → List ℕ → Header → List ℕ → Task → Type 0
+Aside rfc7179 strip f h kept (Ended local) = Unit {0}
+Aside rfc7179 strip f h kept (Forward alert size) = PutAside (sentOf (strip && not rfc7179) (areaOf f h)) kept size
+
+-- a frame that was received comes to a task, at every switch of a nickname and an edition: once its area is read, and as a whole
+pub record RoutesRead (nickname : ℕ) (rfc7179 : Bool) (size : ℕ) (f : List ℕ) (h : Header) (t : Task) : Type 0 where
   pub same : (S : Ways) (clock : List ℕ) → nickname ≡ S .nickname → rfc7179 ≡ S .rfc7179 → routed S clock f h ≡ doneAt S clock f h t
-  pub left : Left rfc7179 f h t
+  pub left : Left f h t
   pub role : Role nickname h t
+  pub sized : Sized size t
+
+pub record Routes (nickname : ℕ) (rfc7179 strip : Bool) (f : List ℕ) (h : Header) (kept : List ℕ) (t : Task) : Type 0 where
+  pub same : (S : Ways) (clock : List ℕ) → nickname ≡ S .nickname → rfc7179 ≡ S .rfc7179 → routed S clock f h ≡ doneAt S clock f h t
+  pub left : Left f h t
+  pub role : Role nickname h t
+  pub aside : Aside rfc7179 strip f h kept t
 
 -- a frame as received, at every switch of a nickname and MAC
 abbrev pub receivedBy : Ways → List ℕ → List ℕ → Received → A.Handled
@@ -160,7 +176,7 @@ Got f (R.Refused n) = Unit {0}
 Got f (R.Trill h) = Ready f h
 
 pub record Receives (own : Own) (f : List ℕ) (r : Received) : Type 0 where
-  pub same : (S : Ways) (clock : List ℕ) → own ≡ ownOf S → handling S clock f ≡ receivedBy S clock f r
+  pub same : (S : Ways) (clock : List ℕ) → Owns own S → handling S clock f ≡ receivedBy S clock f r
   pub got : Got f r
 
 -- and with the clock and the buffers that are lent
@@ -169,7 +185,7 @@ Lent clock room besideRoom (R.Refused n) = Unit {0}
 Lent clock room besideRoom (R.Trill h) = (length clock ≡ 6) × (2048 ≤ room) × (576 ≤ besideRoom)
 
 pub record Receiving (own : Own) (clock f : List ℕ) (room besideRoom : ℕ) (r : Received) : Type 0 where
-  pub same : (S : Ways) → own ≡ ownOf S → handledWith S clock room besideRoom f ≡ receivedBy S clock f r
+  pub same : (S : Ways) → Owns own S → handledWith S clock room besideRoom f ≡ receivedBy S clock f r
   pub got : Got f r
   pub lent : Lent clock room besideRoom r
 
@@ -179,14 +195,10 @@ pub record Both (a : A.Handled) (r : Answer) (out out′ beside beside′ : List
   pub after : out′ ≡ put out 0 (a .octets)
   pub after-beside : beside′ ≡ put beside 0 (a .beside)
 
--- what is replied to an alert makes of the answer without it, at every switch, the one with it
-pub record FaultAnswered (B : Ways) (f : List ℕ) (h : Header) (code : ℕ) (a r : Answer) (out out′ : List ℕ) : Type 0 where
-  pub over : (T : Ways) (clock before : List ℕ) → Done (transitQuiet T f h (AlertFault code)) a before out
-      → Done (transitBy T B clock f h (AlertFault code)) r before out′
+-- what is replied to an alert makes of the answer without it the one with it
+pub record Replies (S : Ways) (clock f : List ℕ) (h : Header) (alert : Alert) (a r : Answer) (out out′ beside beside′ : List ℕ) : Type 0 where
+  pub over : (before : List ℕ) → Done (transitQuiet S f h alert) a before out → Both (transitAt S clock f h alert) r before out′ beside beside′
 
-pub record EchoAnswered (B : Ways) (clock f : List ℕ) (h : Header) (a r : Answer) (beside beside′ : List ℕ) : Type 0 where
-  pub over : (T : Ways) (before out : List ℕ) → Done (transitQuiet T f h AlertRequest) a before out
-      → Both (transitBy T B clock f h AlertRequest) r before out beside beside′
-
-pub record AlertAnswered (B : Ways) (clock f : List ℕ) (h : Header) (alert : Alert) (a r : Answer) (out out′ beside beside′ : List ℕ) : Type 0 where
-  pub over : (T : Ways) (before : List ℕ) → Done (transitQuiet T f h alert) a before out → Both (transitBy T B clock f h alert) r before out′ beside beside′
+-- by what is looked up for the ingress, at every switch of which that says what it does
+pub record RepliesBy (B : Ways) (clock f : List ℕ) (h : Header) (alert : Alert) (a r : Answer) (out out′ beside beside′ : List ℕ) : Type 0 where
+  pub at-switch : (S : Ways) → messaged S clock f h ≡ messaged B clock f h → Replies S clock f h alert a r out out′ beside beside′

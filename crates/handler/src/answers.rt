@@ -70,21 +70,17 @@ pub fn replied(refusal: u8, number: u8, written: usize, neighbour: u16) -> Answe
     wrote(number, written, neighbour)
 }
 
-// With a reply of so many octets beside it.
-pub fn with_beside(a: Answer, written: usize, neighbour: u16) -> Answer
-    requires { ⌜ written ≤ 2048 ⌝ }
-    ensures { λ r. ⌜ r ≡ besideBy a written neighbour ⌝ }
+// With a reply beside it.
+pub fn with_beside(a: Answer, reply: Answer) -> Answer
+    ensures { λ r. ⌜ r ≡ besideBy a reply ⌝ }
 {
-    if written == 0 {
-        return a;
-    }
     Answer {
         number: a.number,
         written: a.written,
         start: a.start,
         length: a.length,
         neighbour: a.neighbour,
-        beside: written as u16,
-        beside_neighbour: neighbour,
+        beside: reply.written,
+        beside_neighbour: reply.neighbour,
     }
 }

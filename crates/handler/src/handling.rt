@@ -19,19 +19,17 @@ use rules::Header;
 use rules::NextHop;
 use rules::Ruling;
 ghost use mathlib.Core.Path.{_≡_};
-ghost use mathlib.Core.Bool.{false, not, _&&_};
 ghost use mathlib.Core.List.{[]};
 ghost use Prim.Native.Nat.{_≤_};
 ghost use lib.ListN.{length};
-ghost use lib.Dec.{leb};
-ghost use Rattle.rules.specs.Header.{opLength, readFrame, areaOf, innerOf};
-ghost use Rattle.rules.specs.Options.{WellFormed, draftRead, stripped};
+ghost use Rattle.rules.specs.Header.{opLength, readFrame, areaOf};
+ghost use Rattle.rules.specs.Options.{WellFormed};
 ghost use Rattle.rules.specs.Extension.{areaSent};
-ghost use Rattle.rules.specs.Channel.{bodyOf, channelRead};
 ghost use Rattle.rules.specs.Handling as Rules;
 ghost use Rattle.rules.specs.declared.FrameRead.the-variants.{Trill};
-ghost use Rattle.handler.specs.Shapes.{Ready, Replied, Done, waysBy};
-ghost use Rattle.handler.specs.Tasks.{ReadBy, stopsBy, alertBy, alertRefusal, wantedBy, askedBy, asksBack, transitQuiet, EchoIn, FaultAnswered, EchoAnswered, AlertAnswered, Forwardable, Comes, Routes, Receives, Receiving};
+ghost use Rattle.rules.specs.declared.Alert.the-variants.{NoAlert};
+ghost use Rattle.handler.specs.Shapes.{AreaWords, Ready, Replied, Sends, Done, waysBy};
+ghost use Rattle.handler.specs.Tasks.{areaReadBy, ReadBy, stopsBy, alertBy, alertRefusal, wantedBy, askedBy, asksBack, transitQuiet, messaged, EchoIn, Comes, RoutesRead, Routes, Receives, Receiving};
 
 // A frame as received: the number that drops it, or a TRILL frame of which none of 10 to 18 is given.
 pub enum Received {
@@ -39,9 +37,9 @@ pub enum Received {
     Trill(Header),
 }
 
-// An answer with nothing written, or what a next hop is asked for: that of the egress to forward, that of the ingress to reply. Numbers, no
-// `Answer`: beside fields of 8 bits its fields of 16 would be kept in memory.
-pub enum Task {
+// What a frame comes to that is not forwarded: an answer with nothing written, or a channel message to answer. Numbers, no `Answer`: beside
+// fields of 8 bits its fields of 16 would be kept in memory.
+pub enum Local {
     Dropped {
         number: u8,
     },
@@ -50,27 +48,13 @@ pub enum Task {
         start: usize,
         length: usize,
     },
-    Forward(Alert),
-    Error {
-        code: u8,
-    },
-    Echo,
+    Message,
 }
 
-fn channelled(f: &[u8], h: Header) -> Task
-    requires { ⌜ Ready (now f) h ⌝ }
-    ensures { λ r. ⌜ Comes (now (f .entry)) h (λ S clock. Rules.channelled S clock (now (f .entry)) h (channelRead (innerOf (now (f .entry)) h))) r ⌝ }
-{
-    let start = header::inner_start(h);
-    let read = channel::channel_read(&f[start..]);
-    match read {
-        ChannelRead::Fault { code } => Task::Error { code: code },
-        ChannelRead::BadErr => Task::Dropped { number: 26 },
-        ChannelRead::ErrorHeard => Task::Dropped { number: 55 },
-        ChannelRead::BadEcho => Task::Dropped { number: 27 },
-        ChannelRead::EchoHeard => Task::Dropped { number: 56 },
-        ChannelRead::EchoRequest => Task::Echo,
-    }
+// That, or a frame to forward: its alert, and how many octets are sent of its area.
+pub enum Task {
+    Ended(Local),
+    Forward { alert: Alert, size: usize },
 }
 
 // What is wrong with the inner frame's tag.
@@ -90,48 +74,49 @@ fn untagged(inner: &[u8]) -> bool
 fn to_all_egress(inner: &[u8]) -> bool
     ensures { λ r. ⌜ r ≡ Rules.toAllEgressRBridges (now (inner .entry)) ⌝ }
 {
-    header::to_mac(rules::ALL_EGRESS_RBRIDGES, inner)
+    header::to_mac(rules::ALL_EGRESS_RBRIDGES << 16, inner)
 }
 
-// 22 to 24 and 51 to 56.
-fn decapsulated(f: &[u8], h: Header) -> Task
+// 22 to 24, 51 and 52, or a channel message.
+pub fn decapsulated(f: &[u8], h: Header) -> Local
     requires { ⌜ Ready (now f) h ⌝ }
-    ensures { λ r. ⌜ Comes (now (f .entry)) h (λ S clock. Rules.decapsulated S clock (now (f .entry)) h) r ⌝ }
+    ensures { λ r. ⌜ Comes (now (f .entry)) h r ⌝ }
 {
     let start = header::inner_start(h);
     let inner = &f[start..];
     if inner.len() < 18 {
-        return Task::Dropped { number: 22 };
+        return Local::Dropped { number: 22 };
     }
     if untagged(inner) {
-        return Task::Dropped { number: 23 };
+        return Local::Dropped { number: 23 };
     }
     if !to_all_egress(inner) {
         if h.egress == rules::ANY_RBRIDGE {
-            return Task::Dropped { number: 24 };
+            return Local::Dropped { number: 24 };
         }
-        return Task::Answered {
+        return Local::Answered {
             number: 51,
             start: start,
             length: inner.len(),
         };
     }
     if octets::be16(inner, 16) == rules::ETHERTYPE_IS_IS {
-        return Task::Answered {
+        return Local::Answered {
             number: 52,
             start: start,
             length: inner.len(),
         };
     }
-    channelled(f, h)
+    Local::Message
 }
 
-// The area by the edition: its first fault.
-fn read_area(rfc7179: bool, area: &[u8]) -> AreaRead
-    ensures { λ r. ⌜ ReadBy rfc7179 (now (area .entry)) r ⌝ }
+// The area by the edition: its first fault. What is sent of it is put into `kept`.
+fn read_area(rfc7179: bool, strip: bool, area: &[u8], kept: &mut [u8; 124]) -> AreaRead
+    requires { ⌜ AreaWords (now area) ⌝ }
+    ensures { λ r. ⌜ ReadBy rfc7179 strip (now (area .entry)) (now (kept .exit)) r ⌝ }
 {
     if !rfc7179 {
-        return options::read_area(area);
+        return options::read_area(area, strip, kept);
     }
     if extension::refused(octets::be32(area, 0), area.len() == 4) {
         return AreaRead::Faulty {
@@ -139,7 +124,7 @@ fn read_area(rfc7179: bool, area: &[u8]) -> AreaRead
             place: 0,
         };
     }
-    AreaRead::Read(options::START)
+    options::keep_all(area, kept)
 }
 
 // 20, by the edition.
@@ -218,30 +203,49 @@ fn alert_of(rfc7179: bool, area: &[u8], inner: &[u8]) -> Alert
     )
 }
 
-// 30 to 35 or 38, and 20, then by our role.
-pub fn route(nickname: u16, rfc7179: bool, f: &[u8], h: Header) -> Task
+// 20, then by our role, once the area is read; `size` octets are sent of it.
+fn route_read(nickname: u16, rfc7179: bool, area: &[u8], size: usize, f: &[u8], h: Header) -> Task
+    requires { ⌜ Ready (now f) h × (now area ≡ areaOf (now f) h) × (areaReadBy rfc7179 (now area) ≡ WellFormed) ⌝ }
+    ensures { λ r. ⌜ RoutesRead nickname rfc7179 size (now (f .entry)) h r ⌝ }
+{
+    let egress = header::we_are_egress(nickname, h);
+    if area_stops(rfc7179, egress, area) {
+        return Task::Ended(Local::Dropped { number: 20 });
+    }
+    if egress {
+        return Task::Ended(decapsulated(f, h));
+    }
+    let inner = header::inner_start(h);
+    Task::Forward {
+        alert: alert_of(rfc7179, area, &f[inner..]),
+        size: size,
+    }
+}
+
+// 30 to 35 or 38 of a frame with an area, then the rest. What is sent of the area is put into `kept`.
+pub fn route(
+    nickname: u16,
+    rfc7179: bool,
+    strip: bool,
+    f: &[u8],
+    h: Header,
+    kept: &mut [u8; 124],
+) -> Task
     requires { ⌜ Ready (now f) h ⌝ }
-    ensures { λ r. ⌜ Routes nickname rfc7179 (now (f .entry)) h r ⌝ }
+    ensures { λ r. ⌜ Routes nickname rfc7179 strip (now (f .entry)) h (now (kept .exit)) r ⌝ }
 {
     let start = h.place + 6;
     let inner = header::inner_start(h);
     let area = &f[start..inner];
-    let read = read_area(rfc7179, area);
-    if let AreaRead::Faulty { number, place } = read {
-        return Task::Answered {
+    let read = read_area(rfc7179, strip, area, kept);
+    match read {
+        AreaRead::Faulty { number, place } => Task::Ended(Local::Answered {
             number: number,
             start: place,
             length: 0,
-        };
+        }),
+        AreaRead::Read(c) => route_read(nickname, rfc7179, area, c.to, f, h),
     }
-    let egress = header::we_are_egress(nickname, h);
-    if area_stops(rfc7179, egress, area) {
-        return Task::Dropped { number: 20 };
-    }
-    if egress {
-        return decapsulated(f, h);
-    }
-    Task::Forward(alert_of(rfc7179, area, &f[inner..]))
 }
 
 // 12 to 18.
@@ -249,7 +253,7 @@ fn passed(own: Own, f: &[u8], h: Header) -> Received
     requires { ⌜ (readFrame (now f) ≡ Trill h) × (length (now f) ≤ 2048) ⌝ }
     ensures { λ r. ⌜ Receives own (now (f .entry)) r ⌝ }
 {
-    let Refusal::Refused(n) = header::header_refusal(own.mac, f, h) else {
+    let Refusal::Refused(n) = header::header_refusal(own.word, f, h) else {
         return Received::Trill(h);
     };
     Received::Refused(n)
@@ -330,9 +334,9 @@ fn alert_refusal(alert: Alert) -> Refusal
     }
 }
 
-// 21, 25 and 26, 29 and 50, without what is replied to an alert.
-pub fn transit(t: Lookup, f: &[u8], h: Header, alert: Alert, out: &mut [u8]) -> Answer
-    requires { ⌜ Forwardable (t .rfc7179) (now f) h alert × (2048 ≤ length (now out)) ⌝ }
+// 21, 25 and 26, 29 and 50, with `area` as it is sent and without what is replied to an alert.
+pub fn transit(t: Lookup, f: &[u8], h: Header, alert: Alert, area: &[u8], out: &mut [u8]) -> Answer
+    requires { ⌜ Sends (waysBy t) (now f) h (now area) × Ready (now f) h × (2048 ≤ length (now out)) ⌝ }
     ensures { λ r. ⌜ Done (transitQuiet (waysBy t) (now (f .entry)) h alert) r (now (out .entry)) (now (out .exit)) ⌝ }
 {
     let hop = t.hop;
@@ -341,18 +345,19 @@ pub fn transit(t: Lookup, f: &[u8], h: Header, alert: Alert, out: &mut [u8]) -> 
     };
     match alert_refusal(alert) {
         Refusal::Refused(n) => answers::dropped(n),
-        Refusal::Passed => send(t, r, f, h, out),
+        Refusal::Passed => send_with(t, r, area, f, h, out),
     }
 }
 
-// 29 and 50.
-fn send(t: Lookup, r: NextHop, f: &[u8], h: Header, out: &mut [u8]) -> Answer
-    requires { ⌜ (t .rfc7179 ≡ false → draftRead (areaOf (now f) h) ≡ WellFormed) × Ready (now f) h × (2048 ≤ length (now out)) ⌝ }
-    ensures { λ a. ⌜ Done (Rules.onward (waysBy t) r (now (f .entry)) h [] 0) a (now (out .entry)) (now (out .exit)) ⌝ }
+// 21, 29 and 50 of a frame without an area.
+pub fn forward(t: Lookup, f: &[u8], h: Header, out: &mut [u8]) -> Answer
+    requires { ⌜ (opLength (h .word) ≡ 0) × Ready (now f) h × (2048 ≤ length (now out)) ⌝ }
+    ensures { λ r. ⌜ Done (transitQuiet (waysBy t) (now (f .entry)) h NoAlert) r (now (out .entry)) (now (out .exit)) ⌝ }
 {
-    if strips(t, h) {
-        return send_stripped(t, r, f, h, out);
-    }
+    let hop = t.hop;
+    let Ruling::Found(r) = hop else {
+        return answers::dropped(21);
+    };
     send_whole(t, r, f, h, out)
 }
 
@@ -372,7 +377,7 @@ fn send_whole(t: Lookup, r: NextHop, f: &[u8], h: Header, out: &mut [u8]) -> Ans
 
 // The same with another area than the one received.
 fn send_with(t: Lookup, r: NextHop, area: &[u8], f: &[u8], h: Header, out: &mut [u8]) -> Answer
-    requires { ⌜ (areaSent (waysBy t) (areaOf (now f) h) ≡ now area) × (length (now area) ≤ 124) × Ready (now f) h × (2048 ≤ length (now out)) ⌝ }
+    requires { ⌜ Sends (waysBy t) (now f) h (now area) × Ready (now f) h × (2048 ≤ length (now out)) ⌝ }
     ensures { λ a. ⌜ Done (Rules.onward (waysBy t) r (now (f .entry)) h [] 0) a (now (out .entry)) (now (out .exit)) ⌝ }
 {
     let inner = header::inner_start(h);
@@ -383,32 +388,6 @@ fn send_with(t: Lookup, r: NextHop, area: &[u8], f: &[u8], h: Header, out: &mut 
     let at = way::write_link(t, r, out);
     let end = forward::forward_with(area, f, h, out, at);
     answers::wrote(50, end, r.neighbour)
-}
-
-// Stripped aside: 29 looks at how long the frame is then, and writes nothing.
-fn send_stripped(t: Lookup, r: NextHop, f: &[u8], h: Header, out: &mut [u8]) -> Answer
-    requires { ⌜ (areaSent (waysBy t) (areaOf (now f) h) ≡ stripped (areaOf (now f) h)) × (4 ≤ length (areaOf (now f) h))
-        × (draftRead (areaOf (now f) h) ≡ WellFormed) × Ready (now f) h × (2048 ≤ length (now out)) ⌝ }
-    ensures { λ a. ⌜ Done (Rules.onward (waysBy t) r (now (f .entry)) h [] 0) a (now (out .entry)) (now (out .exit)) ⌝ }
-{
-    let mut kept = [0u8; 124];
-    let start = h.place + 6;
-    let inner = header::inner_start(h);
-    let n = options::strip_area(&f[start..inner], &mut kept, 0);
-    send_with(t, r, &kept[..n], f, h, out)
-}
-
-// Whether anything can be stripped: in edition 1, where the area has an option.
-fn strips(t: Lookup, h: Header) -> bool
-    ensures { λ r. ⌜ r ≡ (leb 2 (opLength (h .word)) && (t .strip && not (t .rfc7179))) ⌝ }
-{
-    if header::op_length(h.word) < 2 {
-        return false;
-    }
-    if t.rfc7179 {
-        return false;
-    }
-    t.strip
 }
 
 // The reply of 53 and how long it is, 0 for 25.
@@ -445,7 +424,7 @@ fn echoed(t: Lookup, clock: &[u8], f: &[u8], h: Header, out: &mut [u8]) -> usize
 }
 
 // 53, or 25.
-pub fn error_answer(t: Lookup, f: &[u8], h: Header, code: u8, out: &mut [u8]) -> Answer
+fn error_answer(t: Lookup, f: &[u8], h: Header, code: u8, out: &mut [u8]) -> Answer
     requires { ⌜ Ready (now f) h × (576 ≤ length (now out)) ⌝ }
     ensures { λ r. ⌜ Done (Rules.faulted (waysBy t) (now (f .entry)) h code) r (now (out .entry)) (now (out .exit)) ⌝ }
 {
@@ -454,7 +433,7 @@ pub fn error_answer(t: Lookup, f: &[u8], h: Header, code: u8, out: &mut [u8]) ->
 }
 
 // 54, or 28.
-pub fn echo_answer(t: Lookup, clock: &[u8], f: &[u8], h: Header, out: &mut [u8]) -> Answer
+fn echo_answer(t: Lookup, clock: &[u8], f: &[u8], h: Header, out: &mut [u8]) -> Answer
     requires { ⌜ EchoIn (now f) h × (length (now clock) ≡ 6) × Ready (now f) h × (576 ≤ length (now out)) ⌝ }
     ensures { λ r. ⌜ Done (Rules.echoed (waysBy t) (now (clock .entry)) (now (f .entry)) h) r (now (out .entry)) (now (out .exit)) ⌝ }
 {
@@ -462,48 +441,19 @@ pub fn echo_answer(t: Lookup, clock: &[u8], f: &[u8], h: Header, out: &mut [u8])
     answers::replied(28, 54, n, way::neighbour(t))
 }
 
-// 53 or 25 in place of 50, once there is a next hop; `b` is looked up for the ingress.
-fn answer_fault(a: Answer, b: Lookup, f: &[u8], h: Header, code: u8, out: &mut [u8]) -> Answer
-    requires { ⌜ Ready (now f) h × (576 ≤ length (now out)) ⌝ }
-    ensures { λ r. ⌜ FaultAnswered (waysBy b) (now (f .entry)) h code a r (now (out .entry)) (now (out .exit)) ⌝ }
+// 25 to 28 and 53 to 56: a channel message to us, or one that an alert has us answer.
+pub fn message(t: Lookup, clock: &[u8], f: &[u8], h: Header, out: &mut [u8]) -> Answer
+    requires { ⌜ Ready (now f) h × (length (now clock) ≡ 6) × (576 ≤ length (now out)) ⌝ }
+    ensures { λ r. ⌜ Done (messaged (waysBy t) (now (clock .entry)) (now (f .entry)) h) r (now (out .entry)) (now (out .exit)) ⌝ }
 {
-    if a.number == 21 {
-        return a;
-    }
-    let n = faulted(b, f, h, code, out);
-    answers::replied(25, 53, n, way::neighbour(b))
-}
-
-// An echo reply beside 50.
-fn answer_echo(a: Answer, b: Lookup, clock: &[u8], f: &[u8], h: Header, beside: &mut [u8]) -> Answer
-    requires { ⌜ EchoIn (now f) h × (length (now clock) ≡ 6) × Ready (now f) h × (576 ≤ length (now beside)) ⌝ }
-    ensures { λ r. ⌜ EchoAnswered (waysBy b) (now (clock .entry)) (now (f .entry)) h a r (now (beside .entry)) (now (beside .exit)) ⌝ }
-{
-    if a.number != 50 {
-        return a;
-    }
-    let n = echoed(b, clock, f, h, beside);
-    answers::with_beside(a, n, way::neighbour(b))
-}
-
-// What is replied to an alert, once all else is done; `b` is looked up for the ingress.
-pub fn answer_alert(
-    a: Answer,
-    b: Lookup,
-    clock: &[u8],
-    f: &[u8],
-    h: Header,
-    alert: Alert,
-    out: &mut [u8],
-    beside: &mut [u8],
-) -> Answer
-    requires { ⌜ Forwardable (b .rfc7179) (now f) h alert × (length (now clock) ≡ 6) × (2048 ≤ length (now out)) × (576 ≤ length (now beside)) ⌝ }
-    ensures { λ r. ⌜ AlertAnswered (waysBy b) (now (clock .entry)) (now (f .entry)) h alert a r (now (out .entry)) (now (out .exit)) (now (beside .entry)) (now (beside .exit)) ⌝ }
-{
-    match alert {
-        Alert::NoAlert => a,
-        Alert::AlertFault { code } => answer_fault(a, b, f, h, code, out),
-        Alert::AlertErr => a,
-        Alert::AlertRequest => answer_echo(a, b, clock, f, h, beside),
+    let start = header::inner_start(h);
+    let read = channel::channel_read(&f[start..]);
+    match read {
+        ChannelRead::Fault { code } => error_answer(t, f, h, code, out),
+        ChannelRead::BadErr => answers::dropped(26),
+        ChannelRead::ErrorHeard => answers::dropped(55),
+        ChannelRead::BadEcho => answers::dropped(27),
+        ChannelRead::EchoHeard => answers::dropped(56),
+        ChannelRead::EchoRequest => echo_answer(t, clock, f, h, out),
     }
 }

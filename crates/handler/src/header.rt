@@ -2,7 +2,7 @@
 use crate::answers::Refusal;
 use rules::Header;
 ghost use mathlib.Core.Path.{_≡_};
-ghost use Prim.Native.Nat.{_+_, _<_, _≤_};
+ghost use Prim.Native.Nat.{_+_, _/_, _<_, _≤_};
 ghost use lib.Dec.{eqb};
 ghost use Rattle.rules.specs.Octets.{be48};
 ghost use Rattle.rules.specs.Header as Rules;
@@ -53,22 +53,19 @@ pub fn inner_start(h: Header) -> usize
     h.place + 6 + 4 * op_length(h.word) as usize
 }
 
-// Whether a frame is to a MAC. Its first 16 bits and its last 32 are compared, which are two loads; all 48 as one number take a load an octet.
-pub fn to_mac(mac: u64, f: &[u8]) -> bool
-    ensures { λ r. ⌜ r ≡ eqb (be48 (now (f .entry)) 0) mac ⌝ }
+// Whether a frame is to the MAC that a number has above 16 bits more.
+pub fn to_mac(word: u64, f: &[u8]) -> bool
+    ensures { λ r. ⌜ r ≡ eqb (be48 (now (f .entry)) 0) (word / 65536) ⌝ }
 {
-    if octets::be16(f, 0) as u64 != mac >> 32 {
-        return false;
-    }
-    octets::be32(f, 2) as u64 == mac & 0xFFFFFFFF
+    octets::be64(f, 0) >> 16 == word >> 16
 }
 
 // 12 to 18, if one of them is given.
-pub fn header_refusal(mac: u64, f: &[u8], h: Header) -> Refusal
+pub fn header_refusal(word: u64, f: &[u8], h: Header) -> Refusal
     requires { ⌜ h .place ≤ 18 ⌝ }
-    ensures { λ r. ⌜ r ≡ refusalBy (Rules.headerRefusal mac (now (f .entry)) h) ⌝ }
+    ensures { λ r. ⌜ r ≡ refusalBy (Rules.headerRefusal (word / 65536) (now (f .entry)) h) ⌝ }
 {
-    if !to_mac(mac, f) {
+    if !to_mac(word, f) {
         return Refusal::Refused(12);
     }
     if version(h.word) != 0 {

@@ -13,6 +13,7 @@ mod treatment;
 mod validation;
 mod way;
 
+use crate::handling::Local;
 use crate::handling::Received;
 use crate::handling::Task;
 use crate::validation::Validated;
@@ -22,18 +23,19 @@ use rules::Alert;
 use rules::Header;
 pub use way::WayOut;
 ghost use mathlib.Core.Path.{_≡_};
+ghost use mathlib.Core.Bool.{true};
 ghost use Prim.Native.Nat.{_≤_};
 ghost use lib.ListN.{length};
 ghost use Rattle.rules.specs.WayOut.{wayOut};
-ghost use mathlib.Core.Bool.{true};
 ghost use Rattle.rules.specs.Settings.{settingsOf, settingsRead, waysOf};
 ghost use Rattle.rules.specs.Campus.{known};
-ghost use Rattle.rules.specs.Handling.{faulted, echoed, routed, handled};
+ghost use Rattle.rules.specs.Header.{opLength};
+ghost use Rattle.rules.specs.Handling.{routed, handled};
 ghost use Rattle.stores.specs.Store.{handledIn, wayOutIn, waysIn, Whole};
-ghost use Rattle.handler.specs.Shapes.{ownOf, waysBy, Ready, Done, WayDone};
-ghost use Rattle.handler.specs.Tasks.{EchoIn, Forwardable, wantedBy, transitQuiet, transitAt, Both};
+ghost use Rattle.handler.specs.Shapes.{Owns, waysBy, Ready, Sends, Done, WayDone};
+ghost use Rattle.handler.specs.Tasks.{wantedBy, asksBack, transitQuiet, transitAt, messaged, localAt, Ends, Forwardable, Replies, RepliesBy, Both};
 ghost use Rattle.handler.specs.Keys.{lookupBy};
-ghost use Rattle.handler.specs.Calls.{LookupOf, Replies};
+ghost use Rattle.handler.specs.Calls.{LookupOf};
 
 #[no_mangle]
 pub extern "C" fn trill_handle(
@@ -57,7 +59,8 @@ pub extern "C" fn trill_handle(
     }
 }
 
-// A frame of which none of 10 to 18 is given, by what was looked up in good settings.
+// A frame of which none of 10 to 18 is given, by what was looked up in good settings. A function that is called twice stays one of its own, so
+// what it keeps does not take up the registers of a frame without an area.
 fn handle_by(
     settings: &[u8],
     own: Own,
@@ -71,55 +74,103 @@ fn handle_by(
     requires { ⌜ LookupOf (now settings) (wantedBy (own .nickname) h) (lookupBy own j) × Ready (now frame) h × (length (now clock) ≡ 6) × (2048 ≤ length (now out)) × (576 ≤ length (now beside)) ⌝ }
     ensures { λ r. ⌜ Both (routed (waysOf (settingsRead (now (settings .entry)))) (now (clock .entry)) (now (frame .entry)) h) r (now (out .entry)) (now (out .exit)) (now (beside .entry)) (now (beside .exit)) ⌝ }
 {
-    let task = handling::route(own.nickname, j.rfc7179, frame, h);
-    match task {
-        Task::Dropped { number } => answers::dropped(number),
-        Task::Answered {
+    if header::op_length(h.word) == 0 {
+        return plain_by(own, j, clock, frame, h, out);
+    }
+    if j.rfc7179 {
+        return area_by(settings, own, j, true, clock, frame, h, out, beside);
+    }
+    area_by(settings, own, j, false, clock, frame, h, out, beside)
+}
+
+// Without an area.
+fn plain_by(own: Own, j: Validated, clock: &[u8], frame: &[u8], h: Header, out: &mut [u8]) -> Answer
+    requires { ⌜ (opLength (h .word) ≡ 0) × Ready (now frame) h × (length (now clock) ≡ 6) × (2048 ≤ length (now out)) ⌝ }
+    ensures { λ r. ⌜ Done (routed (waysBy (lookupBy own j)) (now (clock .entry)) (now (frame .entry)) h) r (now (out .entry)) (now (out .exit)) ⌝ }
+{
+    if header::we_are_egress(own.nickname, h) {
+        let local = handling::decapsulated(frame, h);
+        return local_by(own, j, clock, frame, h, local, out);
+    }
+    let t = validation::lookup(own, j);
+    handling::forward(t, frame, h, out)
+}
+
+// A frame that is not forwarded.
+fn local_by(
+    own: Own,
+    j: Validated,
+    clock: &[u8],
+    frame: &[u8],
+    h: Header,
+    local: Local,
+    out: &mut [u8],
+) -> Answer
+    requires { ⌜ Ends local × Ready (now frame) h × (length (now clock) ≡ 6) × (2048 ≤ length (now out)) ⌝ }
+    ensures { λ r. ⌜ Done (localAt (waysBy (lookupBy own j)) (now (clock .entry)) (now (frame .entry)) h local) r (now (out .entry)) (now (out .exit)) ⌝ }
+{
+    match local {
+        Local::Dropped { number } => answers::dropped(number),
+        Local::Answered {
             number,
             start,
             length,
         } => answers::unwritten(number, start, length),
-        Task::Forward(alert) => forward_by(settings, own, j, clock, frame, h, alert, out, beside),
-        Task::Error { code } => error_by(own, j, frame, h, code, out),
-        Task::Echo => echo_by(own, j, clock, frame, h, out),
+        Local::Message => message_by(own, j, clock, frame, h, out),
     }
 }
 
-// 53, or 25.
-fn error_by(own: Own, j: Validated, frame: &[u8], h: Header, code: u8, out: &mut [u8]) -> Answer
-    requires { ⌜ Ready (now frame) h × (576 ≤ length (now out)) ⌝ }
-    ensures { λ r. ⌜ Done (faulted (waysBy (lookupBy own j)) (now (frame .entry)) h code) r (now (out .entry)) (now (out .exit)) ⌝ }
-{
-    let t = validation::lookup(own, j);
-    handling::error_answer(t, frame, h, code, out)
-}
-
-// 54, or 28.
-fn echo_by(own: Own, j: Validated, clock: &[u8], frame: &[u8], h: Header, out: &mut [u8]) -> Answer
-    requires { ⌜ EchoIn (now frame) h × (length (now clock) ≡ 6) × Ready (now frame) h × (576 ≤ length (now out)) ⌝ }
-    ensures { λ r. ⌜ Done (echoed (waysBy (lookupBy own j)) (now (clock .entry)) (now (frame .entry)) h) r (now (out .entry)) (now (out .exit)) ⌝ }
-{
-    let t = validation::lookup(own, j);
-    handling::echo_answer(t, clock, frame, h, out)
-}
-
-// Without what is replied to an alert.
-fn transit_by(
+// A channel message. As long as a reply can be the buffer's length is known when this is compiled.
+fn message_by(
     own: Own,
     j: Validated,
+    clock: &[u8],
     frame: &[u8],
     h: Header,
-    alert: Alert,
     out: &mut [u8],
 ) -> Answer
-    requires { ⌜ Forwardable (j .rfc7179) (now frame) h alert × (2048 ≤ length (now out)) ⌝ }
-    ensures { λ r. ⌜ Done (transitQuiet (waysBy (lookupBy own j)) (now (frame .entry)) h alert) r (now (out .entry)) (now (out .exit)) ⌝ }
+    requires { ⌜ Ready (now frame) h × (length (now clock) ≡ 6) × (576 ≤ length (now out)) ⌝ }
+    ensures { λ r. ⌜ Done (messaged (waysBy (lookupBy own j)) (now (clock .entry)) (now (frame .entry)) h) r (now (out .entry)) (now (out .exit)) ⌝ }
 {
     let t = validation::lookup(own, j);
-    handling::transit(t, frame, h, alert, out)
+    handling::message(t, clock, frame, h, &mut out[..576])
 }
 
-// A transit frame; an alert may ask for a reply too.
+// With an area.
+fn area_by(
+    settings: &[u8],
+    own: Own,
+    j: Validated,
+    rfc7179: bool,
+    clock: &[u8],
+    frame: &[u8],
+    h: Header,
+    out: &mut [u8],
+    beside: &mut [u8],
+) -> Answer
+    requires { ⌜ LookupOf (now settings) (wantedBy (own .nickname) h) (lookupBy own j) × (rfc7179 ≡ j .rfc7179) × Ready (now frame) h × (length (now clock) ≡ 6) × (2048 ≤ length (now out)) × (576 ≤ length (now beside)) ⌝ }
+    ensures { λ r. ⌜ Both (routed (waysOf (settingsRead (now (settings .entry)))) (now (clock .entry)) (now (frame .entry)) h) r (now (out .entry)) (now (out .exit)) (now (beside .entry)) (now (beside .exit)) ⌝ }
+{
+    let mut kept = [0u8; 124];
+    let task = handling::route(own.nickname, rfc7179, j.strip, frame, h, &mut kept);
+    match task {
+        Task::Ended(local) => local_by(own, j, clock, frame, h, local, out),
+        Task::Forward { alert, size } => forward_by(
+            settings,
+            own,
+            j,
+            clock,
+            frame,
+            h,
+            alert,
+            &kept[..size],
+            out,
+            beside,
+        ),
+    }
+}
+
+// A transit frame, with `area` as it is sent; an alert may ask for a reply too.
 fn forward_by(
     settings: &[u8],
     own: Own,
@@ -128,20 +179,35 @@ fn forward_by(
     frame: &[u8],
     h: Header,
     alert: Alert,
+    area: &[u8],
     out: &mut [u8],
     beside: &mut [u8],
 ) -> Answer
-    requires { ⌜ LookupOf (now settings) (h .egress) (lookupBy own j) × Forwardable (j .rfc7179) (now frame) h alert × (length (now clock) ≡ 6) × (2048 ≤ length (now out)) × (576 ≤ length (now beside)) ⌝ }
+    requires { ⌜ LookupOf (now settings) (h .egress) (lookupBy own j) × Sends (waysBy (lookupBy own j)) (now frame) h (now area) × Forwardable (now frame) h alert × (length (now clock) ≡ 6) × (2048 ≤ length (now out)) × (576 ≤ length (now beside)) ⌝ }
     ensures { λ r. ⌜ Both (transitAt (waysOf (settingsRead (now (settings .entry)))) (now (clock .entry)) (now (frame .entry)) h alert) r (now (out .entry)) (now (out .exit)) (now (beside .entry)) (now (beside .exit)) ⌝ }
 {
-    let a = transit_by(own, j, frame, h, alert, out);
-    if !handling::asks_back(alert) {
-        return a;
-    }
+    let a = transit_by(own, j, frame, h, alert, area, out);
     reply_by(settings, own, a, clock, frame, h, alert, out, beside)
 }
 
-// With what is replied to its alert.
+// Without what is replied to its alert.
+fn transit_by(
+    own: Own,
+    j: Validated,
+    frame: &[u8],
+    h: Header,
+    alert: Alert,
+    area: &[u8],
+    out: &mut [u8],
+) -> Answer
+    requires { ⌜ Sends (waysBy (lookupBy own j)) (now frame) h (now area) × Ready (now frame) h × (2048 ≤ length (now out)) ⌝ }
+    ensures { λ r. ⌜ Done (transitQuiet (waysBy (lookupBy own j)) (now (frame .entry)) h alert) r (now (out .entry)) (now (out .exit)) ⌝ }
+{
+    let t = validation::lookup(own, j);
+    handling::transit(t, frame, h, alert, area, out)
+}
+
+// With what is replied to its alert, if that asks for a reply: an error in place of 25, or an echo reply beside 50.
 fn reply_by(
     settings: &[u8],
     own: Own,
@@ -153,14 +219,39 @@ fn reply_by(
     out: &mut [u8],
     beside: &mut [u8],
 ) -> Answer
-    requires { ⌜ (known (settingsOf (now settings)) ≡ true) × (own ≡ ownOf (waysOf (settingsRead (now settings))))
-        × Forwardable (waysOf (settingsRead (now settings)) .rfc7179) (now frame) h alert × (length (now clock) ≡ 6) × (2048 ≤ length (now out)) × (576 ≤ length (now beside)) ⌝ }
-    ensures { λ r. ⌜ Replies (waysOf (settingsRead (now (settings .entry)))) (now (clock .entry)) (now (frame .entry)) h alert a r
-        (now (out .entry)) (now (out .exit)) (now (beside .entry)) (now (beside .exit)) ⌝ }
+    requires { ⌜ (known (settingsOf (now settings)) ≡ true) × Owns own (waysOf (settingsRead (now settings))) × Forwardable (now frame) h alert × (length (now clock) ≡ 6) × (2048 ≤ length (now out)) × (576 ≤ length (now beside)) ⌝ }
+    ensures { λ r. ⌜ Replies (waysOf (settingsRead (now (settings .entry)))) (now (clock .entry)) (now (frame .entry)) h alert a r (now (out .entry)) (now (out .exit)) (now (beside .entry)) (now (beside .exit)) ⌝ }
 {
+    if !handling::asks_back(alert) {
+        return a;
+    }
     let j = validation::validate(settings, h.ingress);
-    let b = validation::lookup(own, j);
-    handling::answer_alert(a, b, clock, frame, h, alert, out, beside)
+    answer_by(own, j, a, clock, frame, h, alert, out, beside)
+}
+
+// By what is looked up for the ingress.
+fn answer_by(
+    own: Own,
+    j: Validated,
+    a: Answer,
+    clock: &[u8],
+    frame: &[u8],
+    h: Header,
+    alert: Alert,
+    out: &mut [u8],
+    beside: &mut [u8],
+) -> Answer
+    requires { ⌜ (asksBack alert ≡ true) × Forwardable (now frame) h alert × (length (now clock) ≡ 6) × (2048 ≤ length (now out)) × (576 ≤ length (now beside)) ⌝ }
+    ensures { λ r. ⌜ RepliesBy (waysBy (lookupBy own j)) (now (clock .entry)) (now (frame .entry)) h alert a r (now (out .entry)) (now (out .exit)) (now (beside .entry)) (now (beside .exit)) ⌝ }
+{
+    if a.number == 25 {
+        return message_by(own, j, clock, frame, h, out);
+    }
+    if a.number != 50 {
+        return a;
+    }
+    let b = message_by(own, j, clock, frame, h, beside);
+    answers::with_beside(a, b)
 }
 
 // The handling of a frame by a store.
@@ -184,7 +275,7 @@ pub fn handle_prepared(
     }
 }
 
-// A frame of which none of 10 to 18 is given, by a good store.
+// A frame of which none of 10 to 18 is given, by a good store; as `handle_by`.
 fn handle_in(
     store: &[u64],
     own: Own,
@@ -194,44 +285,120 @@ fn handle_in(
     out: &mut [u8],
     beside: &mut [u8],
 ) -> Answer
-    requires { ⌜ Whole (now store) × (own ≡ ownOf (waysIn (now store))) × Ready (now frame) h × (length (now clock) ≡ 6) × (2048 ≤ length (now out)) × (576 ≤ length (now beside)) ⌝ }
+    requires { ⌜ Whole (now store) × Owns own (waysIn (now store)) × Ready (now frame) h × (length (now clock) ≡ 6) × (2048 ≤ length (now out)) × (576 ≤ length (now beside)) ⌝ }
     ensures { λ r. ⌜ Both (routed (waysIn (now (store .entry))) (now (clock .entry)) (now (frame .entry)) h) r (now (out .entry)) (now (out .exit)) (now (beside .entry)) (now (beside .exit)) ⌝ }
 {
-    let task = handling::route(own.nickname, store::rfc7179(store), frame, h);
-    match task {
-        Task::Dropped { number } => answers::dropped(number),
-        Task::Answered {
+    if header::op_length(h.word) == 0 {
+        return plain_in(store, own, clock, frame, h, out);
+    }
+    if store::rfc7179(store) {
+        return area_in(store, own, true, clock, frame, h, out, beside);
+    }
+    area_in(store, own, false, clock, frame, h, out, beside)
+}
+
+// Without an area.
+fn plain_in(
+    store: &[u64],
+    own: Own,
+    clock: &[u8],
+    frame: &[u8],
+    h: Header,
+    out: &mut [u8],
+) -> Answer
+    requires { ⌜ Whole (now store) × Owns own (waysIn (now store)) × (opLength (h .word) ≡ 0) × Ready (now frame) h × (length (now clock) ≡ 6) × (2048 ≤ length (now out)) ⌝ }
+    ensures { λ r. ⌜ Done (routed (waysIn (now (store .entry))) (now (clock .entry)) (now (frame .entry)) h) r (now (out .entry)) (now (out .exit)) ⌝ }
+{
+    if header::we_are_egress(own.nickname, h) {
+        let local = handling::decapsulated(frame, h);
+        return local_in(store, own, clock, frame, h, local, out);
+    }
+    let place = store::place_in(store, h.egress);
+    let t = store::lookup(store, own, h.egress, place);
+    handling::forward(t, frame, h, out)
+}
+
+// A frame that is not forwarded.
+fn local_in(
+    store: &[u64],
+    own: Own,
+    clock: &[u8],
+    frame: &[u8],
+    h: Header,
+    local: Local,
+    out: &mut [u8],
+) -> Answer
+    requires { ⌜ Whole (now store) × Owns own (waysIn (now store)) × Ends local × Ready (now frame) h × (length (now clock) ≡ 6) × (2048 ≤ length (now out)) ⌝ }
+    ensures { λ r. ⌜ Done (localAt (waysIn (now (store .entry))) (now (clock .entry)) (now (frame .entry)) h local) r (now (out .entry)) (now (out .exit)) ⌝ }
+{
+    match local {
+        Local::Dropped { number } => answers::dropped(number),
+        Local::Answered {
             number,
             start,
             length,
         } => answers::unwritten(number, start, length),
-        Task::Forward(alert) => forward_in(store, own, clock, frame, h, alert, out, beside),
-        Task::Error { code } => error_in(store, own, frame, h, code, out),
-        Task::Echo => echo_in(store, own, clock, frame, h, out),
+        Local::Message => message_in(store, own, clock, frame, h, out),
     }
 }
 
-// 53, or 25.
-fn error_in(store: &[u64], own: Own, frame: &[u8], h: Header, code: u8, out: &mut [u8]) -> Answer
-    requires { ⌜ Whole (now store) × (own ≡ ownOf (waysIn (now store))) × Ready (now frame) h × (576 ≤ length (now out)) ⌝ }
-    ensures { λ r. ⌜ Done (faulted (waysIn (now (store .entry))) (now (frame .entry)) h code) r (now (out .entry)) (now (out .exit)) ⌝ }
+// A channel message.
+fn message_in(
+    store: &[u64],
+    own: Own,
+    clock: &[u8],
+    frame: &[u8],
+    h: Header,
+    out: &mut [u8],
+) -> Answer
+    requires { ⌜ Whole (now store) × Owns own (waysIn (now store)) × Ready (now frame) h × (length (now clock) ≡ 6) × (576 ≤ length (now out)) ⌝ }
+    ensures { λ r. ⌜ Done (messaged (waysIn (now (store .entry))) (now (clock .entry)) (now (frame .entry)) h) r (now (out .entry)) (now (out .exit)) ⌝ }
 {
     let place = store::place_in(store, h.ingress);
     let t = store::lookup(store, own, h.ingress, place);
-    handling::error_answer(t, frame, h, code, out)
+    handling::message(t, clock, frame, h, &mut out[..576])
 }
 
-// 54, or 28.
-fn echo_in(store: &[u64], own: Own, clock: &[u8], frame: &[u8], h: Header, out: &mut [u8]) -> Answer
-    requires { ⌜ Whole (now store) × (own ≡ ownOf (waysIn (now store))) × EchoIn (now frame) h × (length (now clock) ≡ 6) × Ready (now frame) h × (576 ≤ length (now out)) ⌝ }
-    ensures { λ r. ⌜ Done (echoed (waysIn (now (store .entry))) (now (clock .entry)) (now (frame .entry)) h) r (now (out .entry)) (now (out .exit)) ⌝ }
+// With an area.
+fn area_in(
+    store: &[u64],
+    own: Own,
+    rfc7179: bool,
+    clock: &[u8],
+    frame: &[u8],
+    h: Header,
+    out: &mut [u8],
+    beside: &mut [u8],
+) -> Answer
+    requires { ⌜ Whole (now store) × Owns own (waysIn (now store)) × (rfc7179 ≡ waysIn (now store) .rfc7179) × Ready (now frame) h × (length (now clock) ≡ 6) × (2048 ≤ length (now out)) × (576 ≤ length (now beside)) ⌝ }
+    ensures { λ r. ⌜ Both (routed (waysIn (now (store .entry))) (now (clock .entry)) (now (frame .entry)) h) r (now (out .entry)) (now (out .exit)) (now (beside .entry)) (now (beside .exit)) ⌝ }
 {
-    let place = store::place_in(store, h.ingress);
-    let t = store::lookup(store, own, h.ingress, place);
-    handling::echo_answer(t, clock, frame, h, out)
+    let mut kept = [0u8; 124];
+    let task = handling::route(
+        own.nickname,
+        rfc7179,
+        store::strip(store),
+        frame,
+        h,
+        &mut kept,
+    );
+    match task {
+        Task::Ended(local) => local_in(store, own, clock, frame, h, local, out),
+        Task::Forward { alert, size } => forward_in(
+            store,
+            own,
+            clock,
+            frame,
+            h,
+            alert,
+            &kept[..size],
+            out,
+            beside,
+        ),
+    }
 }
 
-// A transit frame; an alert may ask for a reply too.
+// A transit frame, with `area` as it is sent; an alert may ask for a reply too.
 fn forward_in(
     store: &[u64],
     own: Own,
@@ -239,22 +406,36 @@ fn forward_in(
     frame: &[u8],
     h: Header,
     alert: Alert,
+    area: &[u8],
     out: &mut [u8],
     beside: &mut [u8],
 ) -> Answer
-    requires { ⌜ Whole (now store) × (own ≡ ownOf (waysIn (now store))) × Forwardable (waysIn (now store) .rfc7179) (now frame) h alert × (length (now clock) ≡ 6) × (2048 ≤ length (now out)) × (576 ≤ length (now beside)) ⌝ }
+    requires { ⌜ Whole (now store) × Owns own (waysIn (now store)) × Sends (waysIn (now store)) (now frame) h (now area) × Forwardable (now frame) h alert × (length (now clock) ≡ 6) × (2048 ≤ length (now out)) × (576 ≤ length (now beside)) ⌝ }
     ensures { λ r. ⌜ Both (transitAt (waysIn (now (store .entry))) (now (clock .entry)) (now (frame .entry)) h alert) r (now (out .entry)) (now (out .exit)) (now (beside .entry)) (now (beside .exit)) ⌝ }
 {
-    let place = store::place_in(store, h.egress);
-    let t = store::lookup(store, own, h.egress, place);
-    let a = handling::transit(t, frame, h, alert, out);
-    if !handling::asks_back(alert) {
-        return a;
-    }
+    let a = transit_in(store, own, frame, h, alert, area, out);
     reply_in(store, own, a, clock, frame, h, alert, out, beside)
 }
 
-// With what is replied to its alert.
+// Without what is replied to its alert.
+fn transit_in(
+    store: &[u64],
+    own: Own,
+    frame: &[u8],
+    h: Header,
+    alert: Alert,
+    area: &[u8],
+    out: &mut [u8],
+) -> Answer
+    requires { ⌜ Whole (now store) × Owns own (waysIn (now store)) × Sends (waysIn (now store)) (now frame) h (now area) × Ready (now frame) h × (2048 ≤ length (now out)) ⌝ }
+    ensures { λ r. ⌜ Done (transitQuiet (waysIn (now (store .entry))) (now (frame .entry)) h alert) r (now (out .entry)) (now (out .exit)) ⌝ }
+{
+    let place = store::place_in(store, h.egress);
+    let t = store::lookup(store, own, h.egress, place);
+    handling::transit(t, frame, h, alert, area, out)
+}
+
+// With what is replied to its alert, if that asks for a reply: an error in place of 25, or an echo reply beside 50.
 fn reply_in(
     store: &[u64],
     own: Own,
@@ -266,13 +447,37 @@ fn reply_in(
     out: &mut [u8],
     beside: &mut [u8],
 ) -> Answer
-    requires { ⌜ Whole (now store) × (own ≡ ownOf (waysIn (now store))) × Forwardable (waysIn (now store) .rfc7179) (now frame) h alert × (length (now clock) ≡ 6) × (2048 ≤ length (now out)) × (576 ≤ length (now beside)) ⌝ }
-    ensures { λ r. ⌜ Replies (waysIn (now (store .entry))) (now (clock .entry)) (now (frame .entry)) h alert a r
-        (now (out .entry)) (now (out .exit)) (now (beside .entry)) (now (beside .exit)) ⌝ }
+    requires { ⌜ Whole (now store) × Owns own (waysIn (now store)) × Forwardable (now frame) h alert × (length (now clock) ≡ 6) × (2048 ≤ length (now out)) × (576 ≤ length (now beside)) ⌝ }
+    ensures { λ r. ⌜ Replies (waysIn (now (store .entry))) (now (clock .entry)) (now (frame .entry)) h alert a r (now (out .entry)) (now (out .exit)) (now (beside .entry)) (now (beside .exit)) ⌝ }
 {
-    let place = store::place_in(store, h.ingress);
-    let b = store::lookup(store, own, h.ingress, place);
-    handling::answer_alert(a, b, clock, frame, h, alert, out, beside)
+    if !handling::asks_back(alert) {
+        return a;
+    }
+    answer_in(store, own, a, clock, frame, h, alert, out, beside)
+}
+
+fn answer_in(
+    store: &[u64],
+    own: Own,
+    a: Answer,
+    clock: &[u8],
+    frame: &[u8],
+    h: Header,
+    alert: Alert,
+    out: &mut [u8],
+    beside: &mut [u8],
+) -> Answer
+    requires { ⌜ Whole (now store) × Owns own (waysIn (now store)) × (asksBack alert ≡ true) × Forwardable (now frame) h alert × (length (now clock) ≡ 6) × (2048 ≤ length (now out)) × (576 ≤ length (now beside)) ⌝ }
+    ensures { λ r. ⌜ Replies (waysIn (now (store .entry))) (now (clock .entry)) (now (frame .entry)) h alert a r (now (out .entry)) (now (out .exit)) (now (beside .entry)) (now (beside .exit)) ⌝ }
+{
+    if a.number == 25 {
+        return message_in(store, own, clock, frame, h, out);
+    }
+    if a.number != 50 {
+        return a;
+    }
+    let b = message_in(store, own, clock, frame, h, beside);
+    answers::with_beside(a, b)
 }
 
 // T-11: the link header towards a destination; 1, 21 or 2 where there is none.

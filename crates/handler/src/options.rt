@@ -1,23 +1,22 @@
-// The options area (source document 001): one option, the walk over all, and the area without what is stripped.
+// The options area (source document 001): one option, and the walk over all, which puts aside what is sent of the area.
 use crate::treatment;
 ghost use mathlib.Core.Path.{_≡_};
-ghost use mathlib.Core.Bool.{false, _||_, _&&_, not};
+ghost use mathlib.Core.Bool.{_||_, _&&_, not};
 ghost use Prim.Native.Nat.{_+_, _%_, _<_, _≤_};
 ghost use lib.ListN.{length};
-ghost use Rattle.rules.specs.Octets.{put};
+ghost use Rattle.rules.specs.Octets.{if_then_else_, put};
 ghost use Rattle.rules.specs.Options as O;
-ghost use Rattle.rules.specs.Options.{WellFormed};
-ghost use Rattle.octets.specs.Copy.{Wrote};
-ghost use Rattle.handler.specs.Shapes.{readBy, foundBy, areaReadOf, walkOf, keptIf, keptFrom};
-ghost use Rattle.handler.specs.Treatment.{Treats, transitDiscards, egressDiscards};
+ghost use Rattle.handler.specs.Shapes.{AreaWords, Place, WholeOption, cursorBy, readBy, summarizedBy, AreaWalked, AreaKept, AllKept};
+ghost use Rattle.handler.specs.Treatment.{Treats};
 
 const LENGTH_RESERVED: u8 = 119;
 
-// How far an area is read: the next place, one more than the last key (0 before the first), and whether a critical option of each
-// kind was met.
+// How far an area is read: the next place, where what is kept ends, one more than the last key (0 before the first), and whether a critical
+// option of each kind was met. Wide numbers, as narrow ones would be packed anew at each option.
 pub struct Cursor {
     pub at: usize,
-    pub floor: u16,
+    pub to: usize,
+    pub floor: usize,
     pub hop: bool,
     pub egress: bool,
 }
@@ -25,6 +24,7 @@ pub struct Cursor {
 // The options begin behind the first word.
 pub const START: Cursor = Cursor {
     at: 4,
+    to: 4,
     floor: 0,
     hop: false,
     egress: false,
@@ -56,85 +56,91 @@ fn option_size(size: u8) -> usize
     (size as usize + 2 + 3) & 0xFC
 }
 
-// A critical hop-by-hop option was met, or is now.
-fn hop_met(seen: bool, entry: u8) -> bool
-    ensures { λ r. ⌜ r ≡ (seen || transitDiscards entry) ⌝ }
+// Where what is kept ends behind an option.
+fn kept_end(to: usize, size: usize, stripped: bool) -> usize
+    requires { ⌜ to + size ≤ 124 ⌝ }
+    ensures { λ r. ⌜ r ≡ (if stripped then to else to + size) ⌝ }
 {
-    if seen {
-        return true;
-    }
-    treatment::transit_discards(entry)
+    if stripped { to } else { to + size }
 }
 
-// The same of a critical ingress-to-egress option: the egress discards it and transit does not.
-fn egress_met(seen: bool, entry: u8) -> bool
-    ensures { λ r. ⌜ r ≡ (seen || (egressDiscards entry && not (transitDiscards entry))) ⌝ }
+// A critical option of a kind was met, or is now.
+fn met(seen: bool, now: bool) -> bool
+    ensures { λ r. ⌜ r ≡ (seen || now) ⌝ }
 {
-    if seen {
-        return true;
-    }
-    if treatment::transit_discards(entry) {
-        return false;
-    }
-    treatment::egress_discards(entry)
+    if seen { true } else { now }
 }
 
-// One option: the cursor behind it, or a fault.
-fn option_at(area: &[u8], table: &[u8; 512], c: Cursor) -> AreaRead
-    requires { ⌜ (c .at ≤ length (now area)) × Treats (now table) ⌝ }
-    ensures { λ r. ⌜ r ≡ readBy c (O.optionAt (now (area .entry)) (c .floor) (c .at)) ⌝ }
+// The cursor behind an option without a fault.
+fn behind(table: &[u8; 512], strip: bool, c: Cursor, key: u16, n: u8) -> Cursor
+    requires { ⌜ WholeOption c key n × Treats (now table) ⌝ }
+    ensures { λ r. ⌜ r ≡ cursorBy strip c key n (c .at + O.optionSize n) ⌝ }
+{
+    let entry = table[key as usize];
+    let size = option_size(n);
+    let stripped = treatment::is_stripped(strip, entry, key, n);
+    Cursor {
+        at: c.at + size,
+        to: kept_end(c.to, size, stripped),
+        floor: key as usize + 1,
+        hop: met(c.hop, treatment::transit_discards(entry)),
+        egress: met(c.egress, treatment::egress_alone_discards(entry)),
+    }
+}
+
+// One option: the cursor behind it, or a fault. An option of a reserved Length is past any area, and a key that is not above the one before is
+// below it or equal, so that one test finds 30 and 31, and one 32 and 33.
+fn option_at(area: &[u8], table: &[u8; 512], strip: bool, c: Cursor) -> AreaRead
+    requires { ⌜ Place (now area) c × (c .at < length (now area)) × Treats (now table) ⌝ }
+    ensures { λ r. ⌜ r ≡ readBy strip c (O.optionAt (now (area .entry)) (c .floor) (c .at)) ⌝ }
 {
     let at = c.at;
-    let w = octets::be16(area, at);
+    let w = octets::be16(&area[at..at + 4], 0);
     let n = length_of(w);
-    if LENGTH_RESERVED <= n {
-        return AreaRead::Faulty {
-            number: 30,
-            place: at,
-        };
-    }
-    let size = option_size(n);
-    if area.len() - at < size {
+    if area.len() - at < option_size(n) {
+        if LENGTH_RESERVED <= n {
+            return AreaRead::Faulty {
+                number: 30,
+                place: at,
+            };
+        }
         return AreaRead::Faulty {
             number: 31,
             place: at,
         };
     }
     let key = key_of(w);
-    if key + 1 < c.floor {
-        return AreaRead::Faulty {
-            number: 32,
-            place: at,
-        };
-    }
-    if key + 1 == c.floor {
+    let floor = key as usize + 1;
+    if floor <= c.floor {
+        if floor < c.floor {
+            return AreaRead::Faulty {
+                number: 32,
+                place: at,
+            };
+        }
         return AreaRead::Faulty {
             number: 33,
             place: at,
         };
     }
-    let entry = table[key as usize];
-    let hop = hop_met(c.hop, entry);
-    let egress = egress_met(c.egress, entry);
-    AreaRead::Read(Cursor {
-        at: at + size,
-        floor: key + 1,
-        hop: hop,
-        egress: egress,
-    })
+    AreaRead::Read(behind(table, strip, c, key, n))
 }
 
-// All options, or the first fault.
-fn walk_area(area: &[u8], table: &[u8; 512]) -> AreaRead
-    requires { ⌜ Treats (now table) ⌝ }
-    ensures { λ r. ⌜ foundBy r ≡ walkOf false false (O.optionsOf (now (area .entry))) ⌝ }
+// All options, or the first fault; those that are kept are written behind the first word.
+fn walk_area(area: &[u8], table: &[u8; 512], strip: bool, kept: &mut [u8; 124]) -> AreaRead
+    requires { ⌜ AreaWords (now area) × (4 < length (now area)) × (length (now kept) ≡ 124) × Treats (now table) ⌝ }
+    ensures { λ r. ⌜ AreaWalked strip (now (area .entry)) (now (kept .entry)) (now (kept .exit)) r ⌝ }
 {
     let mut c = START;
     while c.at < area.len() {
-        let read = option_at(area, table, c);
+        let read = option_at(area, table, strip, c);
         let AreaRead::Read(next) = read else {
             return read;
         };
+        let at = c.at;
+        // Where it began, if it is stripped.
+        let end = at + (next.to - c.to);
+        put_words(kept, c.to, &area[at..end]);
         c = next;
     }
     AreaRead::Read(c)
@@ -160,8 +166,7 @@ pub fn missing(needed: bool, there: bool) -> bool
 
 // 34 and 35, after all options.
 fn summarized(area: &[u8], read: AreaRead) -> AreaRead
-    requires { ⌜ foundBy read ≡ walkOf false false (O.optionsOf (now area)) ⌝ }
-    ensures { λ r. ⌜ areaReadOf r ≡ O.draftRead (now (area .entry)) ⌝ }
+    ensures { λ r. ⌜ r ≡ summarizedBy (now (area .entry)) read ⌝ }
 {
     let AreaRead::Read(end) = read else {
         return read;
@@ -181,15 +186,28 @@ fn summarized(area: &[u8], read: AreaRead) -> AreaRead
     read
 }
 
-// The whole area, or the first fault.
-pub fn read_area(area: &[u8]) -> AreaRead
-    ensures { λ r. ⌜ areaReadOf r ≡ O.draftRead (now (area .entry)) ⌝ }
+// The whole area, or the first fault. What is sent of it, which is all of it unless options are stripped, is put into `kept`.
+pub fn read_area(area: &[u8], strip: bool, kept: &mut [u8; 124]) -> AreaRead
+    requires { ⌜ AreaWords (now area) ⌝ }
+    ensures { λ r. ⌜ AreaKept strip (now (area .entry)) (now (kept .entry)) (now (kept .exit)) r ⌝ }
 {
     if area.len() <= 4 {
-        return AreaRead::Read(START);
+        return keep_all(area, kept);
     }
     let table = treatment::treatments();
-    summarized(area, walk_area(area, &table))
+    put_word(kept, 0, &area[..4]);
+    summarized(area, walk_area(area, &table, strip, kept))
+}
+
+// All of the area is sent.
+pub fn keep_all(area: &[u8], kept: &mut [u8; 124]) -> AreaRead
+    requires { ⌜ AreaWords (now area) ⌝ }
+    ensures { λ r. ⌜ AllKept (now (area .entry)) (now (kept .entry)) (now (kept .exit)) r ⌝ }
+{
+    put_words(kept, 0, area);
+    let mut c = START;
+    c.to = area.len();
+    AreaRead::Read(c)
 }
 
 // 20: "CHbH is 1, or CItE is 1 and we are the egress"
@@ -211,55 +229,14 @@ fn put_word(out: &mut [u8], at: usize, s: &[u8])
     octets::copy(out, at, &word);
 }
 
-// Writes whole words from `to` on and says where they end.
-fn put_words(out: &mut [u8], to: usize, s: &[u8]) -> usize
+// Writes whole words from `to` on.
+fn put_words(out: &mut [u8], to: usize, s: &[u8])
     requires { ⌜ (to + length (now s) ≤ length (now out)) × (length (now s) % 4 ≡ 0) ⌝ }
-    ensures { λ r. ⌜ Wrote (now (s .entry)) to r (now (out .entry)) (now (out .exit)) ⌝ }
+    ensures { λ _. ⌜ now (out .exit) ≡ put (now (out .entry)) to (now (s .entry)) ⌝ }
 {
     let mut i = 0;
     while i < s.len() {
         put_word(out, to + i, &s[i..i + 4]);
         i += 4;
     }
-    to + s.len()
-}
-
-// Writes an option from `to` on unless it is stripped, and says where the next one goes.
-fn keep(out: &mut [u8], to: usize, stripped: bool, option: &[u8]) -> usize
-    requires { ⌜ (to + length (now option) ≤ length (now out)) × (length (now option) % 4 ≡ 0) ⌝ }
-    ensures { λ r. ⌜ Wrote (keptIf stripped (now (option .entry))) to r (now (out .entry)) (now (out .exit)) ⌝ }
-{
-    if stripped {
-        return to;
-    }
-    put_words(out, to, option)
-}
-
-// Writes a well formed area of one word or more into `out` from `base` on, without what is stripped, and says where it ends.
-pub fn strip_area(area: &[u8], out: &mut [u8], base: usize) -> usize
-    requires { ⌜ (O.draftRead (now area) ≡ WellFormed) × (4 ≤ length (now area)) × (base + length (now area) ≤ length (now out)) ⌝ }
-    ensures { λ r. ⌜ Wrote (O.stripped (now (area .entry))) base r (now (out .entry)) (now (out .exit)) ⌝ }
-{
-    let from = octets::copy(out, base, &area[..4]);
-    let table = treatment::treatments();
-    strip_options(area, &table, out, from)
-}
-
-// The options alone, from `from` on; says where they end.
-fn strip_options(area: &[u8], table: &[u8; 512], out: &mut [u8], from: usize) -> usize
-    requires { ⌜ (O.draftRead (now area) ≡ WellFormed) × (4 ≤ length (now area)) × (from + length (now area) ≤ length (now out) + 4) × Treats (now table) ⌝ }
-    ensures { λ r. ⌜ Wrote (keptFrom (O.optionsOf (now (area .entry)))) from r (now (out .entry)) (now (out .exit)) ⌝ }
-{
-    let mut at = 4;
-    let mut to = from;
-    while at < area.len() {
-        let w = octets::be16(area, at);
-        let key = key_of(w);
-        let size = length_of(w);
-        let next = at + option_size(size);
-        let stripped = treatment::is_stripped(table[key as usize], key, size);
-        to = keep(out, to, stripped, &area[at..next]);
-        at = next;
-    }
-    to
 }

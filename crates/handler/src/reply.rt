@@ -10,32 +10,33 @@ ghost use mathlib.Core.List.{_++_};
 ghost use lib.ListN.{length};
 ghost use Rattle.rules.specs.Channel.{errorBody, echoBody, errorReply, echoReply};
 ghost use Rattle.octets.specs.Copy.{Wrote};
-ghost use Rattle.handler.specs.Shapes.{replyOctets, waysBy, Ready, Replied};
+ghost use Rattle.handler.specs.Shapes.{replyHead, replyChannel, replyOctets, waysBy, Ready, Replied};
 
-// From the first TRILL word to the flags and ERR word.
-fn reply_octets(own: Own, ingress: u16, protocol: u16, code: u8) -> [u8; 28]
-    ensures { λ r. ⌜ r ≡ replyOctets own ingress protocol code ⌝ }
+// Before our own MAC: the first TRILL word, the nicknames, All-Egress-RBridges.
+fn head_octets(nickname: u16, ingress: u16) -> [u8; 12]
+    ensures { λ r. ⌜ r ≡ replyHead nickname ingress ⌝ }
 {
-    let m = octets::six(own.mac);
     [
         0x00,
         0x3F,
         octets::high(ingress),
         octets::low(ingress),
-        octets::high(own.nickname),
-        octets::low(own.nickname),
+        octets::high(nickname),
+        octets::low(nickname),
         0x01,
         0x80,
         0xC2,
         0x00,
         0x00,
         0x42,
-        m[0],
-        m[1],
-        m[2],
-        m[3],
-        m[4],
-        m[5],
+    ]
+}
+
+// Behind it: the tag, and the channel's Ethertype and header.
+fn channel_octets(protocol: u16, code: u8) -> [u8; 10]
+    ensures { λ r. ⌜ r ≡ replyChannel protocol code ⌝ }
+{
+    [
         0x81,
         0x00,
         0x00,
@@ -47,6 +48,19 @@ fn reply_octets(own: Own, ingress: u16, protocol: u16, code: u8) -> [u8; 28]
         0xC0,
         code,
     ]
+}
+
+// From the first TRILL word to the flags and ERR word, from `at` on; says where it ends.
+fn write_head(own: Own, ingress: u16, protocol: u16, code: u8, out: &mut [u8], at: usize) -> usize
+    requires { ⌜ at + 28 ≤ length (now out) ⌝ }
+    ensures { λ r. ⌜ Wrote (replyOctets own ingress protocol code) at r (now (out .entry)) (now (out .exit)) ⌝ }
+{
+    let head = head_octets(own.nickname, ingress);
+    let at = octets::copy(out, at, &head);
+    let mac = octets::eight(own.word);
+    let end = octets::copy(out, at, &mac);
+    let channel = channel_octets(protocol, code);
+    octets::copy(out, end - 2, &channel)
 }
 
 // The received frame from its TRILL Ethertype on, at most 128 octets.
@@ -67,8 +81,7 @@ fn write_error(own: Own, f: &[u8], h: Header, code: u8, out: &mut [u8], at: usiz
     requires { ⌜ (14 ≤ h .place) × (h .place ≤ length (now f)) × (at + 156 ≤ length (now out)) ⌝ }
     ensures { λ r. ⌜ Wrote (replyOctets own (h .ingress) 0x001 code ++ errorBody (now (f .entry)) h) at r (now (out .entry)) (now (out .exit)) ⌝ }
 {
-    let head = reply_octets(own, h.ingress, rules::PROTOCOL_ERROR, code);
-    let at = octets::copy(out, at, &head);
+    let at = write_head(own, h.ingress, rules::PROTOCOL_ERROR, code, out, at);
     octets::copy(out, at, cited(f, h))
 }
 
@@ -87,7 +100,8 @@ fn write_echo_body(body: &[u8], clock: &[u8], out: &mut [u8], at: usize) -> usiz
     let end = octets::copy(out, at, body);
     let first = [answered(octets::octet(body, 0))];
     octets::copy(out, at, &first);
-    octets::copy(out, at + 12, &clock[..6]);
+    let time = [clock[0], clock[1], clock[2], clock[3], clock[4], clock[5]];
+    octets::copy(out, at + 12, &time);
     end
 }
 
@@ -96,8 +110,7 @@ fn write_echo(own: Own, h: Header, clock: &[u8], body: &[u8], out: &mut [u8], at
     requires { ⌜ (18 ≤ length (now body)) × (length (now clock) ≡ 6) × (at + 28 + length (now body) ≤ length (now out)) ⌝ }
     ensures { λ r. ⌜ Wrote (replyOctets own (h .ingress) 0xFF8 0 ++ echoBody (now (body .entry)) (now (clock .entry))) at r (now (out .entry)) (now (out .exit)) ⌝ }
 {
-    let head = reply_octets(own, h.ingress, rules::PROTOCOL_ECHO, 0);
-    let at = octets::copy(out, at, &head);
+    let at = write_head(own, h.ingress, rules::PROTOCOL_ECHO, 0, out, at);
     write_echo_body(body, clock, out, at)
 }
 

@@ -4,10 +4,10 @@ use rules::FieldRead;
 use rules::Ruling;
 ghost use mathlib.Core.Path.{_≡_};
 ghost use Rattle.rules.specs.Settings as S;
-ghost use Rattle.handler.specs.Shapes.{ownOf};
+ghost use Rattle.handler.specs.Shapes.{Owns};
 
 pub fn own_of(s: &[u8]) -> Own
-    ensures { λ r. ⌜ r ≡ ownOf (S.waysOf (S.settingsRead (now (s .entry)))) ⌝ }
+    ensures { λ r. ⌜ Owns r (S.waysOf (S.settingsRead (now (s .entry)))) ⌝ }
 {
     let FieldRead::Taken {
         tag: _,
@@ -17,13 +17,13 @@ pub fn own_of(s: &[u8]) -> Own
     else {
         return Own {
             nickname: 0,
-            mac: 0,
+            word: 0,
         };
     };
     let v = &s[3..next];
     Own {
         nickname: octets::be16(v, 0),
-        mac: octets::be48(v, 2),
+        word: octets::be48(v, 2) << 16,
     }
 }
 

@@ -8,7 +8,7 @@ use rules::Ruling;
 ghost use mathlib.Core.Path.{_≡_};
 ghost use Prim.Native.Nat.{_+_, _*_, _/_, _%_, _^_, _≤_, _<_};
 ghost use lib.ListN.{length, getD};
-ghost use Rattle.handler.specs.Shapes.{ownOf, waysBy, onlyFor};
+ghost use Rattle.handler.specs.Shapes.{Owns, waysBy, onlyFor};
 ghost use Rattle.stores.specs.Store.{destOf, destAt, hopOf, stepped, searched, lastAt, hintAt, countIn, placeIn, hopFor, waysIn, storeGood, Whole};
 
 // Words of any kind: a valid nickname, and no more records than 64 and than there are words for.
@@ -32,11 +32,11 @@ pub fn good(w: &[u64]) -> bool
 
 pub fn own_of(w: &[u64]) -> Own
     requires { ⌜ Whole (now w) ⌝ }
-    ensures { λ r. ⌜ r ≡ ownOf (waysIn (now (w .entry))) ⌝ }
+    ensures { λ r. ⌜ Owns r (waysIn (now (w .entry))) ⌝ }
 {
     Own {
         nickname: w[0] as u16,
-        mac: w[1] >> 16,
+        word: w[1],
     }
 }
 
@@ -159,15 +159,22 @@ pub fn rfc7179(w: &[u64]) -> bool
     w[2] / 2 % 2 == 1
 }
 
+pub fn strip(w: &[u64]) -> bool
+    requires { ⌜ Whole (now w) ⌝ }
+    ensures { λ r. ⌜ r ≡ waysIn (now (w .entry)) .strip ⌝ }
+{
+    w[2] % 2 == 1
+}
+
 // What a handling looks up that asks for the next hop of `d`, by its place. Places are searched in one function and the rest is made where it
 // is used, in registers.
 pub fn lookup(w: &[u64], own: Own, d: u16, place: usize) -> Lookup
-    requires { ⌜ Whole (now w) × (own ≡ ownOf (waysIn (now w))) × (place ≡ placeIn (now w) (countIn (now w)) d) ⌝ }
+    requires { ⌜ Whole (now w) × Owns own (waysIn (now w)) × (place ≡ placeIn (now w) (countIn (now w)) d) ⌝ }
     ensures { λ r. ⌜ waysBy r ≡ onlyFor d (waysIn (now (w .entry))) ⌝ }
 {
     Lookup {
         own: own,
-        strip: w[2] % 2 == 1,
+        strip: strip(w),
         rfc7179: rfc7179(w),
         hop: hop_for(w, w[3] as usize, d, place),
     }

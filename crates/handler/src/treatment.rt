@@ -1,5 +1,6 @@
 // What becomes of an option, by its nine-bit key (document 02, T-08).
 ghost use mathlib.Core.Path.{_≡_};
+ghost use mathlib.Core.Bool.{_&&_, not};
 ghost use Rattle.handler.specs.Treatment.{Treats, transitDiscards, egressDiscards, stripApplies, isFlowId, strippedBy};
 
 const FLOW_ID: u16 = 0x083;
@@ -30,10 +31,11 @@ pub fn transit_discards(entry: u8) -> bool
     entry % 2 == 1
 }
 
-pub fn egress_discards(entry: u8) -> bool
-    ensures { λ r. ⌜ r ≡ egressDiscards entry ⌝ }
+// The egress discards it, and transit does not.
+pub fn egress_alone_discards(entry: u8) -> bool
+    ensures { λ r. ⌜ r ≡ (egressDiscards entry && not (transitDiscards entry)) ⌝ }
 {
-    entry / 2 % 2 == 1
+    entry % 4 == 2
 }
 
 fn strip_applies(entry: u8) -> bool
@@ -52,9 +54,12 @@ fn is_flow_id(key: u16, size: u8) -> bool
 }
 
 // Whether the strip flag takes the option out.
-pub fn is_stripped(entry: u8, key: u16, size: u8) -> bool
-    ensures { λ r. ⌜ r ≡ strippedBy entry key size ⌝ }
+pub fn is_stripped(strip: bool, entry: u8, key: u16, size: u8) -> bool
+    ensures { λ r. ⌜ r ≡ (strip && strippedBy entry key size) ⌝ }
 {
+    if !strip {
+        return false;
+    }
     if is_flow_id(key, size) {
         return false;
     }

@@ -3,19 +3,20 @@ use rules::NextHop;
 use rules::Ruling;
 ghost use mathlib.Core.Path.{_≡_};
 ghost use mathlib.Core.List.{_++_};
-ghost use Prim.Native.Nat.{_≤_};
+ghost use Prim.Native.Nat.{_+_, _*_, _%_, _≤_};
 ghost use lib.ListN.{length};
 ghost use Rattle.rules.specs.Octets.{octets48};
 ghost use Rattle.rules.specs.Link.{link};
 ghost use Rattle.rules.specs.Channel.{returnPath};
 ghost use Rattle.rules.specs.WayOut.{wayOutBy};
+ghost use Rattle.octets.specs.Words.{octets64};
 ghost use Rattle.octets.specs.Copy.{Wrote};
 ghost use Rattle.handler.specs.Shapes.{taggedOctets, linkSize, waysBy, neighbourOf, WayDone};
 
-// Own nickname and MAC.
+// Own nickname, and own MAC above 16 bits that say nothing: so a store has it, and so its octets are written, eight in one.
 pub struct Own {
     pub nickname: u16,
-    pub mac: u64,
+    pub word: u64,
 }
 
 // With the strip flag, the edition, and the next hop for the one destination that is asked for.
@@ -47,14 +48,22 @@ fn tagged_octets(vlan: u16) -> [u8; 6]
     ]
 }
 
-fn write_macs(to: u64, own: u64, out: &mut [u8]) -> usize
-    requires { ⌜ 14 ≤ length (now out) ⌝ }
-    ensures { λ r. ⌜ Wrote (octets48 to ++ octets48 own) 0 r (now (out .entry)) (now (out .exit)) ⌝ }
+// A MAC above a nickname.
+fn above(mac: u64, nickname: u16) -> u64
+    ensures { λ r. ⌜ r ≡ mac % 281474976710656 * 65536 + nickname ⌝ }
 {
-    let destination = octets::six(to);
-    let at = octets::copy(out, 0, &destination);
-    let source = octets::six(own);
-    octets::copy(out, at, &source)
+    mac << 16 | nickname as u64
+}
+
+// Both MACs, and behind them two octets of anything, over which the Ethertype or the tag is written.
+fn write_macs(to: NextHop, own: u64, out: &mut [u8])
+    requires { ⌜ 14 ≤ length (now out) ⌝ }
+    ensures { λ _. ⌜ Wrote (octets48 (to .mac) ++ octets64 own) 0 14 (now (out .entry)) (now (out .exit)) ⌝ }
+{
+    let destination = octets::eight(above(to.mac, to.neighbour));
+    octets::copy(out, 0, &destination);
+    let source = octets::eight(own);
+    octets::copy(out, 6, &source);
 }
 
 // Writes the link header towards a next hop and says how long it is.
@@ -62,12 +71,12 @@ pub fn write_link(t: Lookup, r: NextHop, out: &mut [u8]) -> usize
     requires { ⌜ linkSize (r .vlan) ≤ length (now out) ⌝ }
     ensures { λ n. ⌜ Wrote (link (waysBy t) r) 0 n (now (out .entry)) (now (out .exit)) ⌝ }
 {
-    let at = write_macs(r.mac, t.own.mac, out);
+    write_macs(r, t.own.word, out);
     if r.vlan == 0 {
-        return octets::copy(out, at, &[0x22, 0xF3]);
+        return octets::copy(out, 12, &[0x22, 0xF3]);
     }
     let tagged = tagged_octets(r.vlan);
-    octets::copy(out, at, &tagged)
+    octets::copy(out, 12, &tagged)
 }
 
 // The next hop back: "No return path: the ingress is our own nickname or has no next hop."

@@ -3,7 +3,7 @@ use mathlib.Core.Path.{_≡_, refl, sym, _∙_}
 use mathlib.Core.List.{List, [], _∷_, _++_, append-nil}
 use Prim.Native.Nat.{ℕ, _+_, _-_, _*_, _/_, _%_, _≤_, _<_}
 use native.Mathlib.Omega.{arith}
-use native.Mathlib.Nat.{add-zero}
+use native.Mathlib.Nat.{add-zero, add-assoc}
 use native.Mathlib.Numerals.{add-one}
 use borrow.Author.Needs.{needs}
 use mir.Syntax.{w8}
@@ -13,6 +13,8 @@ use lib.ListN.{length, getD, set, take, drop, replicate, length-append, length-t
 use Rattle.rules.proofs.{TestLaws.tests, OctetLaws.put-none, OctetLaws.put-put, OctetLaws.put-tail, OctetLaws.put-front, OctetLaws.length-put}
 use Rattle.rules.specs.Octets.{octet, be16, be32, be48, octets48, put}
 use Rattle.octets.specs.Copy.{Wrote, fitting}
+use Rattle.octets.proofs.Bits.{swapped-octets}
+use Rattle.octets.specs.Words.{be64, octets64, lowFirst, le64, swapped}
 use Rattle.rules.specs.Octets as O
 
 -- what is read past the end is 0
@@ -27,6 +29,9 @@ be32-past s n h = omega (arith, be16-past s n h, be16-past s (n + 2) (omega arit
 
 pub be48-past : (s : List ℕ) (n : ℕ) → length s ≤ n → 0 ≡ be48 s n
 be48-past s n h = omega (arith, be16-past s n h, be32-past s (n + 2) (omega arith))
+
+pub be64-past : (s : List ℕ) (n : ℕ) → length s ≤ n → 0 ≡ be64 s n
+be64-past s n h = omega (arith, be32-past s n h, be32-past s (n + 4) (omega arith))
 
 -- reading as the code does: octets lent are below 256, and what is past the end reads 0
 module _ (s : List ℕ) (at : ℕ) where
@@ -55,6 +60,24 @@ module _ (s : List ℕ) (at : ℕ) where
     pub be48-read : r ≡ high * 4294967296 + low → high ≡ be16 s at → low ≡ be32 s (at + 2) → r ≡ be48 s at
     be48-read e eh el = rw (← eh, ← el) e
 
+    pub be64-last : r ≡ high * 4294967296 + 0 → high ≡ be32 s at → length s - at < 4 → r ≡ be64 s at
+    be64-last e eh h = omega (arith, be32-past s (at + 4) (omega arith))
+
+    pub be64-read : r ≡ high * 4294967296 + low → high ≡ be32 s at → low ≡ be32 s (at + 4) → r ≡ be64 s at
+    be64-read e eh el = rw (← eh, ← el) e
+
+  pub le64-read : (r : ℕ) → r ≡ lowFirst (getD s at 0) (getD s (at + 1) 0) (getD s (at + 2) 0) (getD s (at + 3) 0) (getD s (at + 4) 0)
+      (getD s (at + 5) 0) (getD s (at + 6) 0) (getD s (at + 7) 0) → Octets → r ≡ le64 s at
+  le64-read r e octets =
+      let low : (i : ℕ) → getD s i 0 ≡ octet s i = λ i. omega (arith, octets i) in
+      e ∙ rw (← low at, ← low (at + 1), ← low (at + 2), ← low (at + 3), ← low (at + 4), ← low (at + 5), ← low (at + 6), ← low (at + 7))
+
+  -- two turns of the octets
+  pub be64-swapped : (n r : ℕ) → n ≡ le64 s at → r ≡ swapped n → r ≡ be64 s at
+  unfolding lowFirst
+  be64-swapped n r e er = er ∙ swapped-octets _ _ _ _ _ _ _ _ n e (omega arith) (omega arith) (omega arith) (omega arith)
+      (omega arith) (omega arith) (omega arith) (omega arith) ∙ simp add-assoc (omega arith)
+
 pub ruleset octet-laws = (needs, octet-read, octet-past)
 
 pub ruleset be16-laws = (needs, be16-past, be16-last, be16-read)
@@ -62,6 +85,12 @@ pub ruleset be16-laws = (needs, be16-past, be16-last, be16-read)
 pub ruleset be32-laws = (needs, be32-past, be32-last, be32-read)
 
 pub ruleset be48-laws = (needs, be48-past, be48-last, be48-read)
+
+pub ruleset part64-laws = (needs, be64-past, be64-last, be64-read)
+
+pub ruleset le64-laws = (needs, le64-read)
+
+pub ruleset be64-laws = (needs, be64-swapped)
 
 -- the six octets of a number
 pub six-octets : (n a b c d e f : ℕ) → a ≡ n / 1099511627776 % 256 → b ≡ n / 4294967296 % 256 → c ≡ n / 16777216 % 256 → d ≡ n / 65536 % 256
@@ -72,6 +101,27 @@ six-octets n a b c d e f ea eb ec ed ee ef =
     rw (first, eb, third, ed, ee, ef)
 
 pub ruleset six-laws = (needs, six-octets)
+
+-- and the eight
+pub eight-octets : (n a b c d e f g h : ℕ) → a ≡ n / 72057594037927936 % 256 → b ≡ n / 281474976710656 % 256 → c ≡ n / 1099511627776 % 256
+    → d ≡ n / 4294967296 % 256 → e ≡ n / 16777216 % 256 → f ≡ n / 65536 % 256 → g ≡ n / 256 % 256 → h ≡ n % 256
+    → (a ∷ b ∷ c ∷ d ∷ e ∷ f ∷ g ∷ h ∷ []) ≡ octets64 n
+eight-octets n a b c d e f g h ea eb ec ed ee ef eg eh =
+    let first : a ≡ n / 65536 / 4294967296 / 256 % 256 = omega arith in
+    let second : b ≡ n / 65536 / 4294967296 % 256 = omega arith in
+    let third : c ≡ n / 65536 / 65536 / 256 % 256 = omega arith in
+    let fourth : d ≡ n / 65536 / 65536 % 256 = omega arith in
+    let fifth : e ≡ n / 65536 / 256 % 256 = omega arith in
+    rw (first, second, third, fourth, fifth, ef, eg, eh)
+
+pub turned : (n a b c d e f g h r : ℕ) → r ≡ lowFirst a b c d e f g h → a ≡ n / 72057594037927936 % 256 → b ≡ n / 281474976710656 % 256
+    → c ≡ n / 1099511627776 % 256 → d ≡ n / 4294967296 % 256 → e ≡ n / 16777216 % 256 → f ≡ n / 65536 % 256 → g ≡ n / 256 % 256 → h ≡ n % 256
+    → r ≡ swapped n
+turned n a b c d e f g h r er ea eb ec ed ee ef eg eh = er ∙ rw (ea, eb, ec, ed, ee, ef, eg, eh)
+
+pub ruleset swap64-laws = (needs, turned)
+
+pub ruleset eight-laws = (needs, eight-octets)
 
 -- nothing written
 pub wrote-none : (out : List ℕ) (at : ℕ) → Wrote [] at at out out

@@ -16,6 +16,7 @@ ghost use lib.ListN.{length};
 ghost use Rattle.rules.specs.Octets.{octet as octetOf, be16 as be16Of, be32 as be32Of, be48 as be48Of, octets48, put};
 ghost use Rattle.rules.specs.Fields.{fieldAt};
 ghost use Rattle.octets.specs.Copy.{Wrote, fitting};
+ghost use Rattle.octets.specs.Words.{be64 as be64Of, octets64, lowFirst, le64 as le64Of, swapped};
 
 // Two octets as a number, the high one first.
 fn pair(high: u8, low: u8) -> u16
@@ -86,6 +87,84 @@ pub fn be48(s: &[u8], at: usize) -> u64
     join48(be16(s, at), be32(s, at + 2))
 }
 
+fn join64(high: u32, low: u32) -> u64
+    ensures { λ r. ⌜ r ≡ high * 4294967296 + low ⌝ }
+{
+    (high as u64) << 32 | low as u64
+}
+
+// Eight octets as a number, the low one first.
+fn join_octets(a: u8, b: u8, c: u8, d: u8, e: u8, f: u8, g: u8, h: u8) -> u64
+    ensures { λ r. ⌜ r ≡ lowFirst a b c d e f g h ⌝ }
+{
+    a as u64
+        | (b as u64) << 8
+        | (c as u64) << 16
+        | (d as u64) << 24
+        | (e as u64) << 32
+        | (f as u64) << 40
+        | (g as u64) << 48
+        | (h as u64) << 56
+}
+
+// The low octet first, as the machine has it: so the eight are one load.
+fn le64(s: &[u8], at: usize) -> u64
+    requires { ⌜ at + 8 ≤ length (now s) ⌝ }
+    ensures { λ r. ⌜ r ≡ le64Of (now (s .entry)) at ⌝ }
+{
+    join_octets(
+        s[at],
+        s[at + 1],
+        s[at + 2],
+        s[at + 3],
+        s[at + 4],
+        s[at + 5],
+        s[at + 6],
+        s[at + 7],
+    )
+}
+
+// The eight octets of a number in the other order.
+fn swap64(n: u64) -> u64
+    ensures { λ r. ⌜ r ≡ swapped n ⌝ }
+{
+    join_octets(
+        low64(n >> 56),
+        low64(n >> 48),
+        low64(n >> 40),
+        low64(n >> 32),
+        low64(n >> 24),
+        low64(n >> 16),
+        low64(n >> 8),
+        low64(n),
+    )
+}
+
+pub fn be64(s: &[u8], at: usize) -> u64
+    ensures { λ r. ⌜ r ≡ be64Of (now (s .entry)) at ⌝ }
+{
+    if s.len() < 8 {
+        return part64(s, at);
+    }
+    if s.len() - 8 < at {
+        return part64(s, at);
+    }
+    swap64(le64(s, at))
+}
+
+// `be64` of octets that end or may end before the eighth.
+fn part64(s: &[u8], at: usize) -> u64
+    ensures { λ r. ⌜ r ≡ be64Of (now (s .entry)) at ⌝ }
+{
+    if s.len() <= at {
+        return 0;
+    }
+    if s.len() - at < 4 {
+        return join64(be32(s, at), 0);
+    }
+    join64(be32(s, at), be32(s, at + 4))
+}
+
 // The two octets of a number below 65,536.
 pub fn high(n: u16) -> u8
     ensures { λ r. ⌜ r ≡ n / 256 % 256 ⌝ }
@@ -110,6 +189,22 @@ pub fn six(n: u64) -> [u8; 6]
     ensures { λ r. ⌜ r ≡ octets48 n ⌝ }
 {
     [
+        low64(n >> 40),
+        low64(n >> 32),
+        low64(n >> 24),
+        low64(n >> 16),
+        low64(n >> 8),
+        low64(n),
+    ]
+}
+
+// The eight octets of a number.
+pub fn eight(n: u64) -> [u8; 8]
+    ensures { λ r. ⌜ r ≡ octets64 n ⌝ }
+{
+    [
+        low64(n >> 56),
+        low64(n >> 48),
         low64(n >> 40),
         low64(n >> 32),
         low64(n >> 24),

@@ -1,6 +1,6 @@
 -- Its contract, by one law for each way out.
 use Rattle.handler.proofs
-use proofs.ScanLaws.{trill-handle-laws as laws}
+use proofs.CallLaws.{trill-handle-laws as laws}
 use proofs.trill_handle as fn
 
 pub trill-handle-spec : {M : Type 1} → fn.Statement.statement M

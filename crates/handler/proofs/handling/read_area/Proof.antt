@@ -4,4 +4,5 @@ use proofs.RouteLaws.{read-area-laws as laws}
 use proofs.handling.read_area as fn
 
 pub read-area-spec : {M : Type 1} → fn.Statement.statement M
-read-area-spec = fn.Tie.close (fn.Tie.spec (λ c. search laws) (λ c. search laws) (λ c. search laws) (λ c. search laws) (λ c. search laws) (λ c. search laws))
+read-area-spec = fn.Tie.close (fn.Tie.spec
+    (λ c _. search laws) (λ c. search laws) (λ c _. search laws) (λ c _. search laws) (λ c. search laws) (λ c _. search laws) (λ c. search laws))

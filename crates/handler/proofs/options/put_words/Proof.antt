@@ -4,7 +4,7 @@ use Prim.Native.Nat.{_-_, _%_, _≤_}
 use lib.ListN.{length, take}
 use Rattle.rules.specs.Octets.{put}
 use Rattle.handler.proofs
-use proofs.Strips.{put-words-laws as laws}
+use proofs.Walks.{put-words-laws as laws}
 use proofs.options.put_words as fn
 
 abbrev Inv-loop : fn.Tie.InvT-loop
@@ -16,4 +16,4 @@ abbrev μ-loop : fn.Tie.MeasureT-loop
 pub put-words-spec : {M : Type 1} → fn.Statement.statement M
 put-words-spec = fn.Tie.close (fn.Tie.spec
     Inv-loop μ-loop (λ c. search laws) (λ c. search laws) (λ c. search laws) (λ c. search laws) (λ c. search laws) (λ c. search laws)
-    (λ c _. search laws) (λ c. search laws) (λ c. search laws) (λ c. search laws) (λ c. search laws) (λ c. search laws) (λ c. search laws))
+    (λ c _. search laws) (λ c. search laws) (λ c. search laws) (λ c. search laws) (λ c. search laws) (λ c. search laws))

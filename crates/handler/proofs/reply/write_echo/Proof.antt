@@ -5,4 +5,4 @@ use proofs.reply.write_echo as fn
 
 pub write-echo-spec : {M : Type 1} → fn.Statement.statement M
 write-echo-spec = fn.Tie.close (fn.Tie.spec
-    (λ c _. search laws) (λ c. search laws) (λ c _. search laws) (λ c _. search laws) (λ c. search laws) (λ c. search laws))
+    (λ c _. search laws) (λ c _. search laws) (λ c. search laws) (λ c. search laws))

@@ -1,4 +1,4 @@
--- Its contract, by the VLAN: what follows the MACs is written where they end.
+-- Its contract, by the VLAN: what follows the MACs is written over the end of the last write.
 use Rattle.handler.proofs
 use proofs.Stages.{write-link-laws as laws}
 use proofs.way.write_link as fn
