@@ -14,7 +14,7 @@ SANITIZERS ?= -fsanitize=address,undefined -fno-sanitize-recover=all
 COMPILE = $(CC) -std=c11 -D_POSIX_C_SOURCE=200809L $(WARNINGS) -I. -Icommon -Ifront -MMD -MP $(CPPFLAGS) $(CFLAGS)
 
 LIBRARY := build/libstaffripple.a
-ARCHIVES := stores handler prepared counters reader campus text
+ARCHIVES := stores frame prepared counters reader run text
 
 # The programs and their objects.
 PROGRAMS := staffripple trill-replay

@@ -99,7 +99,7 @@ judge 'nor does a target that is gone' 0 out "$c1" asked "$all"
 echo '// more' >> crates/campus/src/lib.rt
 run ./staffripple examples/C1.hex
 judge 'what has changed is proved, and what rests on it' 0 out "$c1" asked "$all
-staticlib campus
+staticlib run
 staticlib text"
 mkdir -p elsewhere
 ln -s ../staffripple elsewhere/link

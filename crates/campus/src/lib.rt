@@ -55,8 +55,8 @@ fn run_in(description: &[u8], words: &mut [u64], trace: &mut [u8]) -> Outcome
     }
 }
 
-#[no_mangle]
-pub extern "C" fn campus_run(description: &[u8], trace: &mut [u8]) -> Outcome
+// The run of a campus, with its trace.
+pub fn campus_run(description: &[u8], trace: &mut [u8]) -> Outcome
     ensures { λ r. ⌜ CampusDone (now (description .entry)) (now (trace .entry)) (now (trace .exit)) (r .code) (r .count) ⌝ }
 {
     if trace.len() < TRACE_LEAST {

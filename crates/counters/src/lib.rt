@@ -104,7 +104,7 @@ fn count(
             total: total,
         };
     }
-    let a = handler::trill_handle(frame, settings, clock, out, beside);
+    let a = handler::handle(frame, settings, clock, out, beside);
     one_more(counts, a.number);
     Counted {
         answer: a,

@@ -37,8 +37,8 @@ ghost use Rattle.handler.specs.Tasks.{wantedBy, asksBack, transitQuiet, 
 ghost use Rattle.handler.specs.Keys.{lookupBy};
 ghost use Rattle.handler.specs.Calls.{LookupOf};
 
-#[no_mangle]
-pub extern "C" fn trill_handle(
+// The handling of a frame by settings octets.
+pub fn handle(
     frame: &[u8],
     settings: &[u8],
     clock: &[u8],
@@ -481,8 +481,7 @@ fn answer_in(
 }
 
 // T-11: the link header towards a destination; 1, 21 or 2 where there is none.
-#[no_mangle]
-pub extern "C" fn trill_way_out(settings: &[u8], destination: u16, out: &mut [u8]) -> WayOut
+pub fn way_out(settings: &[u8], destination: u16, out: &mut [u8]) -> WayOut
     ensures { λ r. ⌜ WayDone (wayOut (now (settings .entry)) destination (length (now (out .entry)))) r (now (out .entry)) (now (out .exit)) ⌝ }
 {
     let own = settings::own_of(settings);
