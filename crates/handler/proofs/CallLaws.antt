@@ -18,7 +18,7 @@ use Rattle.handler.proofs
 use proofs.{RouteLaws.received-lent, StageLaws.by-hop, StageLaws.done-dropped}
 use proofs.TaskLaws.{both-of, back-message, same-message, quiet-lookup, same-channelled, none-read, none-stops, none-alert, task-laws}
 use proofs.TaskLaws.{forward-in-laws, asks-so, replies-quiet}
-use proofs.TaskLaws.{front-count, front-done, front-room}
+use proofs.TaskLaws.{copy-ready, copy-both, front-count, front-done, front-room}
 use proofs.TaskLaws.{comes-ends, plain-egress, plain-transit}
 use mathlib.Core.Path.{_≡_, refl, sym, ap, _∙_}
 use mathlib.Core.List.{List, []}
@@ -170,7 +170,17 @@ module _ (s f : List ℕ) (h : Header) (own : Own) (j : Validated) (x : LookupOf
 pub edition-by : (j : Validated) (known : Bool) → j .rfc7179 ≡ known → known ≡ j .rfc7179
 edition-by j known e = sym e
 
-pub ruleset handle-by-laws = (needs, plain-lookup, edition-by)
+pub copy-lookup : (s : List ℕ) (h x : Header) → x ≡ h → (own y : Own) → y ≡ own → (j : Validated)
+    → LookupOf s (wantedBy (own .nickname) h) (lookupBy own j) → LookupOf s (wantedBy (y .nickname) x) (lookupBy y j)
+copy-lookup s h x same own y alike j k = rw (same, alike) k
+
+pub copy-by : (f : List ℕ) (h x : Header) → x ≡ h → (own y : Own) → y ≡ own → (j : Validated) (r a : Answer) → r ≡ a → (clock out out1 : List ℕ)
+    → Done (messaged (waysBy (lookupBy y j)) clock f x) a out out1 → Done (messaged (waysBy (lookupBy own j)) clock f h) r out out1
+copy-by f h x same own y alike j r a made clock out out1 d = rw (made, ← same, ← alike) d
+
+pub ruleset apart-by-laws = (needs, copy-ready, copy-by)
+
+pub ruleset handle-by-laws = (needs, plain-lookup, edition-by, copy-ready, copy-both, copy-lookup)
 
 pub ruleset area-by-laws = (task-laws, lookup-named, lookup-edition, lookup-local, lookup-onward)
 

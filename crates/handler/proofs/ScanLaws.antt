@@ -8,7 +8,7 @@ use specs.Shapes.{Owns, ruledBy, noFlags, flaggedBy, FoldedFrom}
 use Rattle.handler.proofs
 use proofs.{ValidationLaws.cut-off, ValidationLaws.flag-stops, ValidationLaws.Validating, Stages.if-laws}
 use specs.Keys.{fieldTaken, keysWith, hopTaken, withKey, Taking, Verdict, Scanned, ValidatedBy}
-use mathlib.Core.Path.{_≡_, refl, sym, ap, _∙_}
+use mathlib.Core.Path.{_≡_, refl, sym, ap, subst, _∙_}
 use mathlib.Core.List.{List, [], _∷_, foldl, foldl-append}
 use mathlib.Core.Bool.{true, not, Bool, false, true≢false, false≢true}
 use Prim.Native.Nat.{ℕ, _+_, _-_, _*_, _/_, _%_, _≤_, _<_}
@@ -24,9 +24,11 @@ use Rattle.rules.specs.declared.Ruling.the-variants.{Found, Absent}
 use Rattle.rules.specs.declared.FieldRead.the-variants.{Taken, Cut}
 use Rattle.rules.proofs.{TestLaws.by-test, FieldLaws.fields-at-end, FieldLaws.fields-at-cut, Taken.taken-first, Taken.taken-to, Taken.taken}
 use Rattle.rules.proofs.FirstLaws.{opened-field, first, switch-fold, settings-cut, settings-bad as not-opened}
-use Rattle.octets.specs.Flags.{flagTag, flagBy}
+use Rattle.octets.specs.{Flags.flagTag, Flags.flagBy, Records.recordOf, Records.hopBy}
+use Rattle.octets.specs.declared.values.Record.{Record}
 use specs.declared.validation.{Flags.Flags, Scan.Scan, Validated.Validated}
-use Rattle.octets.proofs.FlagLaws.{flag-is}
+use Rattle.octets.specs.Words.{be64}
+use Rattle.octets.proofs.{FlagLaws.flag-is, Hops.hop-same}
 use Rattle.stores.specs.Store.{unlessWithdrawn}
 use Rattle.stores.proofs.LookupLaws.{next-hop}
 use proofs.TaskLaws.{finds}
@@ -36,25 +38,25 @@ use Rattle.handler.proofs.ValidationLaws as J
 abbrev switchAt : List ℕ → Ways
 switchAt s = waysOf (settingsRead s)
 
--- the record that rules once one more is seen, as the code finds it: `w` is the destination of the record in `v`
-module _ (d : ℕ) (best : Ruling) (v : List ℕ) (w : ℕ) (is : w ≡ be16 v 0) where
-  pub newer-past : (w ≡ d → ⊥) → best ≡ newer d best (hopOf v)
+-- the record that rules once one more is seen, as the code finds it
+module _ (d : ℕ) (best : Ruling) (x r : NextHop) (is : r ≡ x) where
+  pub newer-past : (r .destination ≡ d → ⊥) → best ≡ newer d best x
   unfolding newer
-  newer-past n = cc (ne-eqb w d n)
+  newer-past n = cc (ne-eqb (r .destination) d n)
 
-  module _ (e : w ≡ d) (r : NextHop) (read : r ≡ hopOf v) where
-    pub newer-first : best ≡ Absent → Found r ≡ newer d best (hopOf v)
+  module _ (e : r .destination ≡ d) where
+    pub newer-first : best ≡ Absent → Found r ≡ newer d best x
     unfolding newer
-    newer-first b = cc (eq-eqb w d e)
+    newer-first b = cc (eq-eqb (r .destination) d e)
 
     module _ (q : NextHop) (b : best ≡ Found q) where
-      pub newer-later : q .serial < r .serial → Found r ≡ newer d best (hopOf v)
+      pub newer-later : q .serial < r .serial → Found r ≡ newer d best x
       unfolding newer
-      newer-later h = cc (eq-eqb w d e, lt-ltb (q .serial) (r .serial) h)
+      newer-later h = cc (eq-eqb (r .destination) d e, lt-ltb (q .serial) (r .serial) h)
 
-      pub newer-stays : r .serial ≤ q .serial → Found q ≡ newer d best (hopOf v)
+      pub newer-stays : r .serial ≤ q .serial → Found q ≡ newer d best x
       unfolding newer
-      newer-stays h = cc (eq-eqb w d e, le-ltb (q .serial) (r .serial) h)
+      newer-stays h = cc (eq-eqb (r .destination) d e, le-ltb (q .serial) (r .serial) h)
 
 pub ruleset newer-laws = (needs, newer-past, newer-first, newer-later, newer-stays)
 
@@ -146,15 +148,15 @@ module _ (s : List ℕ) (read : FieldRead) (is : read ≡ fieldAt s 0) where
   pub own-cut : read ≡ Cut → Owns (record { nickname = 0; word = 0 }) (switchAt s)
   own-cut e = rw (read-cut s (sym is ∙ e)) (record { named = refl; addressed = refl })
 
-  pub own-read : (tag size next : ℕ) → read ≡ Taken tag size next → (n m : ℕ) → n ≡ be16 (part s 3 (next - 3)) 0 → m ≡ be48 (part s 3 (next - 3)) 2
+  pub own-read : (tag size next : ℕ) → read ≡ Taken tag size next → (n m : ℕ) → n ≡ be16 (part s 3 (next - 3)) 0 → m ≡ be64 (part s 3 (next - 3)) 0
       → Owns (record { nickname = n; word = m * 65536 % 18446744073709551616 }) (switchAt s)
   own-read tag size next e n m en em =
       let v = switchOf (part s 3 (next - 3)) in
-      let high : m * 65536 % 18446744073709551616 / 65536 ≡ m = omega arith in
+      let high : m * 65536 % 18446744073709551616 / 65536 ≡ be48 (part s 3 (next - 3)) 2 = omega arith in
       rw (read-on s (sym is ∙ e))
       (record {
         named = en ∙ sym (switch-fold (λ n m. n) v (fieldsAt s next));
-        addressed = high ∙ em ∙ sym (switch-fold (λ n m. m) v (fieldsAt s next));
+        addressed = high ∙ sym (switch-fold (λ n m. m) v (fieldsAt s next));
       })
 
 pub ruleset own-of-laws = (needs, taken-first, taken-to, own-cut, own-read)
@@ -180,21 +182,28 @@ module _ (s : List ℕ) (from d : ℕ) (keys seen : List ℕ) (n : ℕ) (best : 
       abbrev v : List ℕ
       v = part s (at + 3) (next - (at + 3))
 
-      module _ (two : tag ≡ 2) (taken : Bool) (keys′ seen′ : List ℕ)
-          (k : Taking (hopTaken (take n keys) n v) (withKey (take n keys) v) taken (n + 1) keys′ seen′) where
+      module _ (two : tag ≡ 2) (r : Record) (its : r ≡ recordOf v) (taken : Bool) (keys′ seen′ : List ℕ)
+          (k : Taking (hopTaken (take n keys) n (length v) (hopBy r)) (withKey (take n keys) (hopBy r)) taken (n + 1) keys′ seen′) where
+        hop-is : hopBy r ≡ hopOf v
+        hop-is = rw its (hop-same v)
+
+        step : Taking (hopTaken (take n keys) n (length v) (hopOf v)) (withKey (take n keys) (hopOf v)) taken (n + 1) keys′ seen′
+        step =
+            subst (λ (x : NextHop). Taking (hopTaken (take n keys) n (length v) x) (withKey (take n keys) x) taken (n + 1) keys′ seen′) hop-is k
+
         pub scan-hop-bad : (r : Scan) → r .good ≡ false → not taken ≡ true → Scanned s from d r
         unfolding fieldTaken keysWith
-        scan-hop-bad r b x = bad-scanned b (J.stops (l .judging) h q t {r = n + 1} {keys′ = keys′} {seen′ = seen′} (rw two (rw (not-true taken x) at k)))
+        scan-hop-bad r b x = bad-scanned b (J.stops (l .judging) h q t {r = n + 1} {keys′ = keys′} {seen′ = seen′} (rw two (rw (not-true taken x) at step)))
 
-        pub scan-hop : (best′ : Ruling) → best′ ≡ newer d best (hopOf v) → not taken ≡ false → (m : ℕ) → m ≡ n + 1
+        pub scan-hop : (best′ : Ruling) → best′ ≡ newer d best (hopBy r) → not taken ≡ false → (m : ℕ) → m ≡ n + 1
             → Scanning s from d keys′ seen′ m best′ flags next
         unfolding fieldTaken keysWith ruledBy flaggedBy
         scan-hop best′ e x m is =
             let on = J.on (l .judging) h q t in
             rw is
             (record {
-              judging = J.goes-on (l .judging) h q t (rw two (rw (not-false taken x) at k));
-              ruled = fold-on (l .ruled) on (cc);
+              judging = J.goes-on (l .judging) h q t (rw two (rw (not-false taken x) at step));
+              ruled = fold-on (l .ruled) on (cc hop-is);
               flagged = fold-on (l .flagged) on (rw two);
             })
 

@@ -1,7 +1,7 @@
 -- A store as the code reads it: one law for each way out, over what the tests and calls before it say. By computation.
 use Rattle.handler.proofs
 use proofs.{RouteLaws.received-lent, StageLaws.done-dropped}
-use Prim.Native.Nat.{ℕ, _+_, _*_, _/_, _%_, _^_, _≤_, _<_}
+use Prim.Native.Nat.{ℕ, _+_, _-_, _*_, _/_, _%_, _^_, _≤_, _<_}
 use mathlib.Core.Path.{_≡_, refl, sym, _∙_}
 use mathlib.Core.List.{List}
 use mathlib.Core.Bool.{Bool, true, false, not}
@@ -9,7 +9,7 @@ use native.Mathlib.Omega.{arith}
 use borrow.Author.Needs.{needs}
 use borrow.Author.Tests.{lt-ltb, le-ltb, le-leb, lt-leb, eq-eqb, ne-eqb, not-true, not-false}
 use lib.Dec.{leb, eqb}
-use lib.ListN.{length, getD}
+use lib.ListN.{length, getD, take, drop}
 use Rattle.rules.specs as rules
 use rules.{Settings.nicknameValid, Handling.routed}
 use rules.declared.{Header.Header, NextHop.NextHop, Ruling.Ruling}
@@ -21,7 +21,8 @@ use specs.declared.way.Own.{Own}
 use specs.declared.handling.Received.{Received}
 use specs.declared.handling.Received.the-variants.{Refused, Trill}
 use specs.{Shapes.droppedBy, Shapes.Owns, Shapes.onlyFor, Shapes.waysBy, Tasks.receivedBy, Tasks.Receiving, Tasks.Both}
-use proofs.TaskLaws.{both-of, finds, back-message, both-plain, front-count, front-done, front-room}
+use proofs.TaskLaws.{both-of, finds, back-message, both-plain, copies, front-count, front-done, front-room}
+use proofs.Stages.{lent-rest}
 use Rattle.stores.proofs.PlaceLaws.{good-whole, step-past, step-up, step-stay, place-hinted, place-searched, for-past, for-other}
 use Rattle.stores.specs.Store.{nicknameIn, countIn, destAt, hopOf, hopAt, lastAt, hintAt, placeIn, hopFor, waysIn, storeGood, handledIn, Whole}
 use Rattle.rules.specs.Answer as A
@@ -148,9 +149,20 @@ own-in w = record { named = refl; addressed = refl }
 pub ruleset own-in-laws = (needs, own-in)
 
 -- a frame that was received, by a good store
-pub ruleset message-in-laws = (needs, back-message, front-count, front-done, front-room)
+-- a store lent anew, from its start on
+all-lent : (w : List ℕ) → take (length w - 0) (drop 0 w) ≡ w
+all-lent w = lent-rest w 0
+
+pub whole-lent : (w : List ℕ) → Whole w → Whole (take (length w - 0) (drop 0 w))
+whole-lent w x = rw (all-lent w) x
+
+pub place-lent : (w : List ℕ) (d place : ℕ) → place ≡ placeIn (take (length w - 0) (drop 0 w)) (countIn (take (length w - 0) (drop 0 w))) d
+    → place ≡ placeIn w (countIn w) d
+place-lent w d place e = rw (all-lent w) at e
+
+pub ruleset message-in-laws = (needs, whole-lent, place-lent, back-message, front-count, front-done, front-room)
 
 pub edition-in : (w : List ℕ) (b known : Bool) → b ≡ waysIn w .rfc7179 → b ≡ known → known ≡ waysIn w .rfc7179
 edition-in w b known e k = sym k ∙ e
 
-pub ruleset handle-in-laws = (needs, both-plain, edition-in)
+pub ruleset handle-in-laws = (needs, both-plain, edition-in, copies)

@@ -465,3 +465,22 @@ front-done a r out out1 d same =
           ∙ ap (λ (y : List ℕ). a .octets ++ y) (sym rest ∙ rw (take-append-drop 576 out)));
       alone = d .alone;
     }
+
+-- what is lent in a copy
+module _ (f : List ℕ) (h x : Header) (same : x ≡ h) where
+  pub copy-ready : Ready f h → Ready f x
+  copy-ready is = rw same is
+
+  module _ (r a : Answer) (made : r ≡ a) (S : Ways) (clock out out1 : List ℕ) where
+    pub copy-both : (beside beside1 : List ℕ) → Both (routed S clock f x) a out out1 beside beside1 → Both (routed S clock f h) r out out1 beside beside1
+    copy-both beside beside1 d = rw (made, ← same) d
+
+    pub copy-done : Done (messaged S clock f x) a out out1 → Done (messaged S clock f h) r out out1
+    copy-done d = rw (made, ← same) d
+
+pub copy-owns : (own x : Own) → x ≡ own → (S : Ways) → Owns own S → Owns x S
+copy-owns own x same S o = rw same o
+
+pub ruleset copies = (copy-ready, copy-both, copy-done, copy-owns)
+
+pub ruleset apart-in-laws = (needs, copies)

@@ -5,23 +5,22 @@ use mathlib.Core.Path.{_≡_, refl, sym, _∙_}
 use mathlib.Core.List.{List, [], _∷_, _++_}
 use mathlib.Core.Option.{Option}
 use mathlib.Core.Bool.{Bool, true, false, not, _&&_, _||_, or-assoc, true≢false, false≢true}
-use Prim.Native.Nat.{ℕ, zero, suc, _+_, _*_, _%_, _<_, _≤_, _-_}
+use Prim.Native.Nat.{ℕ, zero, suc, _+_, _*_, _<_, _≤_, _-_}
 use native.Mathlib.Omega.{arith}
 use native.Mathlib.Numerals.{add-one}
 use borrow.Author.Needs.{needs}
 use borrow.Author.Tests.{eq-eqb, ne-eqb, lt-ltb, not-true, not-false}
-use lib.Bits.{bitOr}
 use lib.Dec.{eqb}
 use lib.ListN.{length, getD, take, set, length-set, replicate, length-append}
 use lib.Seq.{slice, slice-cons, slice-empty, getD-set-same, getD-set-other, take-suc-set, length-take-le}
 use Rattle.rules.specs as rules
-use rules.{Octets.be16, Octets.be32, Octets.part, Campus.known}
+use rules.{Octets.part, Campus.known}
 use rules.Fields.{hopSize, field, cut, fieldAt, fieldsAt, lengthGood}
 use rules.Settings.{hopGood, hopOf, Settings, serialMet, withField, opens, opened, continues, settingsFrom, settingsOf}
 use Rattle.rules.proofs as ruleLaws
 use ruleLaws.TestLaws.{and-no, or-no, or-yes, by-test, by-equal}
 use Rattle.octets.specs.Flags.{flagBy}
-use Rattle.octets.proofs.{Bits.join48-or, FlagLaws.flag-continues}
+use Rattle.octets.proofs.FlagLaws.{flag-continues}
 use Rattle.handler.specs
 use specs.Keys.{keyOf, mixOf, slotBy, markBy, markedBy, coversBy, keyMet, Marked, Kept, hopTaken, fieldTaken, withKey, keysWith, Taking, Verdict}
 use ruleLaws.FieldLaws.{field-read, fields-at-end, fields-at-cut, fields-at-on}
@@ -53,12 +52,6 @@ unmet key (k ∷ keys) (suc n) f = rw (ne-eqb k key (f 0 (omega arith))) (unmet 
 pub uncovered : (old mark : ℕ) → (old ≡ mark → ⊥) → (old ≡ 255 → ⊥) → coversBy old mark ≡ false
 unfolding coversBy
 uncovered old mark h k = rw (ne-eqb old mark h, ne-eqb old 255 k)
-
--- a record's key, as the code joins it
-pub key-made : (v : List ℕ) (a b : ℕ) → a ≡ be16 v 0 → b ≡ be32 v 10 → bitOr (a * 4294967296 % 18446744073709551616) b ≡ keyOf (hopOf v)
-key-made v a b ea eb = rw (← ea, ← eb) (join48-or a b (omega arith) (omega arith))
-
-pub ruleset key-of-laws = (needs, key-made)
 
 -- one more key
 pub met-snoc : (key k : ℕ) (keys : List ℕ) → keyMet key (keys ++ (k ∷ [])) ≡ (keyMet key keys || eqb k key)
@@ -124,15 +117,15 @@ pub unchanged : {good : Bool} {met keys seen : List ℕ} {n : ℕ} → Kept keys
 unchanged k e same = record { validated = e; now-met = λ _. sym same; kept = λ _. k }
 
 -- the ways out of one more record, over what the code tests
-module _ (keys seen : List ℕ) (n : ℕ) (v : List ℕ) where
+module _ (keys seen : List ℕ) (n size : ℕ) (r : NextHop) where
   abbrev pub AdmitTo : Bool → List ℕ → List ℕ → Type 0
-  AdmitTo taken = Taking (hopTaken (take n keys) n v) (withKey (take n keys) v) taken (n + 1)
+  AdmitTo taken = Taking (hopTaken (take n keys) n size r) (withKey (take n keys) r) taken (n + 1)
 
-  pub admit-short : (sized : Bool) → sized ≡ hopSize (length v) → not sized ≡ true → AdmitTo false keys seen
+  pub admit-short : (sized : Bool) → sized ≡ hopSize size → not sized ≡ true → AdmitTo false keys seen
   unfolding hopTaken
   admit-short sized is t = refused (rw (← is, not-true sized t))
 
-  pub admit-bad : (good : Bool) → good ≡ hopGood (hopOf v) → not good ≡ true → AdmitTo false keys seen
+  pub admit-bad : (good : Bool) → good ≡ hopGood r → not good ≡ true → AdmitTo false keys seen
   unfolding hopTaken
   admit-bad good is t = refused (rw (← is, not-true good t, and-no))
 
@@ -140,15 +133,15 @@ module _ (keys seen : List ℕ) (n : ℕ) (v : List ℕ) where
   unfolding hopTaken
   admit-full e = refused (rw (e, and-no, and-no))
 
-  module _ (key mixed slot mark : ℕ) (its-key : key ≡ keyOf (hopOf v)) (its-mix : mixed ≡ mixOf key) (its-slot : slot ≡ slotBy mixed)
+  module _ (key mixed slot mark : ℕ) (its-key : key ≡ keyOf r) (its-mix : mixed ≡ mixOf key) (its-slot : slot ≡ slotBy mixed)
       (its-mark : mark ≡ markBy mixed) where
     module _ (new : Bool) (is : new ≡ not (keyMet key (take n keys))) where
       pub admit-met : not new ≡ true → AdmitTo false keys seen
       unfolding hopTaken
       admit-met t = refused (rw (← its-key, ← is, not-true new t, and-no, and-no))
 
-      pub admit-new : not new ≡ false → slot < 256 → (sized : Bool) → sized ≡ hopSize (length v) → not sized ≡ false → (good : Bool)
-          → good ≡ hopGood (hopOf v) → not good ≡ false
+      pub admit-new : not new ≡ false → slot < 256 → (sized : Bool) → sized ≡ hopSize size → not sized ≡ false → (good : Bool)
+          → good ≡ hopGood r → not good ≡ false
           → (n ≡ 64 → ⊥) → Kept keys seen n → (with : ℕ) → with ≡ markedBy (getD seen slot 0) mark → AdmitTo true (set keys n key) (set seen slot with)
       unfolding hopTaken
       admit-new t h sized e-s s good e-g g room k with e-w =
@@ -175,7 +168,7 @@ pub record Agree (hops : List NextHop) (met : List ℕ) : Type 0 where
   pub count : length hops ≡ length met
   pub alike : (r : NextHop) → r .serial < 4294967296 → serialMet r hops ≡ keyMet (keyOf r) met
 
-agree-more : (hops : List NextHop) (met v : List ℕ) → Agree hops met → Agree (hops ++ (hopOf v ∷ [])) (withKey met v)
+agree-more : (hops : List NextHop) (met v : List ℕ) → Agree hops met → Agree (hops ++ (hopOf v ∷ [])) (withKey met (hopOf v))
 agree-more hops met v a =
     record {
       count = rw (length-append, length-append, a .count);

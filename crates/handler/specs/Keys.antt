@@ -54,18 +54,18 @@ pub record Kept (keys seen : List ℕ) (n : ℕ) : Type 0 where
   pub marked : Marked keys seen n
 
 -- whether one more record, or field, goes with the n keys met so far
-unfoldable pub hopTaken : List ℕ → ℕ → List ℕ → Bool
-hopTaken keys n v = hopSize (length v) && (hopGood (hopOf v) && ltb n hopsMost && not (keyMet (keyOf (hopOf v)) keys))
+unfoldable pub hopTaken : List ℕ → ℕ → ℕ → NextHop → Bool
+hopTaken keys n size r = hopSize size && (hopGood r && ltb n hopsMost && not (keyMet (keyOf r) keys))
 
 unfoldable pub fieldTaken : List ℕ → ℕ → ℕ → List ℕ → Bool
-fieldTaken keys n tag v = if eqb tag 2 then hopTaken keys n v else eqb (flagBy tag v) 0
+fieldTaken keys n tag v = if eqb tag 2 then hopTaken keys n (length v) (hopOf v) else eqb (flagBy tag v) 0
 
 -- the keys met once one more record, or field, is taken
-abbrev pub withKey : List ℕ → List ℕ → List ℕ
-withKey keys v = keys ++ (keyOf (hopOf v) ∷ [])
+abbrev pub withKey : List ℕ → NextHop → List ℕ
+withKey keys r = keys ++ (keyOf r ∷ [])
 
 unfoldable pub keysWith : List ℕ → ℕ → List ℕ → List ℕ
-keysWith keys tag v = if eqb tag 2 then withKey keys v else keys
+keysWith keys tag v = if eqb tag 2 then withKey keys (hopOf v) else keys
 
 -- whether a record or field is taken; then the first r keys are `met`
 pub record Taking (good : Bool) (met : List ℕ) (taken : Bool) (r : ℕ) (keys seen : List ℕ) : Type 0 where

@@ -70,6 +70,21 @@ pub fn replied(refusal: u8, number: u8, written: usize, neighbour: u16) -> Answe
     wrote(number, written, neighbour)
 }
 
+// As `header::copy_of`, of what such a function answered.
+pub fn copy_of(a: Answer) -> Answer
+    ensures { λ r. ⌜ r ≡ a ⌝ }
+{
+    Answer {
+        number: a.number,
+        written: a.written,
+        start: a.start,
+        length: a.length,
+        neighbour: a.neighbour,
+        beside: a.beside,
+        beside_neighbour: a.beside_neighbour,
+    }
+}
+
 // With a reply beside it.
 pub fn with_beside(a: Answer, reply: Answer) -> Answer
     ensures { λ r. ⌜ r ≡ besideBy a reply ⌝ }

@@ -103,3 +103,16 @@ pub fn we_are_egress(nickname: u16, h: Header) -> bool
     }
     h.egress == rules::ANY_RBRIDGE
 }
+
+// The same in a place of its own. What is lent to a function that stays one is kept in memory, and a processor waits for what was stored in one
+// width and is read in another; so only a copy is lent.
+pub fn copy_of(h: Header) -> Header
+    ensures { λ r. ⌜ r ≡ h ⌝ }
+{
+    Header {
+        place: h.place,
+        word: h.word,
+        egress: h.egress,
+        ingress: h.ingress,
+    }
+}

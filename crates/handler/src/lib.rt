@@ -77,10 +77,14 @@ fn handle_by(
     if header::op_length(h.word) == 0 {
         return plain_by(own, j, clock, frame, h, out);
     }
+    let own = way::copy_of(own);
+    let h = header::copy_of(h);
     if j.rfc7179 {
-        return area_by(settings, own, j, true, clock, frame, h, out, beside);
+        let a = area_by(settings, own, j, true, clock, frame, h, out, beside);
+        return answers::copy_of(a);
     }
-    area_by(settings, own, j, false, clock, frame, h, out, beside)
+    let a = area_by(settings, own, j, false, clock, frame, h, out, beside);
+    answers::copy_of(a)
 }
 
 // Without an area.
@@ -116,8 +120,17 @@ fn local_by(
             start,
             length,
         } => answers::unwritten(number, start, length),
-        Local::Message => message_by(own, j, clock, frame, h, out),
+        Local::Message => apart_by(own, j, clock, frame, h, out),
     }
+}
+
+// A channel message, with copies lent.
+fn apart_by(own: Own, j: Validated, clock: &[u8], frame: &[u8], h: Header, out: &mut [u8]) -> Answer
+    requires { ⌜ Ready (now frame) h × (length (now clock) ≡ 6) × (576 ≤ length (now out)) ⌝ }
+    ensures { λ r. ⌜ Done (messaged (waysBy (lookupBy own j)) (now (clock .entry)) (now (frame .entry)) h) r (now (out .entry)) (now (out .exit)) ⌝ }
+{
+    let a = message_by(way::copy_of(own), j, clock, frame, header::copy_of(h), out);
+    answers::copy_of(a)
 }
 
 // A channel message. As long as a reply can be the buffer's length is known when this is compiled.
@@ -291,10 +304,14 @@ fn handle_in(
     if header::op_length(h.word) == 0 {
         return plain_in(store, own, clock, frame, h, out);
     }
+    let own = way::copy_of(own);
+    let h = header::copy_of(h);
     if store::rfc7179(store) {
-        return area_in(store, own, true, clock, frame, h, out, beside);
+        let a = area_in(store, own, true, clock, frame, h, out, beside);
+        return answers::copy_of(a);
     }
-    area_in(store, own, false, clock, frame, h, out, beside)
+    let a = area_in(store, own, false, clock, frame, h, out, beside);
+    answers::copy_of(a)
 }
 
 // Without an area.
@@ -338,8 +355,31 @@ fn local_in(
             start,
             length,
         } => answers::unwritten(number, start, length),
-        Local::Message => message_in(store, own, clock, frame, h, out),
+        Local::Message => apart_in(store, own, clock, frame, h, out),
     }
+}
+
+// A channel message, with copies lent.
+fn apart_in(
+    store: &[u64],
+    own: Own,
+    clock: &[u8],
+    frame: &[u8],
+    h: Header,
+    out: &mut [u8],
+) -> Answer
+    requires { ⌜ Whole (now store) × Owns own (waysIn (now store)) × Ready (now frame) h × (length (now clock) ≡ 6) × (576 ≤ length (now out)) ⌝ }
+    ensures { λ r. ⌜ Done (messaged (waysIn (now (store .entry))) (now (clock .entry)) (now (frame .entry)) h) r (now (out .entry)) (now (out .exit)) ⌝ }
+{
+    let a = message_in(
+        store,
+        way::copy_of(own),
+        clock,
+        frame,
+        header::copy_of(h),
+        out,
+    );
+    answers::copy_of(a)
 }
 
 // A channel message.
@@ -354,7 +394,7 @@ fn message_in(
     requires { ⌜ Whole (now store) × Owns own (waysIn (now store)) × Ready (now frame) h × (length (now clock) ≡ 6) × (576 ≤ length (now out)) ⌝ }
     ensures { λ r. ⌜ Done (messaged (waysIn (now (store .entry))) (now (clock .entry)) (now (frame .entry)) h) r (now (out .entry)) (now (out .exit)) ⌝ }
 {
-    let place = store::place_in(store, h.ingress);
+    let place = store::place_in(&store[0..], h.ingress);
     let t = store::lookup(store, own, h.ingress, place);
     handling::message(t, clock, frame, h, &mut out[..576])
 }

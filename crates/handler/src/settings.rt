@@ -1,9 +1,11 @@
 // The settings of one switch, read from the lent octets (document 01, "Settings").
 use crate::way::Own;
+use octets::Record;
 use rules::FieldRead;
 use rules::Ruling;
 ghost use mathlib.Core.Path.{_≡_};
 ghost use Rattle.rules.specs.Settings as S;
+ghost use Rattle.octets.specs.Records.{hopBy};
 ghost use Rattle.handler.specs.Shapes.{Owns};
 
 pub fn own_of(s: &[u8]) -> Own
@@ -23,18 +25,18 @@ pub fn own_of(s: &[u8]) -> Own
     let v = &s[3..next];
     Own {
         nickname: octets::be16(v, 0),
-        word: octets::be48(v, 2) << 16,
+        word: octets::be64(v, 0) << 16,
     }
 }
 
-// The record that rules once the one in `v` is seen too.
-pub fn newer(d: u16, best: Ruling, v: &[u8]) -> Ruling
-    ensures { λ r. ⌜ r ≡ S.newer d best (S.hopOf (now (v .entry))) ⌝ }
+// The record that rules once one more is seen.
+pub fn newer(d: u16, best: Ruling, more: Record) -> Ruling
+    ensures { λ r. ⌜ r ≡ S.newer d best (hopBy more) ⌝ }
 {
-    if octets::be16(v, 0) != d {
+    let r = octets::hop_of(more);
+    if r.destination != d {
         return best;
     }
-    let r = octets::hop_of(v);
     let Ruling::Found(q) = best else {
         return Ruling::Found(r);
     };

@@ -2,6 +2,7 @@
 use crate::settings;
 use crate::way::Lookup;
 use crate::way::Own;
+use octets::Record;
 use rules::FieldRead;
 use rules::Ruling;
 ghost use mathlib.Core.Path.{_≡_};
@@ -9,17 +10,17 @@ ghost use mathlib.Core.Bool.{true, false, _||_, not};
 ghost use Prim.Native.Nat.{_+_, _<_, _≤_};
 ghost use lib.ListN.{length, take};
 ghost use Rattle.rules.specs.Fields.{field};
-ghost use Rattle.rules.specs.Settings as S;
 ghost use Rattle.handler.specs.Keys.{keyOf, mixOf, slotBy, markBy, coversBy, markedBy, keyMet, Kept, hopTaken, withKey, Taking, Scanned, lookupBy, ValidatedBy};
 ghost use Rattle.octets.specs.Flags.{flagTag};
+ghost use Rattle.octets.specs.Records.{hopBy};
 ghost use Rattle.stores.specs.Store.{unlessWithdrawn};
 ghost use Rattle.handler.specs.Shapes.{flaggedBy};
 
 // Destination above serial.
-fn key_of(v: &[u8]) -> u64
-    ensures { λ r. ⌜ r ≡ keyOf (S.hopOf (now (v .entry))) ⌝ }
+fn key_of(r: Record) -> u64
+    ensures { λ k. ⌜ k ≡ keyOf (hopBy r) ⌝ }
 {
-    (octets::be16(v, 0) as u64) << 32 | octets::be32(v, 10) as u64
+    (r.head >> 48 << 32) + r.tail % 4294967296
 }
 
 // The multipliers spread keys whose destinations, serials or both go up by one.
@@ -84,21 +85,21 @@ fn fresh(keys: &[u64], n: usize, key: u64, old: u8, mark: u8) -> bool
     !met(keys, n, key)
 }
 
-// Whether the record in `v` goes with the n before it; then its key is kept.
-fn admit(keys: &mut [u64], seen: &mut [u8], n: usize, v: &[u8]) -> bool
+// Whether a record of a size goes with the n before it; then its key is kept.
+fn admit(keys: &mut [u64], seen: &mut [u8], n: usize, size: usize, r: Record) -> bool
     requires { ⌜ Kept (now keys) (now seen) n ⌝ }
-    ensures { λ r. ⌜ Taking (hopTaken (take n (now (keys .entry))) n (now (v .entry))) (withKey (take n (now (keys .entry))) (now (v .entry))) r (n + 1) (now (keys .exit)) (now (seen .exit)) ⌝ }
+    ensures { λ b. ⌜ Taking (hopTaken (take n (now (keys .entry))) n size (hopBy r)) (withKey (take n (now (keys .entry))) (hopBy r)) b (n + 1) (now (keys .exit)) (now (seen .exit)) ⌝ }
 {
-    if !octets::hop_size(v.len()) {
+    if !octets::hop_size(size) {
         return false;
     }
-    if !octets::hop_good(v) {
+    if !octets::record_good(r) {
         return false;
     }
     if n == 64 {
         return false;
     }
-    let key = key_of(v);
+    let key = key_of(r);
     let mixed = mix(key);
     let slot = slot_of(mixed);
     let mark = mark_of(mixed);
@@ -167,11 +168,12 @@ fn scan_from(s: &[u8], from: usize, d: u16) -> Scan
         };
         let v = &s[at + 3..next];
         if tag == 2 {
-            if !admit(&mut keys, &mut seen, n, v) {
+            let r = octets::record_of(v);
+            if !admit(&mut keys, &mut seen, n, v.len(), r) {
                 return bad_scan();
             }
             n += 1;
-            best = settings::newer(d, best, v);
+            best = settings::newer(d, best, r);
             at = next;
         } else {
             if octets::flag_code(tag, v) != 0 {

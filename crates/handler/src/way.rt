@@ -19,6 +19,16 @@ pub struct Own {
     pub word: u64,
 }
 
+// As `header::copy_of`.
+pub fn copy_of(own: Own) -> Own
+    ensures { λ r. ⌜ r ≡ own ⌝ }
+{
+    Own {
+        nickname: own.nickname,
+        word: own.word,
+    }
+}
+
 // With the strip flag, the edition, and the next hop for the one destination that is asked for.
 pub struct Lookup {
     pub own: Own,

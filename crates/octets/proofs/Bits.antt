@@ -13,28 +13,29 @@ or-add x k b e h =
     let s : x / 2 ^ k * 2 ^ k ≡ x = sym (add-zero (x / 2 ^ k * 2 ^ k)) ∙ ap (λ (r : ℕ). x / 2 ^ k * 2 ^ k + r) (sym e) ∙ split x k in
     ap (λ (y : ℕ). bitOr y b) (sym s) ∙ or-shifted (x / 2 ^ k) k b h ∙ ap (λ (y : ℕ). y + b) s
 
--- two numbers of 8, 16 and 16 and 32 bits side by side, as the code computes them
+-- the numbers below it are those of 64 bits
+abbrev range64 : ℕ
+range64 = 18446744073709551616
+
+-- two numbers of 8, 16 and 32 bits side by side, as the code computes them
 pub pair-or : (a b : ℕ) → a < 256 → b < 256 → bitOr (a * 256 % 65536) b ≡ a * 256 + b
 pair-or a b ha hb = or-add (a * 256 % 65536) 8 b (omega arith) (omega arith) ∙ omega arith
 
 pub join32-or : (a b : ℕ) → a < 65536 → b < 65536 → bitOr (a * 65536 % 4294967296) b ≡ a * 65536 + b
 join32-or a b ha hb = or-add (a * 65536 % 4294967296) 16 b (omega arith) (omega arith) ∙ omega arith
 
-pub join48-or : (a b : ℕ) → a < 65536 → b < 4294967296 → bitOr (a * 4294967296 % 18446744073709551616) b ≡ a * 4294967296 + b
-join48-or a b ha hb = or-add (a * 4294967296 % 18446744073709551616) 32 b (omega arith) (omega arith) ∙ omega arith
-
-pub join64-or : (a b : ℕ) → a < 4294967296 → b < 4294967296 → bitOr (a * 4294967296 % 18446744073709551616) b ≡ a * 4294967296 + b
-join64-or a b ha hb = or-add (a * 4294967296 % 18446744073709551616) 32 b (omega arith) (omega arith) ∙ omega arith
+pub join64-or : (a b : ℕ) → a < 4294967296 → b < 4294967296 → bitOr (a * 4294967296 % range64) b ≡ a * 4294967296 + b
+join64-or a b ha hb = or-add (a * 4294967296 % range64) 32 b (omega arith) (omega arith) ∙ omega arith
 
 -- one octet more above a number below 2 ^ k
-or-above : (k b : ℕ) {x a : ℕ} → x ≡ a → a < 2 ^ k → b * 2 ^ k < 18446744073709551616 → bitOr x (b * 2 ^ k % 18446744073709551616) ≡ a + b * 2 ^ k
+or-above : (k b : ℕ) {x a : ℕ} → x ≡ a → a < 2 ^ k → b * 2 ^ k < range64 → bitOr x (b * 2 ^ k % range64) ≡ a + b * 2 ^ k
 or-above k b {a = a} e h fits = rw (e, mod-eq-of-lt fits) (or-shifted-r b k a h ∙ omega arith)
 
 -- eight octets as a number, the low one first
 pub octets-or : (a b c d e f g h : ℕ) → a < 256 → b < 256 → c < 256 → d < 256 → e < 256 → f < 256 → g < 256 → h < 256
-    → bitOr (bitOr (bitOr (bitOr (bitOr (bitOr (bitOr a (b * 256 % 18446744073709551616)) (c * 65536 % 18446744073709551616))
-    (d * 16777216 % 18446744073709551616)) (e * 4294967296 % 18446744073709551616)) (f * 1099511627776 % 18446744073709551616))
-    (g * 281474976710656 % 18446744073709551616)) (h * 72057594037927936 % 18446744073709551616) ≡ lowFirst a b c d e f g h
+    → bitOr (bitOr (bitOr (bitOr (bitOr (bitOr (bitOr a (b * 256 % range64)) (c * 65536 % range64))
+    (d * 16777216 % range64)) (e * 4294967296 % range64)) (f * 1099511627776 % range64))
+    (g * 281474976710656 % range64)) (h * 72057594037927936 % range64) ≡ lowFirst a b c d e f g h
 unfolding lowFirst
 octets-or a b c d e f g h ha hb hc hd he hf hg hh =
     let to-16 = or-above 8 b {x = a} {a = a} refl (omega arith) (omega arith) in
@@ -48,7 +49,7 @@ octets-or a b c d e f g h ha hb hc hd he hf hg hh =
 digit : (k o low rest n : ℕ) → n ≡ (rest * 256 + o) * 2 ^ k + low → low < 2 ^ k → o < 256 → n / 2 ^ k % 256 ≡ o
 digit k o low rest n e h octet = rw (e, high (rest * 256 + o) k h) (omega arith)
 
--- eight octets turned are the same eight from the other end
+-- eight octets in the other order
 pub swapped-octets : (a b c d e f g h n : ℕ) → n ≡ lowFirst a b c d e f g h
     → a < 256 → b < 256 → c < 256 → d < 256 → e < 256 → f < 256 → g < 256 → h < 256 → swapped n ≡ lowFirst h g f e d c b a
 unfolding lowFirst

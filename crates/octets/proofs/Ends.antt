@@ -72,7 +72,7 @@ module _ (s : List ℕ) (at : ℕ) where
       let low : (i : ℕ) → getD s i 0 ≡ octet s i = λ i. omega (arith, octets i) in
       e ∙ rw (← low at, ← low (at + 1), ← low (at + 2), ← low (at + 3), ← low (at + 4), ← low (at + 5), ← low (at + 6), ← low (at + 7))
 
-  -- two turns of the octets
+  -- the low octet first, and then in the other order
   pub be64-swapped : (n r : ℕ) → n ≡ le64 s at → r ≡ swapped n → r ≡ be64 s at
   unfolding lowFirst
   be64-swapped n r e er = er ∙ swapped-octets _ _ _ _ _ _ _ _ n e (omega arith) (omega arith) (omega arith) (omega arith)
@@ -114,14 +114,15 @@ eight-octets n a b c d e f g h ea eb ec ed ee ef eg eh =
     let fifth : e ≡ n / 65536 / 256 % 256 = omega arith in
     rw (first, second, third, fourth, fifth, ef, eg, eh)
 
-pub turned : (n a b c d e f g h r : ℕ) → r ≡ lowFirst a b c d e f g h → a ≡ n / 72057594037927936 % 256 → b ≡ n / 281474976710656 % 256
+pub ruleset eight-laws = (needs, eight-octets)
+
+-- and in the other order
+pub swapped-made : (n a b c d e f g h r : ℕ) → r ≡ lowFirst a b c d e f g h → a ≡ n / 72057594037927936 % 256 → b ≡ n / 281474976710656 % 256
     → c ≡ n / 1099511627776 % 256 → d ≡ n / 4294967296 % 256 → e ≡ n / 16777216 % 256 → f ≡ n / 65536 % 256 → g ≡ n / 256 % 256 → h ≡ n % 256
     → r ≡ swapped n
-turned n a b c d e f g h r er ea eb ec ed ee ef eg eh = er ∙ rw (ea, eb, ec, ed, ee, ef, eg, eh)
+swapped-made n a b c d e f g h r er ea eb ec ed ee ef eg eh = er ∙ rw (ea, eb, ec, ed, ee, ef, eg, eh)
 
-pub ruleset swap64-laws = (needs, turned)
-
-pub ruleset eight-laws = (needs, eight-octets)
+pub ruleset swap64-laws = (needs, swapped-made)
 
 -- nothing written
 pub wrote-none : (out : List ℕ) (at : ℕ) → Wrote [] at at out out
@@ -194,10 +195,10 @@ module _ (d : List ℕ) (at : ℕ) (s : List ℕ) where
         let size : i + n - i ≡ n = omega arith in
         rw (e, is, size, take-add i n s) (put-put d at (take i s) (at + i) (take n (drop i s)) (rw (length-take-le i s h)))
 
-    -- the last one of `fill_blocks` is written over the end of the one before
-    pub blocks-end : (last : ℕ) → last + 16 ≡ length s → last ≤ i → i ≤ length s → at + length s ≤ length d
-        → out′ ≡ put out (at + last) (take (length s - last) (drop last s)) → out′ ≡ put d at s
-    blocks-end last n h k room e =
+    -- the last one is written over the end of what is there
+    pub parts-end : (last : ℕ) → out′ ≡ put out (at + last) (take (length s - last) (drop last s)) → last ≤ i → i ≤ length s
+        → at + length s ≤ length d → out′ ≡ put d at s
+    parts-end last e h k room =
         let long = length-take-le last s (omega arith) in
         let more : last + (i - last) ≡ i = omega arith in
         let rest : take (length s - last) (drop last s) ≡ drop last s = take-all (length s - last) (drop last s) (rw length-drop (omega arith)) in
@@ -208,4 +209,23 @@ module _ (d : List ℕ) (at : ℕ) (s : List ℕ) where
 
 pub ruleset parts = (parts-begin, parts-on)
 
-pub ruleset blocks-laws = (needs, parts, blocks-end)
+pub ruleset blocks-laws = (needs, parts, parts-end)
+
+-- the part that `fill_long` copies in the loop
+module _ (s : List ℕ) where
+  abbrev bulk : ℕ
+  bulk = (length s - 1) / 32 * 32
+
+  pub bulk-near : length s - 32 ≤ bulk
+  bulk-near = omega arith
+
+  pub bulk-most : bulk ≤ length s
+  bulk-most = omega arith
+
+  pub bulk-size : bulk ≡ length (take bulk s)
+  bulk-size = sym (length-take-le bulk s bulk-most)
+
+  pub bulk-fits : (at room : ℕ) → at + length s ≤ room → at + length (take bulk s) ≤ room
+  bulk-fits at room all = rw (← bulk-size) (omega (arith, bulk-most))
+
+pub ruleset long-laws = (needs, bulk-near, bulk-most, bulk-size, bulk-fits, parts-end)

@@ -1,33 +1,69 @@
--- Whether a record is good, one law for each way out, by the tests in their order.
-use mathlib.Core.Path.{_≡_}
+-- A record in two numbers has the next hop that its octets have, by their parts; and whether it is good, one law for each way out, by the tests in
+-- their order.
+use mathlib.Core.Path.{_≡_, refl}
 use mathlib.Core.List.{List}
-use mathlib.Core.Bool.{Bool, true, false, not}
-use Prim.Native.Nat.{ℕ, _<_, _≤_}
+use mathlib.Core.Bool.{Bool, true, false, not, _&&_}
+use Prim.Native.Nat.{ℕ, _+_, _*_, _/_, _%_, _<_, _≤_}
+use native.Mathlib.Omega.{arith}
 use borrow.Author.Needs.{needs}
-use borrow.Author.Tests.{not-true, not-false, lt-leb, le-leb}
-use lib.Dec.{leb}
-use Rattle.rules.specs.Octets.{be16, be48}
-use Rattle.rules.specs.Settings.{nicknameValid, macGood, hopGood, hopOf}
+use borrow.Author.Tests.{not-true, not-false, ne-eqb}
+use lib.Dec.{leb, eqb}
+use Rattle.rules.specs.Octets.{be16, be32, be48}
+use Rattle.rules.specs.Settings.{nicknameValid, hopGood, hopOf}
+use Rattle.rules.proofs.TestLaws.{tests, and-no, and-yes}
+use Rattle.octets.specs.declared.values.Record.{Record}
+use Rattle.octets.specs.Words.{be64}
+use Rattle.octets.specs.Records.{recordOf, hopBy}
 use Rattle.octets.proofs.Macs.{withdrawn-or-valid}
+use Rattle.octets.proofs.WordLaws.{first-part, second-part, low-half}
 
-module _ (v : List ℕ) (d : ℕ) (is-d : d ≡ be16 v 0) (a : Bool) (is-a : a ≡ nicknameValid d) where
-  pub destination-bad : not a ≡ true → false ≡ hopGood (hopOf v)
+hop-read : (v : List ℕ) (head tail : ℕ) → head ≡ be64 v 0 → tail ≡ be64 v 6 → hopBy (record { head = head; tail = tail; vlan = be16 v 14 }) ≡ hopOf v
+hop-read v head tail eh et =
+    let mac : be32 v 4 * 65536 + be16 v 8 ≡ be48 v 4 = omega arith in
+    rw (first-part v 0 head eh, second-part v 0 head eh, low-half v 0 head eh, second-part v 6 tail et, low-half v 6 tail et, mac)
+
+pub hop-same : (v : List ℕ) → hopBy (recordOf v) ≡ hopOf v
+hop-same v = hop-read v (be64 v 0) (be64 v 6) refl refl
+
+module _ (r : Record) (a : Bool) (is-a : a ≡ nicknameValid (r .head / 281474976710656)) where
+  abbrev mac : ℕ
+  mac = r .head % 4294967296 * 65536 + r .tail / 4294967296 % 65536
+
+  pub destination-bad : not a ≡ true → false ≡ hopGood (hopBy r)
   unfolding hopGood
   destination-bad t = cc (not-true a t)
 
-  module _ (t : not a ≡ false) (b : Bool) (is-b : b ≡ macGood (be48 v 4)) where
-    pub mac-bad : not b ≡ true → false ≡ hopGood (hopOf v)
+  module _ (t : not a ≡ false) where
+    valid : nicknameValid (r .head / 281474976710656) ≡ true
+    valid = cc (not-false a t)
+
+    pub group-bad : (r .head / 16777216 % 2 ≡ 0 → ⊥) → false ≡ hopGood (hopBy r)
     unfolding hopGood
-    mac-bad u = cc (not-false a t, not-true b u)
+    group-bad u = cc (valid, ne-eqb (mac / 1099511627776 % 2) 0 (omega (arith, u)))
 
-    module _ (u : not b ≡ false) (n : ℕ) (is-n : n ≡ be16 v 2) where
-      pub neighbour-bad : 0xFFBF < n → false ≡ hopGood (hopOf v)
+    module _ (u : r .head / 16777216 % 2 ≡ 0) where
+      decided : hopGood (hopBy r) ≡ ((not (eqb mac 0) && leb (r .head / 4294967296 % 65536) 0xFFBF) && leb (r .vlan) 4094)
       unfolding hopGood
-      neighbour-bad h = cc (not-false a t, not-false b u, withdrawn-or-valid n, lt-leb n 0xFFBF h)
+      decided =
+          let single : mac / 1099511627776 % 2 ≡ 0 = omega arith in
+          rw (valid, single, withdrawn-or-valid)
 
-      module _ (h : n ≤ 0xFFBF) (w : ℕ) (is-w : w ≡ be16 v 14) where
-        pub vlan-decides : leb w 4094 ≡ hopGood (hopOf v)
-        unfolding hopGood
-        vlan-decides = cc (not-false a t, not-false b u, withdrawn-or-valid n, le-leb n 0xFFBF h)
+      pub neighbour-bad : 0xFFBF < r .head / 4294967296 % 65536 → false ≡ hopGood (hopBy r)
+      neighbour-bad h = rw decided (simp (tests, and-no))
 
-pub ruleset hop-good-laws = (needs, destination-bad, mac-bad, neighbour-bad, vlan-decides)
+      module _ (n : r .head / 4294967296 % 65536 ≤ 0xFFBF) where
+        pub vlan-bad : 4094 < r .vlan → false ≡ hopGood (hopBy r)
+        vlan-bad h = rw decided (simp (tests, and-no))
+
+        module _ (w : r .vlan ≤ 4094) where
+          pub mac-some : (r .head % 4294967296 ≡ 0 → ⊥) → true ≡ hopGood (hopBy r)
+          mac-some h =
+              let some : mac ≡ 0 → ⊥ = λ e. h (omega arith) in
+              rw decided (simp tests)
+
+          pub mac-rest : r .head % 4294967296 ≡ 0 → not (eqb (r .tail / 4294967296 % 65536) 0) ≡ hopGood (hopBy r)
+          mac-rest h =
+              let rest : mac ≡ r .tail / 4294967296 % 65536 = omega arith in
+              rw (decided, rest) (simp (tests, and-yes))
+
+pub ruleset record-good-laws = (needs, destination-bad, group-bad, neighbour-bad, vlan-bad, mac-some, mac-rest)

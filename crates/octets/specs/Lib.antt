@@ -1,3 +1,4 @@
 pub mod Copy
 pub mod Flags
 pub mod Words
+pub mod Records

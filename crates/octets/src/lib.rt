@@ -5,11 +5,13 @@ mod values;
 
 pub use link::read_frame;
 use rules::FieldRead;
+pub use values::Record;
 pub use values::flag_code;
-pub use values::hop_good;
 pub use values::hop_of;
 pub use values::hop_size;
 pub use values::opens;
+pub use values::record_good;
+pub use values::record_of;
 ghost use mathlib.Core.Path.{_≡_};
 ghost use Prim.Native.Nat.{_*_, _+_, _/_, _%_, _≤_};
 ghost use lib.ListN.{length};
@@ -65,7 +67,7 @@ pub fn be32(s: &[u8], at: usize) -> u32
     join32(be16(s, at), be16(s, at + 2))
 }
 
-fn join48(high: u16, low: u32) -> u64
+fn join64(high: u32, low: u32) -> u64
     ensures { λ r. ⌜ r ≡ high * 4294967296 + low ⌝ }
 {
     (high as u64) << 32 | low as u64
@@ -79,18 +81,12 @@ pub fn be48(s: &[u8], at: usize) -> u64
     }
     // As in `be32`.
     if 6 <= s.len() - at {
-        return join48(be16(s, at), be32(s, at + 2));
+        return join64(be16(s, at) as u32, be32(s, at + 2));
     }
     if s.len() - at < 2 {
-        return join48(be16(s, at), 0);
+        return join64(be16(s, at) as u32, 0);
     }
-    join48(be16(s, at), be32(s, at + 2))
-}
-
-fn join64(high: u32, low: u32) -> u64
-    ensures { λ r. ⌜ r ≡ high * 4294967296 + low ⌝ }
-{
-    (high as u64) << 32 | low as u64
+    join64(be16(s, at) as u32, be32(s, at + 2))
 }
 
 // Eight octets as a number, the low one first.
@@ -107,7 +103,7 @@ fn join_octets(a: u8, b: u8, c: u8, d: u8, e: u8, f: u8, g: u8, h: u8) -> u64
         | (h as u64) << 56
 }
 
-// The low octet first, as the machine has it: so the eight are one load.
+// The low octet first, as the machine has numbers: so LLVM makes one load of the eight.
 fn le64(s: &[u8], at: usize) -> u64
     requires { ⌜ at + 8 ≤ length (now s) ⌝ }
     ensures { λ r. ⌜ r ≡ le64Of (now (s .entry)) at ⌝ }
@@ -124,19 +120,19 @@ fn le64(s: &[u8], at: usize) -> u64
     )
 }
 
-// The eight octets of a number in the other order.
-fn swap64(n: u64) -> u64
-    ensures { λ r. ⌜ r ≡ swapped n ⌝ }
+// The eight octets of a number in the other order: one instruction.
+fn swap64(x: u64) -> u64
+    ensures { λ r. ⌜ r ≡ swapped x ⌝ }
 {
     join_octets(
-        low64(n >> 56),
-        low64(n >> 48),
-        low64(n >> 40),
-        low64(n >> 32),
-        low64(n >> 24),
-        low64(n >> 16),
-        low64(n >> 8),
-        low64(n),
+        low64(x >> 56),
+        low64(x >> 48),
+        low64(x >> 40),
+        low64(x >> 32),
+        low64(x >> 24),
+        low64(x >> 16),
+        low64(x >> 8),
+        low64(x),
     )
 }
 
@@ -152,7 +148,7 @@ pub fn be64(s: &[u8], at: usize) -> u64
     swap64(le64(s, at))
 }
 
-// `be64` of octets that end or may end before the eighth.
+// `be64` where octets are missing: apart from it and called, so that what is inlined of it stays small.
 fn part64(s: &[u8], at: usize) -> u64
     ensures { λ r. ⌜ r ≡ be64Of (now (s .entry)) at ⌝ }
 {
@@ -199,18 +195,18 @@ pub fn six(n: u64) -> [u8; 6]
 }
 
 // The eight octets of a number.
-pub fn eight(n: u64) -> [u8; 8]
-    ensures { λ r. ⌜ r ≡ octets64 n ⌝ }
+pub fn eight(word: u64) -> [u8; 8]
+    ensures { λ r. ⌜ r ≡ octets64 word ⌝ }
 {
     [
-        low64(n >> 56),
-        low64(n >> 48),
-        low64(n >> 40),
-        low64(n >> 32),
-        low64(n >> 24),
-        low64(n >> 16),
-        low64(n >> 8),
-        low64(n),
+        low64(word >> 56),
+        low64(word >> 48),
+        low64(word >> 40),
+        low64(word >> 32),
+        low64(word >> 24),
+        low64(word >> 16),
+        low64(word >> 8),
+        low64(word),
     ]
 }
 
@@ -255,13 +251,26 @@ fn fill(out: &mut [u8], at: usize, s: &[u8])
     requires { ⌜ at + length (now s) ≤ length (now out) ⌝ }
     ensures { λ _. ⌜ now (out .exit) ≡ put (now (out .entry)) at (now (s .entry)) ⌝ }
 {
-    if 16 <= s.len() {
-        if s.len() <= 64 {
-            fill_blocks(out, at, s);
-            return;
-        }
+    if s.len() < 16 {
+        fill_octets(out, at, s);
+        return;
     }
-    fill_octets(out, at, s);
+    if s.len() <= 64 {
+        fill_blocks(out, at, s);
+        return;
+    }
+    fill_long(out, at, s);
+}
+
+// In the loop a multiple of 32 octets, which a turn of it moves, so that none are left over; over the end of them the last two blocks.
+fn fill_long(out: &mut [u8], at: usize, s: &[u8])
+    requires { ⌜ (32 ≤ length (now s)) × (at + length (now s) ≤ length (now out)) ⌝ }
+    ensures { λ _. ⌜ now (out .exit) ≡ put (now (out .entry)) at (now (s .entry)) ⌝ }
+{
+    let bulk = (s.len() - 1) / 32 * 32;
+    fill_octets(out, at, &s[..bulk]);
+    let last = s.len() - 32;
+    fill_blocks(out, at + last, &s[last..]);
 }
 
 fn fill_octets(out: &mut [u8], at: usize, s: &[u8])

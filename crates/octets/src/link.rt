@@ -19,6 +19,18 @@ fn link_length(f: &[u8]) -> usize
 pub fn read_frame(f: &[u8]) -> FrameRead
     ensures { λ r. ⌜ r ≡ Rules.readFrame (now (f .entry)) ⌝ }
 {
+    // The common case, one read: the Ethertype of a frame without a tag and the header's three fields.
+    if 20 <= f.len() {
+        let head = crate::be64(f, 12);
+        if head >> 48 == rules::ETHERTYPE_TRILL as u64 {
+            return FrameRead::Trill(Header {
+                place: 14,
+                word: ((head >> 32) % 65536) as u16,
+                egress: ((head >> 16) % 65536) as u16,
+                ingress: (head % 65536) as u16,
+            });
+        }
+    }
     if f.len() < 14 {
         return FrameRead::Unreadable(10);
     }

@@ -1,11 +1,10 @@
 // The values of settings and descriptions (document 01, "Settings"): a switch, a next-hop record, a strip flag or an edition.
 use rules::NextHop;
 ghost use mathlib.Core.Path.{_≡_};
-ghost use Prim.Native.Nat.{_≤_};
-ghost use Rattle.rules.specs.Octets as O;
 ghost use Rattle.rules.specs.Fields as F;
 ghost use Rattle.rules.specs.Settings as S;
 ghost use Rattle.octets.specs.Flags.{flagTag, flagValue, flagBy};
+ghost use Rattle.octets.specs.Records.{recordOf, hopBy};
 
 // 0x0001 to 0xFFBF.
 fn nickname_valid(n: u16) -> bool
@@ -17,28 +16,25 @@ fn nickname_valid(n: u16) -> bool
     n <= rules::NICKNAME_MOST
 }
 
-// Whether the MAC at a place is individual and not all zero; its first two octets decide for nearly all.
-fn mac_good(v: &[u8], at: usize) -> bool
-    requires { ⌜ at ≤ 4 ⌝ }
-    ensures { λ r. ⌜ r ≡ S.macGood (O.be48 (now (v .entry)) at) ⌝ }
+// Individual and not all zero.
+fn mac_good(mac: u64) -> bool
+    ensures { λ r. ⌜ r ≡ S.macGood mac ⌝ }
 {
-    let high = crate::be16(v, at);
-    if high >> 8 & 1 == 1 {
+    if (mac >> 40) % 2 != 0 {
         return false;
     }
-    if high != 0 {
-        return true;
-    }
-    crate::be32(v, at + 2) != 0
+    mac != 0
 }
 
+// Its eight octets in one read: the nickname and the MAC.
 fn switch_good(v: &[u8]) -> bool
     ensures { λ r. ⌜ r ≡ S.switchGood (S.switchOf (now (v .entry))) ⌝ }
 {
-    if !nickname_valid(crate::be16(v, 0)) {
+    let n = crate::be64(v, 0);
+    if !nickname_valid((n >> 48) as u16) {
         return false;
     }
-    mac_good(v, 2)
+    mac_good(n % 281474976710656)
 }
 
 // Whether a field may be the first of settings: a switch.
@@ -64,32 +60,57 @@ pub fn hop_size(size: usize) -> bool
     size == 16
 }
 
-// A neighbour is a valid nickname, or 0 for a withdrawal; a VLAN is 1 to 4,094, or 0 for none.
-pub fn hop_good(v: &[u8]) -> bool
-    ensures { λ r. ⌜ r ≡ S.hopGood (S.hopOf (now (v .entry))) ⌝ }
-{
-    if !nickname_valid(crate::be16(v, 0)) {
-        return false;
-    }
-    if !mac_good(v, 4) {
-        return false;
-    }
-    if rules::NICKNAME_MOST < crate::be16(v, 2) {
-        return false;
-    }
-    crate::be16(v, 14) <= 4094
+// A next-hop record in two reads and the VLAN, 0 where there is none. In `head` the destination, the neighbour and the first four octets of the
+// MAC; in `tail` the last four and the serial.
+pub struct Record {
+    pub head: u64,
+    pub tail: u64,
+    pub vlan: u16,
 }
 
-pub fn hop_of(v: &[u8]) -> NextHop
-    ensures { λ r. ⌜ r ≡ S.hopOf (now (v .entry)) ⌝ }
+pub fn record_of(v: &[u8]) -> Record
+    ensures { λ r. ⌜ r ≡ recordOf (now (v .entry)) ⌝ }
 {
-    NextHop {
-        destination: crate::be16(v, 0),
-        neighbour: crate::be16(v, 2),
-        mac: crate::be48(v, 4),
-        serial: crate::be32(v, 10),
+    Record {
+        head: crate::be64(v, 0),
+        tail: crate::be64(v, 6),
         vlan: crate::be16(v, 14),
     }
+}
+
+pub fn hop_of(r: Record) -> NextHop
+    ensures { λ h. ⌜ h ≡ hopBy r ⌝ }
+{
+    NextHop {
+        destination: (r.head >> 48) as u16,
+        neighbour: ((r.head >> 32) % 65536) as u16,
+        mac: r.head % 4294967296 * 65536 + (r.tail >> 32) % 65536,
+        serial: (r.tail % 4294967296) as u32,
+        vlan: r.vlan,
+    }
+}
+
+// A neighbour is a valid nickname, or 0 for a withdrawal; a VLAN is 1 to 4,094, or 0 for none. The MAC is tested where it stands: its first four
+// octets decide for nearly all that it is not zero.
+pub fn record_good(r: Record) -> bool
+    ensures { λ b. ⌜ b ≡ S.hopGood (hopBy r) ⌝ }
+{
+    if !nickname_valid((r.head >> 48) as u16) {
+        return false;
+    }
+    if (r.head >> 24) % 2 != 0 {
+        return false;
+    }
+    if rules::NICKNAME_MOST < ((r.head >> 32) % 65536) as u16 {
+        return false;
+    }
+    if 4094 < r.vlan {
+        return false;
+    }
+    if r.head % 4294967296 != 0 {
+        return true;
+    }
+    (r.tail >> 32) % 65536 != 0
 }
 
 // A strip flag or an edition.

@@ -12,17 +12,17 @@ use lib.Seq.{getD-set-same, getD-set-other}
 use Rattle.rules.specs as rules
 use rules.{Octets.if_then_else_, Octets.octet, Octets.put, Link.ethertypeTrill, Fields.field, Fields.lengthGood}
 use rules.declared.NextHop.{NextHop}
-use rules.Settings.{Settings, hopGood, hopOf, serialMet, withField, continues, nicknameValid, waysOf}
+use rules.Settings.{Settings, hopGood, hopOf, serialMet, withHop, withField, continues, nicknameValid, waysOf}
 use Rattle.rules.proofs.TestLaws.{and-true, and-yes, by-order, by-equal, tests}
 use Rattle.rules.proofs.{OctetLaws.length-put, FrameLaws.none-given}
 use Rattle.stores.specs
 use specs.Store.{countIn, hopsFrom, placeIn, hopFor, waysIn, storeGood, StandsFor, Stands}
-use specs.Insert.{storeKey, storeValue, placeFor, insertedIn, With}
+use specs.Insert.{storeKey, storeValue, placeFor, insertedIn, Shifted}
 use specs.Extend.{withSwitch, roomIn, recordCode, flagCode, metBy, extending, withRecord, withFlag, extended}
 use Rattle.octets.specs.Flags.{flagTag, flagValue, flagBy}
 use Rattle.octets.proofs.{FlagLaws.flag-continues, Cases.coded}
 use Rattle.stores.proofs
-use proofs.InsertLaws.{fitting, with-record, met-is, stands-more, stands-same}
+use proofs.InsertLaws.{Fitting, fitting, inserted-so, met-is, stands-more, stands-same}
 use proofs.LookupLaws.{serves}
 use Rattle.rules.specs.Settings as S
 
@@ -32,10 +32,10 @@ pub record Ample (w : List ℕ) : Type 0 where
   pub room : countIn w < 64 → 6 + 2 * countIn w ≤ length w
 
 -- what a record is known by that is not refused
-pub record Admitted (w v : List ℕ) : Type 0 where
+pub record Admitted (w : List ℕ) (r : NextHop) : Type 0 where
   pub few : countIn w < 64
   pub room : 6 + 2 * countIn w ≤ length w
-  pub new : metBy w v ≡ false
+  pub new : metBy w r ≡ false
 
 -- room for one more record
 module _ (w : List ℕ) where
@@ -55,14 +55,14 @@ module _ (w : List ℕ) where
     unfolding roomIn
     room-yes b h = simp tests
 
-record-parts : {w v : List ℕ} → recordCode w v ≡ 0 → Admitted w v
+record-parts : (w v : List ℕ) → recordCode w v ≡ 0 → Admitted w (hopOf v)
 unfolding recordCode
-record-parts {w} {v} e =
+record-parts w v e =
     let a = none-given (not (lengthGood 2 (length v))) 42 _ (omega arith) e in
     let b = none-given (not (hopGood (hopOf v))) 44 _ (omega arith) (a .1) in
     let c = none-given (not (roomIn w)) 46 _ (omega arith) (b .1) in
     let r = room-parts w (not-false (roomIn w) (c .0)) in
-    record { few = r .1; room = r .2; new = none-given (metBy w v) 47 0 (omega arith) (c .1) .0 }
+    record { few = r .1; room = r .2; new = none-given (metBy w (hopOf v)) 47 0 (omega arith) (c .1) .0 }
 
 flag-parts : (w : List ℕ) (tag : ℕ) (v : List ℕ) → flagCode w tag v ≡ 0 → (flagTag tag ≡ true) × (flagValue tag v ≡ true) × (4 ≤ length w)
 unfolding flagCode
@@ -86,28 +86,27 @@ same-first u s same r =
     }
 
 -- one more record
-module _ {w v : List ℕ} (ok : Admitted w v) where
+module _ {w : List ℕ} {r : NextHop} (ok : Admitted w r) where
   abbrev u : List ℕ
-  u = insertedIn w (countIn w) (storeKey (hopOf v)) (storeValue (hopOf v))
+  u = insertedIn w (countIn w) (storeKey r) (storeValue r)
 
-  put-with : With w (countIn w) (storeKey (hopOf v)) (storeValue (hopOf v)) (placeFor w (storeKey (hopOf v) / 65536) (countIn w)) u
-  put-with = with-record w (countIn w) (storeKey (hopOf v)) (storeValue (hopOf v)) (ok .new) (ok .room)
+  shifted : Shifted w (4 + 2 * placeFor w (storeKey r / 65536) (countIn w)) (4 + 2 * countIn w) u
+  shifted = inserted-so w (countIn w) (storeKey r) (storeValue r) (ok .new) (ok .room) .shifted
 
-  other : (j : ℕ) → (j ≡ 3 → ⊥) → getD (withRecord w v) j 0 ≡ getD u j 0
+  other : (j : ℕ) → (j ≡ 3 → ⊥) → getD (withRecord w r) j 0 ≡ getD u j 0
   other j ne = rw getD-set-other
 
-  pub record-counts : countIn (withRecord w v) ≡ suc (countIn w)
-  record-counts = getD-set-same u 3 (countIn w + 1) 0 (omega (arith, put-with .put .shifted .size, ok .room)) ∙ omega arith
+  pub record-counts : countIn (withRecord w r) ≡ suc (countIn w)
+  record-counts = getD-set-same u 3 (countIn w + 1) 0 (omega (arith, shifted .size, ok .room)) ∙ omega arith
 
-  pub record-long : length (withRecord w v) ≡ length w
-  record-long = rw length-set (put-with .put .shifted .size)
+  pub record-long : length (withRecord w r) ≡ length w
+  record-long = rw length-set (shifted .size)
 
-  pub record-stands : (T : Settings) → Stands w T → Stands (withRecord w v) (withField T (field 2 v))
-  unfolding withField
-  record-stands T s =
-      let more = stands-more w (hopOf v) (ok .few) (ok .room) (fitting v) (s .records) (ok .new) in
-      same-first (withRecord w v) s (λ j h. other j (omega arith) ∙ put-with .put .shifted .before j (omega arith))
-      (rw record-counts (stands-same u (withRecord w v) more (λ j a b. other j (omega arith))))
+  record-stands : Fitting r → (T : Settings) → Stands w T → Stands (withRecord w r) (withHop T r)
+  record-stands fits T s =
+      let more = stands-more w r (ok .few) (ok .room) fits (s .records) (ok .new) in
+      same-first (withRecord w r) s (λ j h. other j (omega arith) ∙ shifted .before j (omega arith))
+      (rw record-counts (stands-same u (withRecord w r) more (λ j a b. other j (omega arith))))
 
 -- the word of the flags set anew
 module _ (w : List ℕ) (long : 4 ≤ length w) (T : Settings) (s : Stands w T) where
@@ -173,7 +172,7 @@ recordBy T v =
 
 -- a field is refused, or is a record that is taken, or a flag that is
 module _ (P : ℕ → List ℕ → Type 0) (w : List ℕ) (tag : ℕ) (v : List ℕ) where
-  by-field : ((extending w tag v ≡ 0 → ⊥) → P tag w) → (recordCode w v ≡ 0 → P 2 (withRecord w v)) → (flagCode w tag v ≡ 0 → P tag (withFlag w tag v))
+  by-field : ((extending w tag v ≡ 0 → ⊥) → P tag w) → (recordCode w v ≡ 0 → P 2 (withRecord w (hopOf v))) → (flagCode w tag v ≡ 0 → P tag (withFlag w tag v))
       → P tag (extended w tag v)
   unfolding extending extended
   by-field refused two flag =
@@ -204,18 +203,19 @@ module _ (w : List ℕ) (T : Settings) (s : Stands w T) (ample : Ample w) (v : L
       simp (extending, flagCode, tests)
 
   pub extended-stands : (tag : ℕ) → extending w tag v ≡ 0 → Stands (extended w tag v) (withField T (field tag v))
+  unfolding withField
   extended-stands tag z =
-      by-field (λ tag u. Stands u (withField T (field tag v))) w tag v (λ n. absurd (n z)) (λ c. record-stands (record-parts c) T s) (λ c.
+      by-field (λ tag u. Stands u (withField T (field tag v))) w tag v (λ n. absurd (n z)) (λ c. record-stands (record-parts w v c) (fitting v) T s) (λ c.
       let p = flag-parts w tag v c in
       flag-stands w (p .2) T s tag v (p .0) (p .1))
 
 pub extended-long : (w : List ℕ) (tag : ℕ) (v : List ℕ) → length (extended w tag v) ≡ length w
-extended-long w tag v = by-field (λ tag u. length u ≡ length w) w tag v (λ n. refl) (λ c. record-long (record-parts c)) (λ c. rw length-set)
+extended-long w tag v = by-field (λ tag u. length u ≡ length w) w tag v (λ n. refl) (λ c. record-long (record-parts w v c)) (λ c. rw length-set)
 
 pub extended-few : (w : List ℕ) (tag : ℕ) (v : List ℕ) → countIn w ≤ 64 → countIn (extended w tag v) ≤ 64
 extended-few w tag v h =
     by-field (λ tag u. countIn u ≤ 64) w tag v (λ n. h)
-    (λ c. omega (arith, record-counts (record-parts c), record-parts c .few))
+    (λ c. omega (arith, record-counts (record-parts w v c), record-parts w v c .few))
     (λ c. rw (getD-set-other w 2 3 _ 0 (omega arith)) h)
 
 -- a field that goes with settings is one that is taken

@@ -1,5 +1,5 @@
 -- A record put in its place among records that stand for settings' records: they then stand for those with the record behind them.
--- By position, and by `row-slide`, which takes the record from its place to the end.
+-- Its place by what a search by halving comes to, the rest by position, and by `row-slide`, which takes the record from its place to the end.
 use Prim.Native.Nat.{ℕ, zero, suc, _+_, _-_, _*_, _/_, _%_, _≤_, _<_}
 use mathlib.Core.Path.{_≡_, refl, sym, ap, _∙_}
 use mathlib.Core.List.{List, [], _∷_, _++_}
@@ -8,16 +8,18 @@ use native.Mathlib.Omega.{arith}
 use native.Mathlib.Nat.{zero-add}
 use lib.ListN.{length, getD, set, take, drop, length-set, length-append, List·getD-append}
 use lib.Seq.{getD-set-same, getD-set-other, getD-take, getD-drop, getD-append-add, length-take-le, ext-getD}
-use lib.Dec.{eqb, ltb}
-use borrow.Author.Tests.{eqb-true, eqb-false, ltb-true}
+use lib.Dec.{eqb, ltb, leb}
+use borrow.Author.Tests.{eqb-true, eqb-false, ltb-true, ltb-false, leb-true}
 use Rattle.rules.specs.Octets.{part, put}
 use Rattle.rules.proofs.OctetLaws.{length-put, length-part}
 use Rattle.rules.proofs.TestLaws.{by-test, and-true, or-yes, or-no, or-assoc, by-order, by-equal, tests}
 use Rattle.rules.specs.declared.NextHop.{NextHop}
 use Rattle.stores.specs
 use specs.Store.{keyAt, valueAt, rankAt, hopOf, hopAt, hopsFrom, Ordered, StandsFor}
-use specs.Insert.{storeKey, storeValue, placeFor, metAt, metIn, putIn, insertedIn, PlaceFor, Shifted, PutIn, With}
-use Rattle.stores.proofs.RulingLaws.{row-slide, hops-split, hops-at, fold-append}
+use specs.Halving.{sixTimes}
+use specs.Insert.{storeKey, storeValue, belowAt, placeFor, metAt, metIn, putIn, insertedIn, PlaceFor, Shifted, PutIn, With}
+use Rattle.stores.proofs.HalvingLaws.{reached, beyond}
+use Rattle.stores.proofs.RulingLaws.{rank-rises, row-slide, hops-split, hops-at, fold-append}
 use Rattle.rules.specs.Settings as S
 
 -- the fields of a record are in range, as those read from octets are
@@ -30,24 +32,70 @@ pub fitting : (v : List ℕ) → Fitting (S.hopOf v)
 fitting v = omega arith
 
 -- the place for a rank
-pub placed : (w : List ℕ) (rank n : ℕ) → PlaceFor w n rank (placeFor w rank n)
-unfolding placeFor
-placed w rank zero = record { within = omega arith; above = λ j a b. absurd (omega arith); below = λ j e. absurd (omega arith) }
-placed w rank (suc n) =
-    let p = placed w rank n in
-    by-order (rankAt w n) rank
-    (λ h. simp (placeFor, tests)
-    (record {
-      within = omega arith;
-      above = λ j a b. absurd (omega arith);
-      below = λ j e. let last : j ≡ n = omega arith in rw last h;
-    }))
-    (λ h. simp (placeFor, tests)
-    (record {
-      within = omega (arith, p .within);
-      above = λ j a b. by-order j n (p .above j a) (λ l. let last : j ≡ n = omega arith in rw last h);
-      below = p .below;
-    }))
+module _ (w : List ℕ) (rank n : ℕ) where
+  below-is : (j : ℕ) → belowAt w n rank (suc j) ≡ (leb (suc j) n && ltb (rankAt w j) rank)
+  unfolding belowAt
+  below-is j =
+      let e : 2 + 2 * suc j ≡ 4 + 2 * j = omega arith in
+      rw e
+
+  below-true : (j p : ℕ) → suc j ≡ p → belowAt w n rank p ≡ true → (p ≤ n) × (rankAt w j < rank)
+  below-true j p e t =
+      let b = and-true (leb (suc j) n) (ltb (rankAt w j) rank) (sym (below-is j) ∙ rw e t) in
+      (rw e at (leb-true (suc j) n (b .0)), ltb-true (rankAt w j) rank (b .1))
+
+  below-false : (j : ℕ) → belowAt w n rank (suc j) ≡ false → j < n → rank ≤ rankAt w j
+  below-false j f h = ltb-false (rankAt w j) rank (simp tests at (sym (below-is j) ∙ f))
+
+  below-past : (j : ℕ) → (j < n → rank ≤ rankAt w j) → belowAt w n rank (suc j) ≡ false
+  below-past j h =
+      by-order j n
+      (λ l.
+      let above = h l in
+      below-is j ∙ simp tests)
+      (λ l. below-is j ∙ simp tests)
+
+  -- where the halving comes to
+  abbrev found : ℕ
+  found = sixTimes (belowAt w n rank)
+
+  found-below : (j : ℕ) → suc j ≡ found → (found ≤ n) × (rankAt w j < rank)
+  found-below j e = below-true j found e (reached (belowAt w n rank) (omega arith))
+
+  pub place-most : placeFor w rank n ≤ n
+  unfolding placeFor
+  place-most =
+      by-test (belowAt w n rank n) (λ t. rw t (omega arith)) (λ f. rw f
+      (by-order 0 found (λ z. found-below (found - 1) (omega arith) .0) (λ z. omega arith)))
+
+  module _ (o : Ordered w n) where
+    falls : (i j : ℕ) → 0 < i → i ≤ j → belowAt w n rank i ≡ false → belowAt w n rank j ≡ false
+    falls i j z h f =
+        let ei : i ≡ suc (i - 1) = omega arith in
+        let ej : j ≡ suc (j - 1) = omega arith in
+        rw ej (below-past (j - 1) (λ l. omega (arith, below-false (i - 1) (rw ei at f) (omega arith), rank-rises o (i - 1) (j - 1) (omega arith) l)))
+
+    ends : belowAt w n rank n ≡ false → (j : ℕ) → 64 ≤ j → belowAt w n rank j ≡ false
+    ends f j h =
+        by-order n j
+        (λ l.
+        let e : j ≡ suc (j - 1) = omega arith in
+        rw e (below-past (j - 1) (λ m. absurd (omega arith))))
+        (λ l.
+        let e : j ≡ n = omega (arith, o .few) in
+        rw e f)
+
+    placed : PlaceFor w n rank (placeFor w rank n)
+    unfolding placeFor
+    placed =
+        by-test (belowAt w n rank n)
+        (λ t. rw t (record { within = omega arith; above = λ j a b. absurd (omega arith); below = λ j e. below-true j n e t .1 }))
+        (λ f. rw f
+        (record {
+          within = rw f at place-most;
+          above = λ j a. below-false j (beyond (belowAt w n rank) falls (ends f) (suc j) (omega arith));
+          below = λ j e. found-below j e .1;
+        }))
 
 -- a word of a buffer after something was written into it
 module _ (d : List ℕ) (at : ℕ) (s : List ℕ) (room : at + length s ≤ length d) where
@@ -156,15 +204,18 @@ module _ (w : List ℕ) (n key value : ℕ) where
     unfolding insertedIn
     inserted-new = rw m
 
-    pub with-record : 6 + 2 * n ≤ length w → With w n key value place (insertedIn w n key value)
+    pub inserted-so : 6 + 2 * n ≤ length w → PutIn w n key value place (insertedIn w n key value)
+    inserted-so room = rw inserted-new (put-in w n key value place (place-most w rank n) room)
+
+    with-record : Ordered w n → 6 + 2 * n ≤ length w → With w n key value place (insertedIn w n key value)
     unfolding metIn metAt
-    with-record room = rw inserted-new (record { place = placed w rank n; fresh = fresh; put = put-in w n key value place (placed w rank n .within) room })
+    with-record o room = record { place = placed w rank n o; fresh = fresh; put = inserted-so room }
       where
         fresh : place < n → rank < rankAt w place
-        fresh h = omega (arith, eqb-false (rankAt w place) rank (simp tests at m), placed w rank n .above place (omega arith) h)
+        fresh h = omega (arith, eqb-false (rankAt w place) rank (simp tests at m), placed w rank n o .above place (omega arith) h)
 
   pub inserted-long : 6 + 2 * n ≤ length w → length (insertedIn w n key value) ≡ length w
-  inserted-long room = by-test (metIn w n rank) (λ t. rw (inserted-met t)) (λ t. with-record t room .put .shifted .size)
+  inserted-long room = by-test (metIn w n rank) (λ t. rw (inserted-met t)) (λ t. inserted-so t room .shifted .size)
 
   pub met-record : metIn w n rank ≡ true → (place < n) × (rankAt w place ≡ rank)
   unfolding metIn metAt
@@ -295,7 +346,7 @@ module _ (w : List ℕ) {n : ℕ} (r : NextHop) {hops : List NextHop} (few : n <
 
   module _ (m : metIn w n (storeKey r / 65536) ≡ false) where
     put-with : With w n (storeKey r) (storeValue r) place-in (insertedIn w n (storeKey r) (storeValue r))
-    put-with = with-record w n (storeKey r) (storeValue r) m room
+    put-with = with-record w n (storeKey r) (storeValue r) m (s .ordered) room
 
     apart : (j : ℕ) → j < n → hopAt w j .destination ≡ r .destination → hopAt w j .serial ≡ r .serial → ⊥
     unfolding hopAt

@@ -1,3 +1,4 @@
+pub mod HalvingLaws
 pub mod PlaceLaws
 pub mod RulingLaws
 pub mod LookupLaws

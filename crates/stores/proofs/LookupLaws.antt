@@ -2,15 +2,18 @@
 use Prim.Native.Nat.{ℕ, suc, _+_, _-_, _%_, _≤_, _<_}
 use mathlib.Core.Path.{_≡_, refl, _∙_}
 use mathlib.Core.List.{List}
-use mathlib.Core.Bool.{true, false≢true}
+use mathlib.Core.Bool.{true, false, false≢true}
 use native.Mathlib.Omega.{arith}
-use lib.Dec.{eqb}
-use Rattle.rules.proofs.TestLaws.{by-test, by-order, by-equal, tests}
+use borrow.Author.Tests.{ltb-true, leb-true, leb-false}
+use lib.Dec.{ltb, leb, eqb}
+use Rattle.rules.proofs.TestLaws.{by-test, by-order, by-equal, and-true, tests}
 use Rattle.rules.specs.declared.Ruling.{Ruling}
 use Rattle.rules.specs.declared.Ruling.the-variants.{Found, Absent}
 use Rattle.rules.specs.Settings as S
-use Rattle.stores.specs.Store.{valueAt, destAt, hopAt, hopsFrom, unlessWithdrawn, stepped, searched, lastAt, hintAt, placeIn, hopFor, Ordered, StandsFor}
-use Rattle.stores.proofs.RulingLaws.{newer-rules, row-others, row-below, hops-at, fold-append}
+use Rattle.stores.specs
+use specs.Store.{valueAt, destAt, hopAt, hopsFrom, unlessWithdrawn, upTo, stepped, searched, lastAt, hintAt, placeIn, hopFor, Ordered, StandsFor}
+use Rattle.stores.proofs.HalvingLaws.{reached, beyond}
+use Rattle.stores.proofs.RulingLaws.{rank-rises, newer-rules, row-others, row-below, hops-at, fold-append}
 
 -- the next hop is the record that rules unless it is withdrawn
 pub next-hop : (T : S.Settings) (d : ℕ) → S.nextHop T d ≡ unlessWithdrawn (S.ruling (T .hops) d)
@@ -25,50 +28,60 @@ for-it : (w : List ℕ) (n d i : ℕ) → i < n → destAt w i ≡ d → hopFor 
 unfolding hopFor unlessWithdrawn hopAt
 for-it w n d i h e = by-test (eqb (valueAt w i % 65536) 0) (λ t. simp (tests, t)) (λ f. simp (tests, f))
 
--- what a search among `width` records from `at` on knows
-record Between (w : List ℕ) (n d at width : ℕ) : Type 0 where
-  pub room : at + width ≤ 64
+-- what is known of a place that the search comes to
+record Between (w : List ℕ) (n d at : ℕ) : Type 0 where
   pub low : 0 < at → (at < n) × (destAt w at ≤ d)
-  pub high : (j : ℕ) → at + width ≤ j → j < n → d < destAt w j
+  pub high : (j : ℕ) → at < j → j < n → d < destAt w j
 
 module _ (w : List ℕ) (n : ℕ) (o : Ordered w n) where
   dest-rises : (i j : ℕ) → i ≤ j → j < n → destAt w i ≤ destAt w j
-  dest-rises i j h b =
-      by-order i j (λ l. omega (arith, o .rises i j l b)) (λ l.
-      let e : i ≡ j = omega arith in
-      rw e (omega arith))
+  dest-rises i j h b = omega (arith, rank-rises o i j h b)
 
-  step-between : {d at : ℕ} (half : ℕ) → Between w n d at (half + half) → Between w n d (stepped w n d at half) half
-  unfolding stepped
-  step-between {d} {at} half b =
-      let room : at + half + half ≤ 64 = omega (arith, b .room) in
-      by-order (at + half) n
-      (λ u. by-order d (destAt w (at + half))
-      (λ l. simp tests (record { room = omega arith; low = b .low; high = λ j a c. omega (arith, dest-rises (at + half) j a c) }))
-      (λ l. simp tests (record { room = room; low = λ z. (u, l); high = λ j a c. b .high j (omega arith) c })))
-      (λ u. simp tests (record { room = omega arith; low = b .low; high = λ j a c. absurd (omega arith) }))
+  module _ (d : ℕ) where
+    up-true : (i : ℕ) → upTo w n d i ≡ true → (i < n) × (destAt w i ≤ d)
+    unfolding upTo
+    up-true i t =
+        let b = and-true (ltb i n) (leb (destAt w i) d) t in
+        (ltb-true i n (b .0), leb-true (destAt w i) d (b .1))
 
-  searched-between : (d : ℕ) → Between w n d (searched w n d) 1
-  searched-between d =
-      let all : Between w n d 0 64 = record { room = omega arith; low = λ z. absurd (omega arith); high = λ j a b. absurd (omega (arith, o .few)) } in
-      step-between 1 (step-between 2 (step-between 4 (step-between 8 (step-between 16 (step-between 32 all)))))
+    up-false : (i : ℕ) → upTo w n d i ≡ false → i < n → d < destAt w i
+    unfolding upTo
+    up-false i f h = leb-false (destAt w i) d (simp tests at f)
+
+    up-past : (i : ℕ) → (i < n → d < destAt w i) → upTo w n d i ≡ false
+    unfolding upTo
+    up-past i h =
+        by-order i n
+        (λ l.
+        let above = h l in
+        simp tests)
+        (λ l. simp tests)
+
+    falls : (i j : ℕ) → 0 < i → i ≤ j → upTo w n d i ≡ false → upTo w n d j ≡ false
+    falls i j z h f = up-past j (λ l. omega (arith, up-false i f (omega arith), dest-rises i j h l))
+
+    searched-between : Between w n d (searched w n d)
+    unfolding stepped
+    searched-between =
+        let ends = beyond (upTo w n d) falls (λ j h. up-past j (λ l. absurd (omega (arith, o .few)))) in
+        record { low = λ z. up-true (searched w n d) (reached (upTo w n d) z); high = λ j h. up-false j (ends j (omega arith)) }
 
   -- a hint that is taken is where the search ends too
-  last-between : (d p : ℕ) → lastAt w n d p ≡ true → Between w n d p 1
+  last-between : (d p : ℕ) → lastAt w n d p ≡ true → Between w n d p
   unfolding lastAt
   last-between d p t =
       by-order p n
       (λ h. by-equal (destAt w p) d
-      (λ e. record { room = omega (arith, o .few); low = λ z. (h, omega arith); high = later h e })
+      (λ e. record { low = λ z. (h, omega arith); high = later h e })
       (λ e. absurd (false≢true (simp tests at t))))
       (λ h. absurd (false≢true (simp tests at t)))
     where
-      later : p < n → destAt w p ≡ d → (j : ℕ) → p + 1 ≤ j → j < n → d < destAt w j
+      later : p < n → destAt w p ≡ d → (j : ℕ) → p < j → j < n → d < destAt w j
       later h e j u v =
           let l : p + 1 < n = omega arith in
           by-equal (destAt w (p + 1)) d
           (λ same. absurd (false≢true (simp tests at t)))
-          (λ other. omega (arith, other, dest-rises p (p + 1) (omega arith) l, dest-rises (p + 1) j u v))
+          (λ other. omega (arith, other, dest-rises p (p + 1) (omega arith) l, dest-rises (p + 1) j (omega arith) v))
 
   ruling-none : (d : ℕ) → ((j : ℕ) → j < n → destAt w j ≡ d → ⊥) → S.ruling (hopsFrom w 0 n) d ≡ Absent
   unfolding S.ruling hopAt
@@ -86,7 +99,7 @@ module _ (w : List ℕ) (n : ℕ) (o : Ordered w n) where
   abbrev Right : ℕ → ℕ → Type 0
   Right d i = hopFor w n d i ≡ unlessWithdrawn (S.ruling (hopsFrom w 0 n) d)
 
-  right-between : (d p : ℕ) → Between w n d p 1 → Right d p
+  right-between : (d p : ℕ) → Between w n d p → Right d p
   unfolding hopFor unlessWithdrawn
   right-between d p b =
       by-order p n

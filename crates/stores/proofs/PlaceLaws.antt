@@ -8,7 +8,8 @@ use borrow.Author.Tests.{leb-true}
 use lib.ListN.{length}
 use Rattle.rules.proofs.TestLaws.{tests, and-left, and-right}
 use Rattle.rules.specs.declared.Ruling.the-variants.{Absent}
-use Rattle.stores.specs.Store.{nicknameIn, countIn, destAt, stepped, searched, lastAt, hintAt, placeIn, hopFor, storeGood, Whole}
+use Rattle.stores.specs.Halving.{halved}
+use Rattle.stores.specs.Store.{nicknameIn, countIn, destAt, upTo, stepped, searched, lastAt, hintAt, placeIn, hopFor, storeGood, Whole}
 
 -- what a good store has
 pub good-whole : (w : List ℕ) → storeGood w ≡ true → Whole w
@@ -23,16 +24,16 @@ good-whole w e =
 -- the search
 module _ (w : List ℕ) (n d at half : ℕ) where
   pub step-past : n ≤ at + half → at ≡ stepped w n d at half
-  unfolding stepped
+  unfolding stepped halved upTo
   step-past h = simp tests
 
   module _ (a : at + half < n) (key : ℕ) (is : key ≡ destAt w (at + half)) where
     pub step-up : key ≤ d → at + half ≡ stepped w n d at half
-    unfolding stepped
+    unfolding stepped halved upTo
     step-up h = simp (← is, tests)
 
     pub step-stay : d < key → at ≡ stepped w n d at half
-    unfolding stepped
+    unfolding stepped halved upTo
     step-stay h = simp (← is, tests)
 
 -- the place that a hint or the search comes to

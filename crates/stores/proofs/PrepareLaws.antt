@@ -1,6 +1,6 @@
 -- Settings octets into a store as the code does it: one law for each need of the loops, of one more field, and of the whole. By position, and by the
 -- laws of insertion, of fields and of settings for each step.
-use Prim.Native.Nat.{ℕ, zero, suc, _+_, _-_, _*_, _/_, _%_, _≤_, _<_}
+use Prim.Native.Nat.{ℕ, _+_, _-_, _*_, _/_, _%_, _≤_, _<_}
 use mathlib.Core.Path.{_≡_, refl, sym, ap, _∙_}
 use mathlib.Core.List.{List, [], _∷_, _++_}
 use mathlib.Core.Bool.{Bool, true, false, not, _&&_, Bool·not-not, false≢true}
@@ -11,15 +11,14 @@ use borrow.Author.Needs.{needs}
 use borrow.Author.Tests.{ne-eqb, eq-eqb, not-true, not-false}
 use lib.Dec.{ltb, eqb}
 use lib.ListN.{length, getD, set, drop, length-set, List·getD-append}
-use lib.Bits.{bitOr}
 use lib.Seq.{getD-set-same, getD-set-other, sets-eq, paste, paste-zero, drop-at}
-use Rattle.octets.proofs.{Bits.or-add, Ends.fill-on, Ends.fill-end}
+use Rattle.octets.proofs.{Ends.fill-on, Ends.fill-end, Hops.hop-same}
 use Rattle.rules.specs as rules
-use rules.Octets.{if_then_else_, put, octet, be16, be32, be48, part}
+use rules.Octets.{if_then_else_, put, octet, be16, be48, part}
 use rules.Fields.{Field, field, cut, fieldAt, fieldsAt, fields, hopSize, lengthGood}
 use rules.Settings.{Settings, hopGood, withField, continues, settingsFrom, settingsOf, opens, opened, switchOf, waysOf, nicknameValid, macGood}
 use rules.{Settings.hopOf, Settings.switchGood, Campus.known}
-use rules.declared.FieldRead.{FieldRead}
+use rules.declared.{FieldRead.FieldRead, NextHop.NextHop}
 use rules.declared.FieldRead.the-variants.{Taken, Cut}
 use Rattle.rules.proofs as ruleLaws
 use ruleLaws.TestLaws.{by-test, and-true, by-equal, tests}
@@ -27,49 +26,37 @@ use ruleLaws.{OctetLaws.put-front, OctetLaws.length-put, HandlingLaws.settings-g
 use ruleLaws.FieldLaws.{IsField, field-read, fields-at-end, fields-at-cut, fields-at-on}
 use ruleLaws.SettingsLaws.{from-on, from-bad, from-read}
 use Rattle.stores.specs
+use specs.Halving.{halved}
 use specs.Store.{countIn, handledIn, Stands, Roomy, Filled, Fills, Hinted, preparing, Prepared}
-use specs.Insert.{storeKey, storeValue, placeFor, metAt, metIn, putIn, insertedIn, Shifted}
+use specs.Insert.{storeKey, storeValue, belowAt, placeFor, metAt, metIn, putIn, insertedIn, Shifted}
 use specs.Extend.{withSwitch, opensIn, Opens, roomIn, countBy, metBy, addedTo, recordCode, flagCode, flagWord, FlagIn, extending}
 use specs.Extend.{extended, withRecord, Extends}
-use Rattle.octets.specs.Flags.{flagTag, flagValue, flagBy}
+use Rattle.octets.specs.{Flags.flagTag, Flags.flagValue, Flags.flagBy, Records.recordOf, Records.hopBy}
+use Rattle.octets.specs.declared.values.Record.{Record}
 use ruleLaws.FirstLaws.{continues-cut, opened-field, first, settings-open, settings-bad, settings-cut, switch-fold}
 use Rattle.stores.proofs
-use proofs.InsertLaws.{placed, put-at-is, inserted-long}
+use proofs.HalvingLaws.{half-on, half-stay}
+use proofs.InsertLaws.{place-most, put-at-is, inserted-long}
 use proofs.ExtendLaws.{Ample, record-long, extending-continues, extended-stands, extended-long, extended-few, switch-stands}
 use proofs.ExtendLaws.{switch-counts, switch-long, says, room-parts, is-good, stands-too}
 
--- the place for a rank, from behind
-pub record Placing (w : List ℕ) (n rank i : ℕ) : Type 0 where
-  pub within : i ≤ n
-  pub same : placeFor w rank i ≡ placeFor w rank n
+-- the place for a rank: behind the last record, or by six steps
+module _ (w : List ℕ) (n rank : ℕ) (last : Bool) (is : last ≡ belowAt w n rank n) where
+  pub place-behind : last ≡ true → n ≡ placeFor w rank n
+  unfolding placeFor
+  place-behind t = rw (← is, t)
 
--- one record less
-place-step : (w : List ℕ) (rank i : ℕ) → 0 < i → placeFor w rank i ≡ (if ltb (getD w (2 + 2 * i) 0 / 65536) rank then i else placeFor w rank (i - 1))
-unfolding placeFor
-place-step w rank zero z = absurd (omega arith)
-place-step w rank (suc k) z =
-    let e : 2 + 2 * suc k ≡ 4 + 2 * k = omega arith in
-    let f : suc k - 1 ≡ k = omega arith in
-    rw (e, f)
+  abbrev next : ℕ → ℕ → ℕ
+  next = halved (belowAt w n rank)
 
-module _ (w : List ℕ) (n rank : ℕ) where
-  pub placing-begin : Placing w n rank n
-  placing-begin = record { within = omega arith; same = refl }
+  pub place-halved : last ≡ false → (a b c d e r : ℕ) → r ≡ next e 1 → e ≡ next d 2 → d ≡ next c 4 → c ≡ next b 8 → b ≡ next a 16 → a ≡ next 0 32
+      → r ≡ placeFor w rank n
+  unfolding placeFor
+  place-halved f a b c d e r er ee ed ec eb ea = er ∙ rw (ee, ed, ec, eb, ea, ← is, f)
 
-  module _ (i : ℕ) (p : Placing w n rank i) where
-    pub placing-found : 0 < i → getD w (2 + 2 * i) 0 / 65536 < rank → i ≡ placeFor w rank n
-    placing-found z h = sym (place-step w rank i z ∙ simp tests) ∙ p .same
+pub ruleset step-laws = (needs, half-on, half-stay)
 
-    pub placing-on : 0 < i → rank ≤ getD w (2 + 2 * i) 0 / 65536 → Placing w n rank (i - 1)
-    placing-on z h = record { within = omega (arith, p .within); same = sym (place-step w rank i z ∙ simp tests) ∙ p .same }
-
-    pub placing-end : i ≤ 0 → 0 ≡ placeFor w rank n
-    unfolding placeFor
-    placing-end z =
-        let e : i ≡ 0 = omega arith in
-        rw e at (p .same)
-
-pub ruleset place-for-laws = (needs, placing-begin, placing-found, placing-on, placing-end)
+pub ruleset place-for-laws = (needs, place-behind, place-halved)
 
 -- the words moved, from behind
 pub record Moving (w : List ℕ) (from to i : ℕ) (v : List ℕ) : Type 0 where
@@ -136,7 +123,7 @@ module _ (w : List ℕ) (n key value p : ℕ) (place : p ≡ placeFor w (key / 6
   inserted-put t v e = cc
 
 pub place-within : (w : List ℕ) (n rank p : ℕ) → p ≡ placeFor w rank n → p ≤ n
-place-within w n rank p e = rw e (placed w rank n .within)
+place-within w n rank p e = rw e (place-most w rank n)
 
 pub ruleset insert-laws = (needs, inserted-not, inserted-same, inserted-so, inserted-put, place-within)
 
@@ -144,26 +131,6 @@ pub value-room : (p : ℕ) (v w : List ℕ) (from to n key : ℕ) → Shifted w 
 value-room p v w from to n key s within room = rw length-set (omega (arith, s .size))
 
 pub ruleset put-at-laws = (needs, put-at-is, value-room)
-
--- the numbers below it are those of 64 bits
-abbrev range64 : ℕ
-range64 = 18446744073709551616
-
--- 48 bits above 16, as the code computes them
-above-16 : (x y : ℕ) → x < 281474976710656 → y < 65536 → bitOr (x * 65536 % range64) y ≡ x * 65536 + y
-above-16 x y a b = or-add (x * 65536 % range64) 16 y (omega arith) (omega arith) ∙ omega arith
-
-pub value-made : (v : List ℕ) (mac neighbour : ℕ) → mac ≡ be48 v 4 → neighbour ≡ be16 v 2
-    → bitOr (mac * 65536 % range64) neighbour ≡ storeValue (hopOf v)
-value-made v mac neighbour a b = above-16 mac neighbour (omega arith) (omega arith) ∙ omega arith
-
-pub key-made : (v : List ℕ) (d serial vlan : ℕ) → d ≡ be16 v 0 → serial ≡ be32 v 10 → vlan ≡ be16 v 14
-    → bitOr (bitOr (d * 281474976710656 % range64) (serial * 65536 % range64)) vlan ≡ storeKey (hopOf v)
-key-made v d serial vlan a b c =
-    rw (or-add (d * 281474976710656 % range64) 48 (serial * 65536 % range64) (omega arith) (omega arith))
-    (or-add (d * 281474976710656 % range64 + serial * 65536 % range64) 16 vlan (omega arith) (omega arith) ∙ omega arith)
-
-pub ruleset value-of-laws = (needs, value-made, key-made)
 
 -- what the number of records says of the room for one more
 module _ (w : List ℕ) (n : ℕ) (is : n ≡ countBy w) where
@@ -187,14 +154,14 @@ module _ (w : List ℕ) (n : ℕ) (is : n ≡ countBy w) where
     admit-room = omega (arith, admit-count, room-parts w room-so)
 
     -- words with one more record, or as they were, are as many
-    pub added-long : (u v : List ℕ) → u ≡ addedTo w v → length u ≡ length w
-    added-long u v q =
-        let r = room-parts w room-so in
-        by-test (metBy w v) (λ t. rw (q, t)) (λ t. rw (q, t) (record-long {v = v} (record { few = r .1; room = r .2; new = t })))
+    pub added-long : (u : List ℕ) (r : NextHop) → u ≡ addedTo w r → length u ≡ length w
+    added-long u r q =
+        let has = room-parts w room-so in
+        by-test (metBy w r) (λ t. rw (q, t)) (λ t. rw (q, t) (record-long {r = r} (record { few = has .1; room = has .2; new = t })))
 
 -- a record: one law for each way that it is refused, and one where it is taken
 module _ (w v : List ℕ) where
-  by-code : (code : ℕ) (u : List ℕ) → code ≡ extending w 2 v → u ≡ (if not (eqb code 0) then w else withRecord w v) → Extends w 2 v code u
+  by-code : (code : ℕ) (u : List ℕ) → code ≡ extending w 2 v → u ≡ (if not (eqb code 0) then w else withRecord w (hopOf v)) → Extends w 2 v code u
   unfolding extended
   by-code code u e q = record { code = e; words = q ∙ rw (extended, e) }
 
@@ -202,47 +169,56 @@ module _ (w v : List ℕ) where
   unfolding extending recordCode lengthGood
   admit-long sized is t = by-code 42 w (cc) refl
 
-  module _ (sized : Bool) (s-is : sized ≡ hopSize (length v)) (long : not sized ≡ false) (ok : Bool) (g : ok ≡ hopGood (hopOf v)) where
-    pub admit-bad : not ok ≡ true → Extends w 2 v 44 w
+  module _ (sized : Bool) (s-is : sized ≡ hopSize (length v)) (long : not sized ≡ false) (r : Record) (read : r ≡ recordOf v)
+      (ok : Bool) (g : ok ≡ hopGood (hopBy r)) where
+    hop-is : hopBy r ≡ hopOf v
+    hop-is = rw read (hop-same v)
+
+    code-is : extending w 2 v ≡ (if not ok then 44 else if not (roomIn w) then 46 else if metBy w (hopOf v) then 47 else 0)
     unfolding extending recordCode lengthGood
-    admit-bad n = by-code 44 w (cc) refl
+    code-is =
+        let good : hopGood (hopOf v) ≡ ok = ap hopGood (sym hop-is) ∙ sym g in
+        rw (recordCode, ← s-is, long, good)
+
+    pub admit-bad : not ok ≡ true → Extends w 2 v 44 w
+    admit-bad n = by-code 44 w (rw (code-is, n)) refl
 
     module _ (n : not ok ≡ false) (i : ℕ) (c : i ≡ countBy w) where
       pub admit-full : i ≡ 64 → Extends w 2 v 46 w
-      unfolding extending recordCode lengthGood
-      admit-full f = by-code 46 w (cc (full-so w i c f)) refl
+      admit-full f = by-code 46 w (rw (code-is, n, full-so w i c f)) refl
 
-      module _ (f : i ≡ 64 → ⊥) (put : Bool) (p : put ≡ not (metBy w v)) (u : List ℕ) (q : u ≡ addedTo w v) where
-        met-not : metBy w v ≡ not put
-        met-not = rw (p, Bool·not-not)
+      module _ (f : i ≡ 64 → ⊥) (put : Bool) (p : put ≡ not (metBy w (hopBy r))) (u : List ℕ) (q : u ≡ addedTo w (hopBy r)) where
+        met-not : metBy w (hopOf v) ≡ not put
+        met-not = ap (λ (x : NextHop). metBy w x) (sym hop-is) ∙ rw (p, Bool·not-not)
+
+        added : u ≡ (if not put then w else withRecord w (hopOf v))
+        added = q ∙ ap (λ (x : NextHop). addedTo w x) hop-is ∙ rw met-not
 
         pub admit-met : not put ≡ true → Extends w 2 v 47 u
-        unfolding extending recordCode lengthGood
-        admit-met t = by-code 47 u (cc (met-not, room-so w i c f)) (q ∙ rw (met-not, t))
+        admit-met t = by-code 47 u (rw (code-is, n, room-so w i c f, met-not, t)) (added ∙ rw t)
 
         pub admit-taken : not put ≡ false → Extends w 2 v 0 u
-        unfolding extending recordCode lengthGood
-        admit-taken t = by-code 0 u (cc (met-not, room-so w i c f)) (q ∙ rw (met-not, t))
+        admit-taken t = by-code 0 u (rw (code-is, n, room-so w i c f, met-not, t)) (added ∙ rw t)
 
 pub ruleset admit-laws = (needs, admit-long, admit-bad, admit-full, admit-met, admit-taken, admit-count, admit-few, admit-room, added-long)
 
 -- the record put in and counted
-module _ (w v : List ℕ) (n key value : ℕ) (c : n ≡ countIn w) (k : key ≡ storeKey (hopOf v)) (x : value ≡ storeValue (hopOf v))
+module _ (w : List ℕ) (r : NextHop) (n key value : ℕ) (c : n ≡ countIn w) (k : key ≡ storeKey r) (x : value ≡ storeValue r)
     (put : Bool) (p : put ≡ not (metIn w n (key / 65536))) (u : List ℕ) (q : u ≡ insertedIn w n key value) where
   rank-met : metIn w n (key / 65536) ≡ not put
   rank-met = rw (p, Bool·not-not)
 
-  pub add-met : not put ≡ true → false ≡ not (metBy w v)
+  pub add-met : not put ≡ true → false ≡ not (metBy w r)
   add-met t = cc rank-met
 
-  pub add-same : not put ≡ true → u ≡ addedTo w v
+  pub add-same : not put ≡ true → u ≡ addedTo w r
   unfolding insertedIn
   add-same t = cc rank-met
 
-  pub add-taken : not put ≡ false → true ≡ not (metBy w v)
+  pub add-taken : not put ≡ false → true ≡ not (metBy w r)
   add-taken t = cc rank-met
 
-  pub add-words : not put ≡ false → set u 3 (n + 1) ≡ addedTo w v
+  pub add-words : not put ≡ false → set u 3 (n + 1) ≡ addedTo w r
   add-words t = cc rank-met
 
 pub add-size : (u w : List ℕ) (n key value : ℕ) → u ≡ insertedIn w n key value → 6 + 2 * n ≤ length w → length u ≡ length w
@@ -402,10 +378,11 @@ pub ruleset fill-from-laws = (needs, taken, extend-long, filling-begin, filling-
 
 -- the switch alone
 pub open-is : (w v : List ℕ) (a x : ℕ) → 4 ≤ length w → a ≡ be16 v 0 → x ≡ be48 v 2
-    → set (set (set (set w 0 a) 1 (bitOr (x * 65536 % range64) 8947)) 2 0) 3 0 ≡ withSwitch w v
+    → set (set (set (set w 0 a) 1 (x * 65536 % 18446744073709551616 + 8947)) 2 0) 3 0 ≡ withSwitch w v
 unfolding put
 open-is w v a x long ea ex =
-    rw (ea, ex, above-16 (be48 v 2) 8947 (omega arith) (omega arith)) (sets-eq (be16 v 0 ∷ (be48 v 2 * 65536 + 8947) ∷ 0 ∷ 0 ∷ []) w 0 long)
+    let mac : x * 65536 % 18446744073709551616 ≡ be48 v 2 * 65536 = omega arith in
+    rw (ea, mac) (sets-eq (be16 v 0 ∷ (be48 v 2 * 65536 + 8947) ∷ 0 ∷ 0 ∷ []) w 0 long)
 
 pub ruleset open-laws = (needs, open-is, lt-of-lt-of-le)
 

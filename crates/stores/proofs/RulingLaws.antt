@@ -9,8 +9,15 @@ use borrow.Author.Tests.{ne-eqb}
 use Rattle.rules.proofs.TestLaws.{by-order, by-equal, tests}
 use Rattle.rules.specs.declared.{NextHop.NextHop, Ruling.Ruling}
 use Rattle.rules.specs.declared.Ruling.the-variants.{Found, Absent}
-use Rattle.stores.specs.Store.{hopAt, hopsFrom}
+use Rattle.stores.specs.Store.{rankAt, hopAt, hopsFrom, Ordered}
 use Rattle.rules.specs.Settings as S
+
+-- records in order
+pub rank-rises : {w : List ℕ} {n : ℕ} → Ordered w n → (i j : ℕ) → i ≤ j → j < n → rankAt w i ≤ rankAt w j
+rank-rises o i j h b =
+    by-order i j (λ l. omega (arith, o .rises i j l b)) (λ l.
+    let e : i ≡ j = omega arith in
+    rw e (omega arith))
 
 module _ (d : ℕ) where
   pub newer-other : (best : Ruling) (r : NextHop) → (r .destination ≡ d → ⊥) → S.newer d best r ≡ best

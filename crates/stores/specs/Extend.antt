@@ -9,6 +9,7 @@ use Rattle.rules.specs.Octets.{if_then_else_, octet, put}
 use Rattle.rules.specs.Fields.{field, lengthGood}
 use Rattle.rules.specs.Settings as S
 use Rattle.rules.specs.Link.{ethertypeTrill}
+use Rattle.rules.specs.declared.NextHop.{NextHop}
 use Rattle.octets.specs.Flags.{flagTag, flagValue}
 use Rattle.stores.specs.Store.{countIn}
 use Rattle.stores.specs.Insert.{storeKey, storeValue, metIn, insertedIn}
@@ -37,8 +38,8 @@ unfoldable pub countBy : List ℕ → ℕ
 countBy w = if roomIn w then countIn w else S.hopsMost
 
 -- whether a record of its destination has its serial
-abbrev pub metBy : List ℕ → List ℕ → Bool
-metBy w v = metIn w (countIn w) (storeKey (S.hopOf v) / 65536)
+abbrev pub metBy : List ℕ → NextHop → Bool
+metBy w r = metIn w (countIn w) (storeKey r / 65536)
 
 -- 0, or the code of a description that refuses the field: 42 its length, 44 its value, 46 no room, 47 serial met, 43 no field of settings
 unfoldable pub recordCode : List ℕ → List ℕ → ℕ
@@ -46,7 +47,7 @@ recordCode w v =
     if not (lengthGood 2 (length v)) then 42 else
     if not (S.hopGood (S.hopOf v)) then 44 else
     if not (roomIn w) then 46 else
-    if metBy w v then 47
+    if metBy w (S.hopOf v) then 47
     else 0
 
 unfoldable pub flagCode : List ℕ → ℕ → List ℕ → ℕ
@@ -61,11 +62,11 @@ unfoldable pub extending : List ℕ → ℕ → List ℕ → ℕ
 extending w tag v = if eqb tag 2 then recordCode w v else flagCode w tag v
 
 -- the words with one more record, and with the flag
-abbrev pub withRecord : List ℕ → List ℕ → List ℕ
-withRecord w v = set (insertedIn w (countIn w) (storeKey (S.hopOf v)) (storeValue (S.hopOf v))) 3 (countIn w + 1)
+abbrev pub withRecord : List ℕ → NextHop → List ℕ
+withRecord w r = set (insertedIn w (countIn w) (storeKey r) (storeValue r)) 3 (countIn w + 1)
 
-abbrev pub addedTo : List ℕ → List ℕ → List ℕ
-addedTo w v = if metBy w v then w else withRecord w v
+abbrev pub addedTo : List ℕ → NextHop → List ℕ
+addedTo w r = if metBy w r then w else withRecord w r
 
 -- the strip flag, and above it the edition less 1
 abbrev pub flagWord : ℕ → ℕ → ℕ → ℕ
@@ -81,7 +82,7 @@ pub record FlagIn (w : List ℕ) (tag : ℕ) (v : List ℕ) (r : ℕ) (w′ : Li
 
 -- a field that is refused leaves the words as they were
 unfoldable pub extended : List ℕ → ℕ → List ℕ → List ℕ
-extended w tag v = if not (eqb (extending w tag v) 0) then w else if eqb tag 2 then withRecord w v else withFlag w tag v
+extended w tag v = if not (eqb (extending w tag v) 0) then w else if eqb tag 2 then withRecord w (S.hopOf v) else withFlag w tag v
 
 pub record Extends (w : List ℕ) (tag : ℕ) (v : List ℕ) (r : ℕ) (w′ : List ℕ) : Type 0 where
   pub code : r ≡ extending w tag v

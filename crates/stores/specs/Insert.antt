@@ -1,12 +1,13 @@
 -- One more record among those of a store.
-use Prim.Native.Nat.{ℕ, zero, suc, _+_, _-_, _*_, _/_, _≤_, _<_}
+use Prim.Native.Nat.{ℕ, suc, _+_, _-_, _*_, _/_, _≤_, _<_}
 use mathlib.Core.Path.{_≡_}
 use mathlib.Core.List.{List, _∷_}
 use mathlib.Core.Bool.{Bool, _&&_}
-use lib.Dec.{ltb, eqb}
+use lib.Dec.{ltb, leb, eqb}
 use lib.ListN.{length, getD}
 use Rattle.rules.specs.Octets.{if_then_else_, part, put}
 use Rattle.rules.specs.declared.NextHop.{NextHop}
+use Rattle.stores.specs.Halving.{sixTimes}
 use Rattle.stores.specs.Store.{rankAt}
 
 -- the two words of a record
@@ -16,10 +17,13 @@ storeKey r = r .destination * 281474976710656 + r .serial * 65536 + r .vlan
 abbrev pub storeValue : NextHop → ℕ
 storeValue r = r .mac * 65536 + r .neighbour
 
--- the place for a rank among n records: behind the last one below it
+-- whether there are i records or more and the i-th, counted from 1, is below the rank; of i = 0 it is of no account
+unfoldable pub belowAt : List ℕ → ℕ → ℕ → ℕ → Bool
+belowAt w n rank i = leb i n && ltb (getD w (2 + 2 * i) 0 / 65536) rank
+
+-- the place for a rank among n records: behind all of them, or else by halving
 unfoldable pub placeFor : List ℕ → ℕ → ℕ → ℕ
-placeFor w rank zero = 0
-placeFor w rank (suc n) = if ltb (rankAt w n) rank then suc n else placeFor w rank n
+placeFor w rank n = if belowAt w n rank n then n else sixTimes (belowAt w n rank)
 
 -- whether the record at a place has the rank
 unfoldable pub metAt : List ℕ → ℕ → ℕ → ℕ → Bool

@@ -15,6 +15,7 @@ use Rattle.rules.specs.WayOut.{WayOut, noWay, wayOutBy}
 use Rattle.rules.specs.declared.NextHop.{NextHop}
 use Rattle.rules.specs.declared.Ruling.{Ruling}
 use Rattle.rules.specs.declared.Ruling.the-variants.{Found, Absent}
+use Rattle.stores.specs.Halving.{halved}
 
 -- a store as `trill_prepare` asks for it: 4 words of the switch, 64 records of two words, 32 words of hints
 abbrev pub storeWords : ℕ
@@ -56,8 +57,11 @@ unlessWithdrawn Absent = Absent
 unlessWithdrawn (Found r) = if eqb (r .neighbour) 0 then Absent else Found r
 
 -- a search among n records: one step takes the upper half if it does not begin above d
+unfoldable pub upTo : List ℕ → ℕ → ℕ → ℕ → Bool
+upTo w n d i = ltb i n && leb (destAt w i) d
+
 unfoldable pub stepped : List ℕ → ℕ → ℕ → ℕ → ℕ → ℕ
-stepped w n d at half = if ltb (at + half) n && leb (destAt w (at + half)) d then at + half else at
+stepped w n d = halved (upTo w n d)
 
 abbrev pub searched : List ℕ → ℕ → ℕ → ℕ
 searched w n d = stepped w n d (stepped w n d (stepped w n d (stepped w n d (stepped w n d (stepped w n d 0 32) 16) 8) 4) 2) 1

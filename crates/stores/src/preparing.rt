@@ -1,4 +1,5 @@
 // Settings octets into a store: the fields checked and written in one pass, each record put in its place.
+use octets::Record;
 use rules::FieldRead;
 ghost use mathlib.Core.Path.{_≡_};
 ghost use mathlib.Core.Bool.{not};
@@ -7,22 +8,46 @@ ghost use lib.ListN.{length};
 ghost use Rattle.rules.specs.Octets.{put, octet};
 ghost use Rattle.rules.specs.Settings as S;
 ghost use Rattle.stores.specs.Store.{countIn, Roomy, Filled, Fills, Hinted};
-ghost use Rattle.stores.specs.Insert.{storeKey, storeValue, placeFor, metAt, metIn, putIn, insertedIn, Shifted};
+ghost use Rattle.octets.specs.Records.{hopBy};
+ghost use Rattle.stores.specs.Halving.{halved};
+ghost use Rattle.stores.specs.Insert.{storeKey, storeValue, belowAt, placeFor, metAt, metIn, putIn, insertedIn, Shifted};
 ghost use Rattle.stores.specs.Extend.{withSwitch, countBy, metBy, addedTo, flagWord, FlagIn, Extends};
 
-// From behind: records in order take one comparison each.
+// Whether there are i records or more and the i-th, counted from 1, is below the rank.
+fn below(w: &[u64], n: usize, rank: u64, i: usize) -> bool
+    requires { ⌜ 4 + 2 * n ≤ length (now w) ⌝ }
+    ensures { λ r. ⌜ r ≡ belowAt (now (w .entry)) n rank i ⌝ }
+{
+    if n < i {
+        return false;
+    }
+    w[2 + 2 * i] >> 16 < rank
+}
+
+fn step(w: &[u64], n: usize, rank: u64, at: usize, half: usize) -> usize
+    requires { ⌜ (at + half ≤ 64) × (4 + 2 * n ≤ length (now w)) ⌝ }
+    ensures { λ r. ⌜ (r ≡ halved (belowAt (now (w .entry)) n rank) at half) × (r ≤ at + half) ⌝ }
+{
+    if below(w, n, rank, at + half) {
+        return at + half;
+    }
+    at
+}
+
+// The last record first: records in order take one comparison each.
 fn place_for(w: &[u64], n: usize, rank: u64) -> usize
     requires { ⌜ 4 + 2 * n ≤ length (now w) ⌝ }
     ensures { λ r. ⌜ r ≡ placeFor (now (w .entry)) rank n ⌝ }
 {
-    let mut i = n;
-    while 0 < i {
-        if w[2 + 2 * i] >> 16 < rank {
-            return i;
-        }
-        i -= 1;
+    if below(w, n, rank, n) {
+        return n;
     }
-    0
+    let a = step(w, n, rank, 0, 32);
+    let b = step(w, n, rank, a, 16);
+    let c = step(w, n, rank, b, 8);
+    let d = step(w, n, rank, c, 4);
+    let e = step(w, n, rank, d, 2);
+    step(w, n, rank, e, 1)
 }
 
 // Moves the words between two places two up.
@@ -70,18 +95,16 @@ fn put_at(w: &mut [u64], n: usize, key: u64, value: u64, p: usize)
     w[5 + 2 * p] = value;
 }
 
-fn key_of(v: &[u8]) -> u64
-    ensures { λ r. ⌜ r ≡ storeKey (S.hopOf (now (v .entry))) ⌝ }
+fn key_of(r: Record) -> u64
+    ensures { λ k. ⌜ k ≡ storeKey (hopBy r) ⌝ }
 {
-    (octets::be16(v, 0) as u64) << 48
-        | (octets::be32(v, 10) as u64) << 16
-        | octets::be16(v, 14) as u64
+    (r.head >> 48 << 48) + r.tail % 4294967296 * 65536 + r.vlan as u64
 }
 
-fn value_of(v: &[u8]) -> u64
-    ensures { λ r. ⌜ r ≡ storeValue (S.hopOf (now (v .entry))) ⌝ }
+fn value_of(r: Record) -> u64
+    ensures { λ x. ⌜ x ≡ storeValue (hopBy r) ⌝ }
 {
-    octets::be48(v, 4) << 16 | octets::be16(v, 2) as u64
+    (r.head << 32) + (r.tail >> 32) % 65536 * 65536 + (r.head >> 32) % 65536
 }
 
 // The number of records, or 64 where there is no room for one more.
@@ -102,11 +125,11 @@ fn count(w: &[u64]) -> usize
 }
 
 // The record put in and counted, unless its serial was met.
-fn add(w: &mut [u64], n: usize, v: &[u8]) -> bool
+fn add(w: &mut [u64], n: usize, r: Record) -> bool
     requires { ⌜ (n ≡ countIn (now w)) × (n < 64) × (6 + 2 * n ≤ length (now w)) ⌝ }
-    ensures { λ r. ⌜ (r ≡ not (metBy (now (w .entry)) (now (v .entry)))) × (now (w .exit) ≡ addedTo (now (w .entry)) (now (v .entry))) ⌝ }
+    ensures { λ b. ⌜ (b ≡ not (metBy (now (w .entry)) (hopBy r))) × (now (w .exit) ≡ addedTo (now (w .entry)) (hopBy r)) ⌝ }
 {
-    if !insert(w, n, key_of(v), value_of(v)) {
+    if !insert(w, n, key_of(r), value_of(r)) {
         return false;
     }
     w[3] = n as u64 + 1;
@@ -120,14 +143,15 @@ fn admit(w: &mut [u64], v: &[u8]) -> u32
     if !octets::hop_size(v.len()) {
         return 42;
     }
-    if !octets::hop_good(v) {
+    let r = octets::record_of(v);
+    if !octets::record_good(r) {
         return 44;
     }
     let n = count(w);
     if n == 64 {
         return 46;
     }
-    if !add(w, n, v) {
+    if !add(w, n, r) {
         return 47;
     }
     0
@@ -200,7 +224,7 @@ pub fn open(w: &mut [u64], v: &[u8])
     ensures { λ _. ⌜ now (w .exit) ≡ withSwitch (now (w .entry)) (now (v .entry)) ⌝ }
 {
     w[0] = octets::be16(v, 0) as u64;
-    w[1] = octets::be48(v, 2) << 16 | 0x22F3;
+    w[1] = (octets::be48(v, 2) << 16) + 0x22F3;
     w[2] = 0;
     w[3] = 0;
 }

@@ -1,4 +1,4 @@
--- Its contract, by two turns of the octets.
+-- Its contract: octets read with the low one first, and then in the other order.
 use Rattle.octets.proofs
 use proofs.Ends.{be64-laws as laws}
 use proofs.be64 as fn

@@ -14,6 +14,6 @@ abbrev μ-loop : fn.Tie.MeasureT-loop
 pub scan-from-spec : {M : Type 1} → fn.Statement.statement M
 scan-from-spec = fn.Tie.close (fn.Tie.spec
     Inv-loop μ-loop (λ c. search laws) (λ c _. search laws) (λ c. search laws) (λ c. search laws) (λ c _. search laws) (λ c. search laws)
-    (λ c. search laws) (λ c. search laws) (λ c. search laws) (λ c. search laws) (λ c. search laws) (λ c. search laws) (λ c _. search laws)
-    (λ c _. search laws) (λ c. search laws) (λ c. search laws) (λ c _. search laws) (λ c. search laws) (λ c. search laws) (λ c _. search laws)
-    (λ c _. search laws) (λ c. search laws) (λ c _. search laws) (λ c. search laws) (λ c. search laws) (λ c. search laws))
+    (λ c. search laws) (λ c. search laws) (λ c. search laws) (λ c. search laws) (λ c _. search laws) (λ c. search laws) (λ c. search laws)
+    (λ c _. search laws) (λ c _. search laws) (λ c. search laws) (λ c. search laws) (λ c _. search laws) (λ c. search laws) (λ c. search laws)
+    (λ c _. search laws) (λ c _. search laws) (λ c. search laws) (λ c _. search laws) (λ c. search laws) (λ c. search laws) (λ c. search laws))

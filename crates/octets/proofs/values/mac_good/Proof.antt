@@ -5,4 +5,4 @@ use proofs.values.mac_good as fn
 
 pub mac-good-spec : {M : Type 1} → fn.Statement.statement M
 mac-good-spec = fn.Tie.close (fn.Tie.spec
-    (λ c _. search laws) (λ c. search laws) (λ c. search laws) (λ c. search laws) (λ c _. search laws) (λ c. search laws))
+    (λ c. search laws) (λ c. search laws))

@@ -1,0 +1,46 @@
+-- What a search by halving comes to: a place at which the test holds, unless it is 0, and behind which it holds nowhere, if it holds nowhere behind a
+-- place at which it fails. By what each step keeps.
+use Prim.Native.Nat.{ℕ, _+_, _<_, _≤_}
+use mathlib.Core.Path.{_≡_}
+use mathlib.Core.Bool.{Bool, true, false}
+use native.Mathlib.Omega.{arith}
+use Rattle.rules.proofs.TestLaws.{by-test}
+use Rattle.stores.specs.Halving.{halved, sixTimes}
+
+module _ (P : ℕ → Bool) where
+  abbrev Reached : ℕ → Type 0
+  Reached at = 0 < at → P at ≡ true
+
+  abbrev Beyond : ℕ → Type 0
+  Beyond at = (j : ℕ) → at ≤ j → P j ≡ false
+
+  step-reached : {at : ℕ} (half : ℕ) → Reached at → Reached (halved P at half)
+  unfolding halved
+  step-reached {at} half r = by-test (P (at + half)) (λ t. rw t (λ z. t)) (λ f. rw f r)
+
+  pub reached : Reached (sixTimes P)
+  reached =
+      let none : Reached 0 = λ z. absurd (omega arith) in
+      step-reached 1 (step-reached 2 (step-reached 4 (step-reached 8 (step-reached 16 (step-reached 32 none)))))
+
+  module _ (falls : (i j : ℕ) → 0 < i → i ≤ j → P i ≡ false → P j ≡ false) where
+    step-beyond : (at half : ℕ) → 0 < half → Beyond (at + (half + half)) → Beyond (halved P at half + half)
+    unfolding halved
+    step-beyond at half z b =
+        by-test (P (at + half)) (λ t. rw t (λ j h. b j (omega arith))) (λ f. rw f (λ j h. falls (at + half) j (omega arith) h f))
+
+    pub beyond : Beyond 64 → Beyond (sixTimes P + 1)
+    beyond b =
+        let to-16 = step-beyond _ 16 (omega arith) (step-beyond 0 32 (omega arith) b) in
+        let to-4 = step-beyond _ 4 (omega arith) (step-beyond _ 8 (omega arith) to-16) in
+        step-beyond _ 1 (omega arith) (step-beyond _ 2 (omega arith) to-4)
+
+  -- a step as the code takes it
+  module _ (at half : ℕ) (b : Bool) (is : b ≡ P (at + half)) where
+    pub half-on : b ≡ true → at + half ≡ halved P at half
+    unfolding halved
+    half-on t = rw (← is, t)
+
+    pub half-stay : b ≡ false → at ≡ halved P at half
+    unfolding halved
+    half-stay f = rw (← is, f)

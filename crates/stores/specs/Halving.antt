@@ -1,0 +1,11 @@
+-- A search by halving for the last place of 64 at which a test holds.
+use Prim.Native.Nat.{ℕ, _+_}
+use mathlib.Core.Bool.{Bool}
+use Rattle.rules.specs.Octets.{if_then_else_}
+
+-- one step: half as far on, if the test holds there
+unfoldable pub halved : (ℕ → Bool) → ℕ → ℕ → ℕ
+halved P at half = if P (at + half) then at + half else at
+
+abbrev pub sixTimes : (ℕ → Bool) → ℕ
+sixTimes P = halved P (halved P (halved P (halved P (halved P (halved P 0 32) 16) 8) 4) 2) 1
