@@ -12,7 +12,7 @@ use Rattle.rules.specs.Settings.{Settings, nicknameValid, waysOf}
 use Rattle.rules.specs.Campus.{Described, known, fieldRefusal, withNext, refused, accepted, described}
 use Rattle.stores.specs.Store.{nicknameIn, countIn, hopsFrom, waysIn, storeGood, Stands}
 use Rattle.stores.specs.Extend.{opensIn, withSwitch, extending, extended}
-use Rattle.campus.specs.Places.{describedBy, countedBy}
+use Rattle.campus.specs.Places.{describedBy}
 use Rattle.campus.specs.declared.switches.Named.{Named}
 use Rattle.campus.specs.declared.switches.Named.the-variants.{At, Unknown}
 use Rattle.campus.specs.declared.reading.Reading.{Reading}

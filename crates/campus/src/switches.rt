@@ -1,10 +1,8 @@
 // The switches of a description: a store for each, one behind the other in one row of words. `starts` says where each begins; what stands behind a
 // store is read as its hints, which any words may be.
 ghost use mathlib.Core.Path.{_≡_};
-ghost use mathlib.Core.List.{_++_};
 ghost use Prim.Native.Nat.{_+_, _≤_, _<_};
-ghost use lib.ListN.{length, take, drop, getD};
-ghost use Rattle.stores.specs.Extend.{Opens, Extends};
+ghost use lib.ListN.{length};
 ghost use Rattle.rules.specs.Campus.{someEdition2};
 ghost use Rattle.campus.specs.Stores.{switchesIn, numberIn, endOf, Placed, Sound, Kept, PartOpens, PartExtends};
 

@@ -1,7 +1,7 @@
 -- The whole call on settings octets: what is validated and looked up for one destination says of a frame what the switch does. By one law for each need.
 use Rattle.rules.specs.{Handling.routed, Handling.decapsulated, Handling.transit, Handling.alerted, Handling.handled, Header.opLength, Header.weAreEgress}
 use Rattle.rules.specs.{Settings.Ways, Settings.Settings, Settings.settingsRead, Settings.waysOf, Settings.settingsOf, Campus.known, Channel.channelRead}
-use Rattle.rules.specs.{Header.innerOf, Octets.if_then_else_, Extension.areaSent, Link.link, Handling.onward, Handling.forwarded, Handling.forwardedRest}
+use Rattle.rules.specs.{Header.innerOf, Extension.areaSent, Link.link, Handling.onward, Handling.forwarded, Handling.forwardedRest}
 use Rattle.rules.specs.declared.{Alert.Alert, Header.Header}
 use Rattle.handler.specs
 use specs.declared.handling.{Local.Local, Task.Task, Received.Received}
@@ -21,7 +21,7 @@ use proofs.TaskLaws.{forward-in-laws, asks-so, replies-quiet}
 use proofs.TaskLaws.{copy-ready, copy-both, front-count, front-done, front-room}
 use proofs.TaskLaws.{comes-ends, plain-egress, plain-transit}
 use mathlib.Core.Path.{_≡_, refl, sym, ap, _∙_}
-use mathlib.Core.List.{List, []}
+use mathlib.Core.List.{List}
 use mathlib.Core.Bool.{true, not, Bool, false, true≢false, false≢true}
 use mathlib.Core.Option.{Option, none, some}
 use Prim.Native.Nat.{ℕ}
@@ -97,9 +97,6 @@ module _ (own : Own) (j : Validated) (t : Lookup) (e : t ≡ lookupBy own j) (f 
 
   pub sends-by : (area : List ℕ) → Sends (waysBy (lookupBy own j)) f h area → Sends (waysBy t) f h area
   sends-by area x = rw e x
-
-  pub lookup-by : (s : List ℕ) (d : ℕ) → LookupOf s d (lookupBy own j) → waysBy t ≡ onlyFor d (switchAt s)
-  lookup-by s d x = rw e (x .lookup)
 
 pub ruleset message-by-laws = (needs, message-by, front-count, front-done, front-room)
 

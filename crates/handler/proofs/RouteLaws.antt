@@ -14,15 +14,15 @@ use borrow.Author.Tests.{lt-leb, le-leb, not-true, not-false}
 use Rattle.rules.proofs as ruleLaws
 use ruleLaws.{TestLaws.by-test, TestLaws.apart, TestLaws.and-yes, TestLaws.and-no, OctetLaws.take-put, OptionLaws.area-number, FrameLaws.header-passed}
 use lib.Dec.{eqb}
-use lib.ListN.{length, take, length-drop}
-use rules.{Octets.be16, Octets.be32, Settings.Ways, Options.WellFormed, Options.draftRead, Channel.channelRead}
+use lib.ListN.{length, length-drop}
+use rules.{Octets.be16, Octets.be32, Settings.Ways, Options.WellFormed, Channel.channelRead}
 use rules.Header.{innerStart, areaOf, innerOf, readFrame, headerRefusal, weAreEgress}
 use rules.Extension.{flagsWord, criticalAlert, nonCriticalAlert, flagUnsummarized, summaryBare, extensionRead, extensionStops, areaRead, areaStops}
-use rules.declared.{NextHop.NextHop, Header.Header, FrameRead.FrameRead, ChannelRead.ChannelRead, Alert.Alert}
+use rules.declared.{Header.Header, FrameRead.FrameRead, ChannelRead.ChannelRead, Alert.Alert}
 use rules.declared.FrameRead.the-variants.{Trill, Unreadable}
 use rules.declared.Ruling.the-variants.{Absent}
 use rules.declared.ChannelRead.the-variants.{Fault, BadErr, ErrorHeard, BadEcho, EchoHeard, EchoRequest}
-use rules.declared.Alert.the-variants.{NoAlert, AlertFault, AlertErr, AlertRequest}
+use rules.declared.Alert.the-variants.{NoAlert}
 use ruleLaws.HandlingLaws.{inner-short, inner-untagged, inner-any, inner-delivered, inner-up, inner-channel, routed-faulty}
 use ruleLaws.HandlingLaws.{routed-stopped, routed-egress, routed-transit, handling-unread, handling-refused, handling-routed, clock-bad, room-short}
 use ruleLaws.HandlingLaws.{beside-short, frame-long, frame-handled}

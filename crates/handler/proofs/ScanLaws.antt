@@ -3,14 +3,13 @@
 use Rattle.rules.specs.Settings.{Ways, Settings, newer, ruling, switchOf, hopOf, withField, opened, settingsRead, waysOf, opens, settingsOf}
 use Rattle.rules.specs.declared.{NextHop.NextHop, Ruling.Ruling, FieldRead.FieldRead}
 use Rattle.handler.specs
-use specs.declared.way.Own.{Own}
 use specs.Shapes.{Owns, ruledBy, noFlags, flaggedBy, FoldedFrom}
 use Rattle.handler.proofs
 use proofs.{ValidationLaws.cut-off, ValidationLaws.flag-stops, ValidationLaws.Validating, Stages.if-laws}
 use specs.Keys.{fieldTaken, keysWith, hopTaken, withKey, Taking, Verdict, Scanned, ValidatedBy}
 use mathlib.Core.Path.{_≡_, refl, sym, ap, subst, _∙_}
 use mathlib.Core.List.{List, [], _∷_, foldl, foldl-append}
-use mathlib.Core.Bool.{true, not, Bool, false, true≢false, false≢true}
+use mathlib.Core.Bool.{true, not, Bool, false, false≢true}
 use Prim.Native.Nat.{ℕ, _+_, _-_, _*_, _/_, _%_, _≤_, _<_}
 use native.Mathlib.Omega.{arith}
 use borrow.Author.Needs.{needs}

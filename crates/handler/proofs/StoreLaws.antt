@@ -142,12 +142,6 @@ module _ (w clock f out beside : List ℕ) (ok : Bool) (is : ok ≡ storeGood w)
 
 pub ruleset handle-prepared-laws = (needs, received-lent, good-store, store-bad, store-early, store-done)
 
--- our own nickname and MAC in it
-pub own-in : (w : List ℕ) → Owns (record { nickname = getD w 0 0; word = getD w 1 0 }) (waysIn w)
-own-in w = record { named = refl; addressed = refl }
-
-pub ruleset own-in-laws = (needs, own-in)
-
 -- a frame that was received, by a good store
 -- a store lent anew, from its start on
 all-lent : (w : List ℕ) → take (length w - 0) (drop 0 w) ≡ w

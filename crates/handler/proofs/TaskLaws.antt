@@ -22,7 +22,7 @@ use rules.declared.{NextHop.NextHop, Header.Header, Ruling.Ruling, Alert.Alert, 
 use rules.declared.Ruling.the-variants.{Found, Absent}
 use rules.declared.Alert.the-variants.{NoAlert, AlertFault, AlertErr, AlertRequest}
 use rules.declared.ChannelRead.the-variants.{Fault, BadErr, ErrorHeard, BadEcho, EchoHeard, EchoRequest}
-use Rattle.rules.proofs.{TestLaws.by-test, TestLaws.by-equal, TestLaws.and-no, OctetLaws.put-none, OctetLaws.put-front, FrameLaws.link-length, FrameLaws.link-written}
+use Rattle.rules.proofs.{TestLaws.by-test, TestLaws.by-equal, OctetLaws.put-none, OctetLaws.put-front, FrameLaws.link-length, FrameLaws.link-written}
 use Rattle.rules.proofs.HandlingLaws.{faulted-silent, faulted-none, faulted-over, echoed-mode, echoed-none, echoed-over}
 use Rattle.rules.proofs.HandlingLaws.{echo-ranged, channel-echo, routed-egress, routed-transit}
 use Rattle.handler.specs

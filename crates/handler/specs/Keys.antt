@@ -1,10 +1,10 @@
 -- The keys of the records met so far, and the filter in front of them: how settings are validated in one pass.
-use Prim.Native.Nat.{ℕ, suc, _+_, _*_, _/_, _%_, _≤_, _<_}
+use Prim.Native.Nat.{ℕ, _+_, _*_, _/_, _%_, _≤_, _<_}
 use mathlib.Core.Path.{_≡_}
 use mathlib.Core.List.{List, [], _∷_, _++_}
 use mathlib.Core.Bool.{Bool, true, false, not, _&&_, _||_}
 use lib.ListN.{length, getD, take}
-use lib.Dec.{ltb, leb, eqb}
+use lib.Dec.{ltb, eqb}
 use Rattle.rules.specs.Octets.{if_then_else_}
 use Rattle.rules.specs.Fields.{fieldsAt, hopSize}
 use Rattle.rules.specs.Settings.{Settings, hopGood, hopOf, hopsMost, settingsFrom, settingsOf, settingsRead, waysOf}

@@ -1,9 +1,9 @@
 -- The rules' answers, settings and readings in the shapes that the code hands on.
-use Prim.Native.Nat.{ℕ, suc, _+_, _-_, _/_, _%_, _≤_, _<_}
+use Prim.Native.Nat.{ℕ, _+_, _-_, _/_, _%_, _≤_, _<_}
 use mathlib.Core.Path.{_≡_}
 use mathlib.Core.List.{List, [], _++_, foldl}
 use mathlib.Core.Bool.{Bool, false, not, _&&_, _||_}
-use lib.ListN.{length, drop}
+use lib.ListN.{length}
 use lib.Dec.{eqb}
 use Rattle.rules.specs.Octets.{if_then_else_, octet, octets16, octets48, part, put}
 use Rattle.rules.specs.Fields.{Field, field, cut, fieldsAt}

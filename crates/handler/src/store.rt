@@ -7,7 +7,7 @@ use rules::NextHop;
 use rules::Ruling;
 ghost use mathlib.Core.Path.{_≡_};
 ghost use Prim.Native.Nat.{_+_, _*_, _/_, _%_, _^_, _≤_, _<_};
-ghost use lib.ListN.{length, getD};
+ghost use lib.ListN.{length};
 ghost use Rattle.handler.specs.Shapes.{Owns, waysBy, onlyFor};
 ghost use Rattle.stores.specs.Store.{destOf, destAt, hopOf, stepped, searched, lastAt, hintAt, countIn, placeIn, hopFor, waysIn, storeGood, Whole};
 

@@ -1,33 +1,16 @@
 -- One law for each answer that the headers decide, over what the code finds, in the order of the tests.
-use mathlib.Core.Path.{_≡_, sym}
+use mathlib.Core.Path.{_≡_}
 use mathlib.Core.List.{List}
 use mathlib.Core.Bool.{Bool, true, false, not}
-use Prim.Native.Nat.{ℕ, _/_, _%_, _<_, _≤_}
-use native.Mathlib.Omega.{arith}
+use Prim.Native.Nat.{ℕ, _<_, _≤_}
 use borrow.Author.Needs.{needs}
-use borrow.Author.Tests.{ne-eqb}
-use lib.Bits.{bitAnd, and-mask}
 use lib.Dec.{eqb}
 use lib.ListN.{length}
-use specs.Octets.{be16, be32, be48}
+use specs.Octets.{be48}
 use specs.Header.{version, multi, hopCount, innerStart, headerRefusal, weAreEgress}
 use specs.declared.Header.{Header}
-use Rattle.rules.proofs.TestLaws.{tests, by-equal}
+use Rattle.rules.proofs.TestLaws.{tests}
 use Rattle.rules.specs
-
--- a MAC by its first 16 bits and its last 32
-module _ (mac : ℕ) (f : List ℕ) (high : ℕ) (is : high ≡ be16 f 0) where
-  pub mac-other : (high ≡ mac / 4294967296 → ⊥) → false ≡ eqb (be48 f 0) mac
-  mac-other n = sym (ne-eqb (be48 f 0) mac (λ e. n (omega arith)))
-
-  pub mac-rest : high ≡ mac / 4294967296 → (low : ℕ) → low ≡ be32 f 2 → eqb low (bitAnd mac 4294967295) ≡ eqb (be48 f 0) mac
-  mac-rest same low its =
-      rw (and-mask mac 32)
-      (by-equal low (mac % 4294967296)
-      (λ e. let is-ours : be48 f 0 ≡ mac = omega arith in simp tests)
-      (λ n. let is-other : be48 f 0 ≡ mac → ⊥ = λ e. n (omega arith) in simp tests))
-
-pub ruleset to-mac-laws = (needs, mac-other, mac-rest)
 
 module _ (mac : ℕ) (f : List ℕ) (h : Header) (own : Bool) (its-own : own ≡ eqb (be48 f 0) mac) where
   pub refuse-12 : not own ≡ true → 12 ≡ headerRefusal mac f h

@@ -14,14 +14,14 @@ module _ (P : ℕ → Bool) where
   abbrev Beyond : ℕ → Type 0
   Beyond at = (j : ℕ) → at ≤ j → P j ≡ false
 
-  step-reached : {at : ℕ} (half : ℕ) → Reached at → Reached (halved P at half)
+  step-reached : (at half : ℕ) → Reached at → Reached (halved P at half)
   unfolding halved
-  step-reached {at} half r = by-test (P (at + half)) (λ t. rw t (λ z. t)) (λ f. rw f r)
+  step-reached at half r = by-test (P (at + half)) (λ t. rw t (λ z. t)) (λ f. rw f r)
 
   pub reached : Reached (sixTimes P)
   reached =
       let none : Reached 0 = λ z. absurd (omega arith) in
-      step-reached 1 (step-reached 2 (step-reached 4 (step-reached 8 (step-reached 16 (step-reached 32 none)))))
+      step-reached _ _ (step-reached _ _ (step-reached _ _ (step-reached _ _ (step-reached _ _ (step-reached _ _ none)))))
 
   module _ (falls : (i j : ℕ) → 0 < i → i ≤ j → P i ≡ false → P j ≡ false) where
     step-beyond : (at half : ℕ) → 0 < half → Beyond (at + (half + half)) → Beyond (halved P at half + half)
@@ -31,9 +31,10 @@ module _ (P : ℕ → Bool) where
 
     pub beyond : Beyond 64 → Beyond (sixTimes P + 1)
     beyond b =
-        let to-16 = step-beyond _ 16 (omega arith) (step-beyond 0 32 (omega arith) b) in
-        let to-4 = step-beyond _ 4 (omega arith) (step-beyond _ 8 (omega arith) to-16) in
-        step-beyond _ 1 (omega arith) (step-beyond _ 2 (omega arith) to-4)
+        step-beyond _ _ (omega arith)
+        (step-beyond _ _ (omega arith)
+        (step-beyond _ _ (omega arith)
+        (step-beyond _ _ (omega arith) (step-beyond _ _ (omega arith) (step-beyond _ _ (omega arith) b)))))
 
   -- a step as the code takes it
   module _ (at half : ℕ) (b : Bool) (is : b ≡ P (at + half)) where
