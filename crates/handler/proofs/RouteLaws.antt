@@ -178,8 +178,8 @@ area-near true area n p e = extended (flagUnsummarized (flagsWord area) || (eqb 
     extended true x = let z : 0 ≡ p = cc x in omega (arith, z)
     extended false x = let z : 0 ≡ suc (length area) = cc x in omega arith
 
-pub read-well : (rfc7179 : Bool) (area : List ℕ) (strip : Bool) (kept : List ℕ) (read : AreaRead) → ReadBy rfc7179 strip area kept read → (c : Cursor) → read ≡ Read c
-    → areaReadBy rfc7179 area ≡ WellFormed
+pub read-well : (rfc7179 : Bool) (area : List ℕ) (strip : Bool) (kept : List ℕ) (read : AreaRead) → ReadBy rfc7179 strip area kept read
+    → (c : Cursor) → read ≡ Read c → areaReadBy rfc7179 area ≡ WellFormed
 read-well rfc7179 area strip kept read a c e = sym (a .read) ∙ ap areaReadOf e
 
 pub area-made : {f : List ℕ} {h : Header} → Ready f h → (area : List ℕ) → area ≡ areaOf f h → AreaWords area

@@ -226,7 +226,8 @@ module _ (S : Ways) (r : NextHop) (out : List ℕ) (roomy : 576 ≤ length out) 
           → Wrote (replyOctets own (h .ingress) 0xFF8 0 ++ echoBody body clock) k end out1 out2 → Replied (echoReply S r h clock body) end out out2
       unfolding echoReply replyRest replyInner
       echo-made clock body six enough few =
-          reply-made 0xFF8 0 (echoBody body clock) (echoReply S r h clock body) (rw (owned .named, owned .addressed)) (rw (echo-body-length body clock enough six) few)
+          reply-made 0xFF8 0 (echoBody body clock) (echoReply S r h clock body) (rw (owned .named, owned .addressed))
+          (rw (echo-body-length body clock enough six) few)
 
     module _ (same : length out1 ≡ length out) where
       pub error-room : k + 156 ≤ length out1

@@ -16,7 +16,8 @@ use lib.ListN.{length, take, drop, length-drop, length-append, getD, length-take
 use lib.Seq.{take-all, take-add, drop-drop, drop-cons, length-take-le}
 use lib.Bits.{bitOr}
 use lib.Dec.{eqb}
-use Rattle.rules.proofs.{OctetLaws.length-part, OctetLaws.drop-part, OctetLaws.put-inside, OctetLaws.put-tail, OctetLaws.octets16-be16, FrameLaws.frame-read, FrameLaws.link-length}
+use Rattle.rules.proofs.OctetLaws.{length-part, drop-part, put-inside, put-tail, octets16-be16}
+use Rattle.rules.proofs.FrameLaws.{frame-read, link-length}
 use mir.Syntax.{w8}
 use mir.Val as Val
 use Rattle.handler.specs
@@ -76,7 +77,8 @@ pub macs-written : (to : NextHop) (own w : ℕ) (d d1 d2 a b : List ℕ) (m n : 
     → Wrote (octets48 (to .mac) ++ octets64 own) 0 14 d d2
 macs-written to own w d d1 d2 a b m n is small ea eb p q room =
     let first : Wrote (octets48 (w / 65536) ++ octets16 w) 0 m d d1 = copied p ea (omega arith) in
-    let both = over (octets48 (w / 65536)) (octets16 w) first refl (copied q eb (omega (arith, wrote-long first (omega (arith, first .ends))))) (omega arith) (omega arith) in
+    let rest = copied q eb (omega (arith, wrote-long first (omega (arith, first .ends)))) in
+    let both = over (octets48 (w / 65536)) (octets16 w) first refl rest (omega arith) (omega arith) in
     let mac : octets48 (w / 65536) ≡ octets48 (to .mac) = rw is (octets-above (to .mac) (to .neighbour) small) in
     record { ends = refl; after = both .after ∙ ap (λ (x : List ℕ). put d 0 (x ++ octets64 own)) mac }
 
@@ -226,7 +228,8 @@ module _ (own : Own) (ingress number code : ℕ) where
   abbrev reply : List ℕ
   reply = replyOctets own ingress number code
 
-  module _ (at here x : ℕ) (d d1 d2 a b : List ℕ) (room : at + 28 ≤ length d) (ea : a ≡ replyHead (own .nickname) ingress) (p : Wrote (fitting d at a) at here d d1)
+  module _ (at here x : ℕ) (d d1 d2 a b : List ℕ) (room : at + 28 ≤ length d)
+      (ea : a ≡ replyHead (own .nickname) ingress) (p : Wrote (fitting d at a) at here d d1)
       (eb : b ≡ octets64 (own .word)) (q : Wrote (fitting d1 here b) here x d1 d2) where
     abbrev first : List ℕ
     first = replyHead (own .nickname) ingress ++ octets48 (own .word / 65536)

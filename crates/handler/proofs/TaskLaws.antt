@@ -32,7 +32,8 @@ use specs.declared.way.{Own.Own, Lookup.Lookup}
 use specs.declared.handling.{Local.Local, Task.Task}
 use specs.declared.handling.Local.the-variants.{Dropped, Answered, Message}
 use specs.declared.handling.Task.the-variants.{Ended, Forward}
-use specs.Tasks.{PutAside, alertRefusal, alertQuiet, transitQuiet, transitAt, messaged, localAt, asksBack, Answerable, Forwardable, Ends, Comes, Routes, Replies, RepliesBy, Both}
+use specs.Tasks.{PutAside, alertRefusal, alertQuiet, transitQuiet, transitAt, messaged, localAt, asksBack, Answerable}
+use specs.Tasks.{Forwardable, Ends, Comes, Routes, Replies, RepliesBy, Both}
 use specs.Shapes.{sentOf, answerOf, repliedBy, besideBy, viaOf, neighbourOf, Owns, Sends, onlyFor, waysBy, Ready, Replied, Done}
 use Rattle.rules.specs.Answer as A
 
@@ -95,8 +96,8 @@ module _ (T : Ways) (f : List ℕ) (h : Header) (alert : Alert) (out : List ℕ)
     unfolding transitQuiet
     transit-sent e out1 d = rw (transitQuiet, sym asks ∙ found, ← refuses, e) d
 
-pub plain-forwarded : (T : Ways) (f : List ℕ) (h : Header) (R : Ruling) → R ≡ T .hop (h .egress) → (r : NextHop) → R ≡ Found r → (a : Answer) (out out1 : List ℕ)
-    → Done (onward T r f h [] 0) a out out1 → Done (transitQuiet T f h NoAlert) a out out1
+pub plain-forwarded : (T : Ways) (f : List ℕ) (h : Header) (R : Ruling) → R ≡ T .hop (h .egress) → (r : NextHop) → R ≡ Found r
+    → (a : Answer) (out out1 : List ℕ) → Done (onward T r f h [] 0) a out out1 → Done (transitQuiet T f h NoAlert) a out out1
 plain-forwarded T f h R asks r found a out out1 = transit-sent T f h NoAlert out R asks r found Passed refl a refl out1
 
 pub ruleset transit-laws = (needs, transit-lost, transit-refused, transit-sent)
@@ -126,7 +127,8 @@ module _ (S : Ways) (clock f : List ℕ) (h : Header) (inner : List ℕ) (held :
   unfolding channelled
   message-request e out1 d = let found : channelRead (innerOf f h) ≡ EchoRequest = cc in rw found d
 
-  unanswered : (n : ℕ) (c : ChannelRead) → channelled S clock f h c ≡ A.dropped n → read ≡ c → r ≡ answerOf (A.dropped n) → Done (messaged S clock f h) r out out
+  unanswered : (n : ℕ) (c : ChannelRead) → channelled S clock f h c ≡ A.dropped n → read ≡ c
+      → r ≡ answerOf (A.dropped n) → Done (messaged S clock f h) r out out
   unanswered n c so e made = let found : channelRead (innerOf f h) ≡ c = cc in done-dropped n (rw found so) made
 
   pub message-err : read ≡ BadErr → r ≡ answerOf (A.dropped 26) → Done (messaged S clock f h) r out out

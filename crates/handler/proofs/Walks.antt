@@ -22,7 +22,8 @@ use Rattle.octets.proofs.Ends.{wrote-none, wrote-long, parts, copied, joined}
 use Rattle.handler.specs
 use specs.declared.options.{Cursor.Cursor, AreaRead.AreaRead}
 use specs.declared.options.AreaRead.the-variants.{Read, Faulty}
-use specs.Shapes.{AreaWords, Place, WholeOption, cursorBy, readBy, sentOf, optionsSent, ended, foundBy, walkOf, AreaWalked, summarizedBy, areaReadOf, AreaKept, AllKept}
+use specs.Shapes.{AreaWords, Place, WholeOption, cursorBy, readBy, sentOf, optionsSent, ended, foundBy, walkOf}
+use specs.Shapes.{AreaWalked, summarizedBy, areaReadOf, AreaKept, AllKept}
 use specs.Treatment.{Treats, transitDiscards, egressDiscards, strippedBy}
 use Rattle.rules.specs.Options as O
 
