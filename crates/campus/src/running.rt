@@ -14,7 +14,8 @@ ghost use Rattle.handler.specs.Tasks.{Both};
 ghost use Rattle.campus.specs.Places as P;
 ghost use Rattle.campus.specs.Stores.{settingsAt, switchesIn, Sound, SoundAt};
 ghost use Rattle.campus.specs.Steps.{kindBy, entryBy, handledBy, stateAt, AnsweredBy, StepReady, Stepped, RunReady, EntryReady, Ran, runOf, statesOf};
-ghost use Rattle.campus.specs.Queue.{sentTo, slotOctets, Free, Queue, Waits, Leads, waitingBy, repliesBy, onwardBy, WaitReady, NextReady, OnwardReady, Onwarded, TurnReady, Turned, LoopReady};
+ghost use Rattle.campus.specs.Queue.{sentTo, slotOctets, Free, Queue, Waits, Leads, waitingBy, repliesBy, onwardBy, WaitReady, NextReady};
+ghost use Rattle.campus.specs.Queue.{OnwardReady, Onwarded, TurnReady, Turned, LoopReady};
 
 // What is handled next: at which switch, whether it is a reply, and how long it is; and the slots of the replies that wait, from head to tail.
 struct At {
@@ -110,7 +111,8 @@ fn enter(
     k: usize,
 )
     requires { ⌜ SoundAt (now w) (now starts) i × (k * 8 + 8 ≤ length (now trace)) × (k < 4096) × (number < 64) × AnsweredBy (now frame) number ⌝ }
-    ensures { λ _. ⌜ now (trace .exit) ≡ put (now (trace .entry)) (k * 8) (entryBy (settingsAt (now (w .entry)) (now (starts .entry)) i .nickname) (kindBy replied) number (now (frame .entry))) ⌝ }
+    ensures { λ _. ⌜ now (trace .exit) ≡ put (now (trace .entry)) (k * 8)
+        (entryBy (settingsAt (now (w .entry)) (now (starts .entry)) i .nickname) (kindBy replied) number (now (frame .entry))) ⌝ }
 {
     let nickname = nickname_of(w, starts, i);
     put_entry(trace, k * 8, nickname, replied, number, frame);
@@ -181,7 +183,8 @@ fn put_waiting(
     tail: usize,
 ) -> usize
     requires { ⌜ Sound (now w) (now starts) n × Free (now waiting) tail × (length (now f) ≤ 576) ⌝ }
-    ensures { λ r. ⌜ Waits (now (w .entry)) (now (starts .entry)) n (now (waiting .entry)) (now (waiting .exit)) tail r (waitingBy towards (now (f .entry)) ∷ []) ⌝ }
+    ensures { λ r. ⌜ Waits (now (w .entry)) (now (starts .entry)) n (now (waiting .entry)) (now (waiting .exit)) tail r
+        (waitingBy towards (now (f .entry)) ∷ []) ⌝ }
 {
     let Named::At(i) = switches::find(w, starts, n, towards as u32) else {
         return tail;
@@ -212,7 +215,8 @@ fn wait(
     tail: usize,
 ) -> usize
     requires { ⌜ WaitReady (now w) (now starts) n a (now out) (now beside) (now waiting) tail ⌝ }
-    ensures { λ r. ⌜ Waits (now (w .entry)) (now (starts .entry)) n (now (waiting .entry)) (now (waiting .exit)) tail r (repliesBy a (now (out .entry)) (now (beside .entry))) ⌝ }
+    ensures { λ r. ⌜ Waits (now (w .entry)) (now (starts .entry)) n (now (waiting .entry)) (now (waiting .exit)) tail r
+        (repliesBy a (now (out .entry)) (now (beside .entry))) ⌝ }
 {
     if writes_reply(a.number) {
         let f = front(out, a.written as usize);
@@ -315,7 +319,8 @@ fn go_on(
     cur: &mut [u8; 2048],
 ) -> Onward
     requires { ⌜ OnwardReady (now w) (now starts) n a at (now out) (now beside) (now waiting) ⌝ }
-    ensures { λ r. ⌜ Onwarded (now (w .entry)) (now (starts .entry)) n a at (now (out .entry)) (now (beside .entry)) (now (waiting .entry)) (now (waiting .exit)) (now (cur .exit)) r ⌝ }
+    ensures { λ r. ⌜ Onwarded (now (w .entry)) (now (starts .entry)) n a at (now (out .entry)) (now (beside .entry))
+        (now (waiting .entry)) (now (waiting .exit)) (now (cur .exit)) r ⌝ }
 {
     let tail = wait(w, starts, n, a, out, beside, waiting, at.tail);
     next_of(w, starts, n, a, at, tail, out, waiting, cur)
@@ -355,7 +360,8 @@ fn run_from(
     trace: &mut [u8],
 ) -> u32
     requires { ⌜ LoopReady (now w) (now starts) n first (now clock) (now frame) (now waiting) (now trace) ⌝ }
-    ensures { λ r. ⌜ Ran (runOf (now (w .entry)) (now (starts .entry)) n first (now (clock .entry)) (now (frame .entry))) (now (trace .entry)) (now (trace .exit)) r ⌝ }
+    ensures { λ r. ⌜ Ran (runOf (now (w .entry)) (now (starts .entry)) n first (now (clock .entry)) (now (frame .entry)))
+        (now (trace .entry)) (now (trace .exit)) r ⌝ }
 {
     let mut cur = [0u8; 2048];
     let mut out = [0u8; 2048];
@@ -403,7 +409,8 @@ fn run_at(
     v: &[u8],
     trace: &mut [u8],
 ) -> u32
-    requires { ⌜ EntryReady (now s) (now w) (now starts) (read .n) (read .clock) (read .place) first (now v) (now trace) × (two ≡ someEdition2 (switchesIn (now w) (now starts) (read .n))) ⌝ }
+    requires { ⌜ EntryReady (now s) (now w) (now starts) (read .n) (read .clock) (read .place) first (now v) (now trace)
+        × (two ≡ someEdition2 (switchesIn (now w) (now starts) (read .n))) ⌝ }
     ensures { λ r. ⌜ Ran (statesOf (now (s .entry))) (now (trace .entry)) (now (trace .exit)) r ⌝ }
 {
     let clock = clock_of(s, read.clock);
@@ -425,7 +432,8 @@ pub fn run(
     two: bool,
     trace: &mut [u8],
 ) -> u32
-    requires { ⌜ RunReady (now s) (now w) (now starts) (read .n) (read .clock) (read .place) (now trace) × (two ≡ someEdition2 (switchesIn (now w) (now starts) (read .n))) ⌝ }
+    requires { ⌜ RunReady (now s) (now w) (now starts) (read .n) (read .clock) (read .place) (now trace)
+        × (two ≡ someEdition2 (switchesIn (now w) (now starts) (read .n))) ⌝ }
     ensures { λ r. ⌜ Ran (statesOf (now (s .entry))) (now (trace .entry)) (now (trace .exit)) r ⌝ }
 {
     let v = between(s, read.place + 3, s.len());

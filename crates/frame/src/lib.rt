@@ -15,7 +15,9 @@ pub extern "C" fn trill_handle(
     out: &mut [u8],
     beside: &mut [u8],
 ) -> Answer
-    ensures { λ r. ⌜ Both (handled (now (settings .entry)) (now (clock .entry)) (length (now (out .entry))) (length (now (beside .entry))) (now (frame .entry))) r (now (out .entry)) (now (out .exit)) (now (beside .entry)) (now (beside .exit)) ⌝ }
+    ensures { λ r. ⌜ Both
+        (handled (now (settings .entry)) (now (clock .entry)) (length (now (out .entry))) (length (now (beside .entry))) (now (frame .entry)))
+        r (now (out .entry)) (now (out .exit)) (now (beside .entry)) (now (beside .exit)) ⌝ }
 {
     handler::handle(frame, settings, clock, out, beside)
 }

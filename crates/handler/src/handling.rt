@@ -29,7 +29,8 @@ ghost use Rattle.rules.specs.Handling as Rules;
 ghost use Rattle.rules.specs.declared.FrameRead.the-variants.{Trill};
 ghost use Rattle.rules.specs.declared.Alert.the-variants.{NoAlert};
 ghost use Rattle.handler.specs.Shapes.{AreaWords, Ready, Replied, Sends, Done, waysBy};
-ghost use Rattle.handler.specs.Tasks.{areaReadBy, ReadBy, stopsBy, alertBy, alertRefusal, wantedBy, askedBy, asksBack, transitQuiet, messaged, EchoIn, Comes, RoutesRead, Routes, Receives, Receiving};
+ghost use Rattle.handler.specs.Tasks.{areaReadBy, ReadBy, stopsBy, alertBy, alertRefusal, wantedBy, askedBy, asksBack, transitQuiet, messaged};
+ghost use Rattle.handler.specs.Tasks.{EchoIn, Comes, RoutesRead, Routes, Receives, Receiving};
 
 // A frame as received: the number that drops it, or a TRILL frame of which none of 10 to 18 is given.
 pub enum Received {

@@ -45,7 +45,9 @@ pub fn handle(
     out: &mut [u8],
     beside: &mut [u8],
 ) -> Answer
-    ensures { λ r. ⌜ Both (handled (now (settings .entry)) (now (clock .entry)) (length (now (out .entry))) (length (now (beside .entry))) (now (frame .entry))) r (now (out .entry)) (now (out .exit)) (now (beside .entry)) (now (beside .exit)) ⌝ }
+    ensures { λ r. ⌜ Both
+        (handled (now (settings .entry)) (now (clock .entry)) (length (now (out .entry))) (length (now (beside .entry))) (now (frame .entry)))
+        r (now (out .entry)) (now (out .exit)) (now (beside .entry)) (now (beside .exit)) ⌝ }
 {
     let own = settings::own_of(settings);
     let received = handling::receive(own, clock, frame, out.len(), beside.len());
@@ -71,8 +73,10 @@ fn handle_by(
     out: &mut [u8],
     beside: &mut [u8],
 ) -> Answer
-    requires { ⌜ LookupOf (now settings) (wantedBy (own .nickname) h) (lookupBy own j) × Ready (now frame) h × (length (now clock) ≡ 6) × (2048 ≤ length (now out)) × (576 ≤ length (now beside)) ⌝ }
-    ensures { λ r. ⌜ Both (routed (waysOf (settingsRead (now (settings .entry)))) (now (clock .entry)) (now (frame .entry)) h) r (now (out .entry)) (now (out .exit)) (now (beside .entry)) (now (beside .exit)) ⌝ }
+    requires { ⌜ LookupOf (now settings) (wantedBy (own .nickname) h) (lookupBy own j) × Ready (now frame) h × (length (now clock) ≡ 6)
+        × (2048 ≤ length (now out)) × (576 ≤ length (now beside)) ⌝ }
+    ensures { λ r. ⌜ Both (routed (waysOf (settingsRead (now (settings .entry)))) (now (clock .entry)) (now (frame .entry)) h) r
+        (now (out .entry)) (now (out .exit)) (now (beside .entry)) (now (beside .exit)) ⌝ }
 {
     if header::op_length(h.word) == 0 {
         return plain_by(own, j, clock, frame, h, out);
@@ -161,8 +165,10 @@ fn area_by(
     out: &mut [u8],
     beside: &mut [u8],
 ) -> Answer
-    requires { ⌜ LookupOf (now settings) (wantedBy (own .nickname) h) (lookupBy own j) × (rfc7179 ≡ j .rfc7179) × Ready (now frame) h × (length (now clock) ≡ 6) × (2048 ≤ length (now out)) × (576 ≤ length (now beside)) ⌝ }
-    ensures { λ r. ⌜ Both (routed (waysOf (settingsRead (now (settings .entry)))) (now (clock .entry)) (now (frame .entry)) h) r (now (out .entry)) (now (out .exit)) (now (beside .entry)) (now (beside .exit)) ⌝ }
+    requires { ⌜ LookupOf (now settings) (wantedBy (own .nickname) h) (lookupBy own j) × (rfc7179 ≡ j .rfc7179) × Ready (now frame) h
+        × (length (now clock) ≡ 6) × (2048 ≤ length (now out)) × (576 ≤ length (now beside)) ⌝ }
+    ensures { λ r. ⌜ Both (routed (waysOf (settingsRead (now (settings .entry)))) (now (clock .entry)) (now (frame .entry)) h) r
+        (now (out .entry)) (now (out .exit)) (now (beside .entry)) (now (beside .exit)) ⌝ }
 {
     let mut kept = [0u8; 124];
     let task = handling::route(own.nickname, rfc7179, j.strip, frame, h, &mut kept);
@@ -196,8 +202,10 @@ fn forward_by(
     out: &mut [u8],
     beside: &mut [u8],
 ) -> Answer
-    requires { ⌜ LookupOf (now settings) (h .egress) (lookupBy own j) × Sends (waysBy (lookupBy own j)) (now frame) h (now area) × Forwardable (now frame) h alert × (length (now clock) ≡ 6) × (2048 ≤ length (now out)) × (576 ≤ length (now beside)) ⌝ }
-    ensures { λ r. ⌜ Both (transitAt (waysOf (settingsRead (now (settings .entry)))) (now (clock .entry)) (now (frame .entry)) h alert) r (now (out .entry)) (now (out .exit)) (now (beside .entry)) (now (beside .exit)) ⌝ }
+    requires { ⌜ LookupOf (now settings) (h .egress) (lookupBy own j) × Sends (waysBy (lookupBy own j)) (now frame) h (now area)
+        × Forwardable (now frame) h alert × (length (now clock) ≡ 6) × (2048 ≤ length (now out)) × (576 ≤ length (now beside)) ⌝ }
+    ensures { λ r. ⌜ Both (transitAt (waysOf (settingsRead (now (settings .entry)))) (now (clock .entry)) (now (frame .entry)) h alert) r
+        (now (out .entry)) (now (out .exit)) (now (beside .entry)) (now (beside .exit)) ⌝ }
 {
     let a = transit_by(own, j, frame, h, alert, area, out);
     reply_by(settings, own, a, clock, frame, h, alert, out, beside)
@@ -232,8 +240,10 @@ fn reply_by(
     out: &mut [u8],
     beside: &mut [u8],
 ) -> Answer
-    requires { ⌜ (known (settingsOf (now settings)) ≡ true) × Owns own (waysOf (settingsRead (now settings))) × Forwardable (now frame) h alert × (length (now clock) ≡ 6) × (2048 ≤ length (now out)) × (576 ≤ length (now beside)) ⌝ }
-    ensures { λ r. ⌜ Replies (waysOf (settingsRead (now (settings .entry)))) (now (clock .entry)) (now (frame .entry)) h alert a r (now (out .entry)) (now (out .exit)) (now (beside .entry)) (now (beside .exit)) ⌝ }
+    requires { ⌜ (known (settingsOf (now settings)) ≡ true) × Owns own (waysOf (settingsRead (now settings))) × Forwardable (now frame) h alert
+        × (length (now clock) ≡ 6) × (2048 ≤ length (now out)) × (576 ≤ length (now beside)) ⌝ }
+    ensures { λ r. ⌜ Replies (waysOf (settingsRead (now (settings .entry)))) (now (clock .entry)) (now (frame .entry)) h alert a r
+        (now (out .entry)) (now (out .exit)) (now (beside .entry)) (now (beside .exit)) ⌝ }
 {
     if !handling::asks_back(alert) {
         return a;
@@ -254,8 +264,10 @@ fn answer_by(
     out: &mut [u8],
     beside: &mut [u8],
 ) -> Answer
-    requires { ⌜ (asksBack alert ≡ true) × Forwardable (now frame) h alert × (length (now clock) ≡ 6) × (2048 ≤ length (now out)) × (576 ≤ length (now beside)) ⌝ }
-    ensures { λ r. ⌜ RepliesBy (waysBy (lookupBy own j)) (now (clock .entry)) (now (frame .entry)) h alert a r (now (out .entry)) (now (out .exit)) (now (beside .entry)) (now (beside .exit)) ⌝ }
+    requires { ⌜ (asksBack alert ≡ true) × Forwardable (now frame) h alert × (length (now clock) ≡ 6) × (2048 ≤ length (now out))
+        × (576 ≤ length (now beside)) ⌝ }
+    ensures { λ r. ⌜ RepliesBy (waysBy (lookupBy own j)) (now (clock .entry)) (now (frame .entry)) h alert a r
+        (now (out .entry)) (now (out .exit)) (now (beside .entry)) (now (beside .exit)) ⌝ }
 {
     if a.number == 25 {
         return message_by(own, j, clock, frame, h, out);
@@ -275,7 +287,9 @@ pub fn handle_prepared(
     out: &mut [u8],
     beside: &mut [u8],
 ) -> Answer
-    ensures { λ r. ⌜ Both (handledIn (now (store .entry)) (now (clock .entry)) (length (now (out .entry))) (length (now (beside .entry))) (now (frame .entry))) r (now (out .entry)) (now (out .exit)) (now (beside .entry)) (now (beside .exit)) ⌝ }
+    ensures { λ r. ⌜ Both
+        (handledIn (now (store .entry)) (now (clock .entry)) (length (now (out .entry))) (length (now (beside .entry))) (now (frame .entry)))
+        r (now (out .entry)) (now (out .exit)) (now (beside .entry)) (now (beside .exit)) ⌝ }
 {
     if !store::good(store) {
         return answers::dropped(1);
@@ -298,8 +312,10 @@ fn handle_in(
     out: &mut [u8],
     beside: &mut [u8],
 ) -> Answer
-    requires { ⌜ Whole (now store) × Owns own (waysIn (now store)) × Ready (now frame) h × (length (now clock) ≡ 6) × (2048 ≤ length (now out)) × (576 ≤ length (now beside)) ⌝ }
-    ensures { λ r. ⌜ Both (routed (waysIn (now (store .entry))) (now (clock .entry)) (now (frame .entry)) h) r (now (out .entry)) (now (out .exit)) (now (beside .entry)) (now (beside .exit)) ⌝ }
+    requires { ⌜ Whole (now store) × Owns own (waysIn (now store)) × Ready (now frame) h × (length (now clock) ≡ 6) × (2048 ≤ length (now out))
+        × (576 ≤ length (now beside)) ⌝ }
+    ensures { λ r. ⌜ Both (routed (waysIn (now (store .entry))) (now (clock .entry)) (now (frame .entry)) h) r
+        (now (out .entry)) (now (out .exit)) (now (beside .entry)) (now (beside .exit)) ⌝ }
 {
     if header::op_length(h.word) == 0 {
         return plain_in(store, own, clock, frame, h, out);
@@ -323,7 +339,8 @@ fn plain_in(
     h: Header,
     out: &mut [u8],
 ) -> Answer
-    requires { ⌜ Whole (now store) × Owns own (waysIn (now store)) × (opLength (h .word) ≡ 0) × Ready (now frame) h × (length (now clock) ≡ 6) × (2048 ≤ length (now out)) ⌝ }
+    requires { ⌜ Whole (now store) × Owns own (waysIn (now store)) × (opLength (h .word) ≡ 0) × Ready (now frame) h × (length (now clock) ≡ 6)
+        × (2048 ≤ length (now out)) ⌝ }
     ensures { λ r. ⌜ Done (routed (waysIn (now (store .entry))) (now (clock .entry)) (now (frame .entry)) h) r (now (out .entry)) (now (out .exit)) ⌝ }
 {
     if header::we_are_egress(own.nickname, h) {
@@ -410,8 +427,10 @@ fn area_in(
     out: &mut [u8],
     beside: &mut [u8],
 ) -> Answer
-    requires { ⌜ Whole (now store) × Owns own (waysIn (now store)) × (rfc7179 ≡ waysIn (now store) .rfc7179) × Ready (now frame) h × (length (now clock) ≡ 6) × (2048 ≤ length (now out)) × (576 ≤ length (now beside)) ⌝ }
-    ensures { λ r. ⌜ Both (routed (waysIn (now (store .entry))) (now (clock .entry)) (now (frame .entry)) h) r (now (out .entry)) (now (out .exit)) (now (beside .entry)) (now (beside .exit)) ⌝ }
+    requires { ⌜ Whole (now store) × Owns own (waysIn (now store)) × (rfc7179 ≡ waysIn (now store) .rfc7179) × Ready (now frame) h
+        × (length (now clock) ≡ 6) × (2048 ≤ length (now out)) × (576 ≤ length (now beside)) ⌝ }
+    ensures { λ r. ⌜ Both (routed (waysIn (now (store .entry))) (now (clock .entry)) (now (frame .entry)) h) r
+        (now (out .entry)) (now (out .exit)) (now (beside .entry)) (now (beside .exit)) ⌝ }
 {
     let mut kept = [0u8; 124];
     let task = handling::route(
@@ -450,8 +469,10 @@ fn forward_in(
     out: &mut [u8],
     beside: &mut [u8],
 ) -> Answer
-    requires { ⌜ Whole (now store) × Owns own (waysIn (now store)) × Sends (waysIn (now store)) (now frame) h (now area) × Forwardable (now frame) h alert × (length (now clock) ≡ 6) × (2048 ≤ length (now out)) × (576 ≤ length (now beside)) ⌝ }
-    ensures { λ r. ⌜ Both (transitAt (waysIn (now (store .entry))) (now (clock .entry)) (now (frame .entry)) h alert) r (now (out .entry)) (now (out .exit)) (now (beside .entry)) (now (beside .exit)) ⌝ }
+    requires { ⌜ Whole (now store) × Owns own (waysIn (now store)) × Sends (waysIn (now store)) (now frame) h (now area)
+        × Forwardable (now frame) h alert × (length (now clock) ≡ 6) × (2048 ≤ length (now out)) × (576 ≤ length (now beside)) ⌝ }
+    ensures { λ r. ⌜ Both (transitAt (waysIn (now (store .entry))) (now (clock .entry)) (now (frame .entry)) h alert) r
+        (now (out .entry)) (now (out .exit)) (now (beside .entry)) (now (beside .exit)) ⌝ }
 {
     let a = transit_in(store, own, frame, h, alert, area, out);
     reply_in(store, own, a, clock, frame, h, alert, out, beside)
@@ -467,7 +488,8 @@ fn transit_in(
     area: &[u8],
     out: &mut [u8],
 ) -> Answer
-    requires { ⌜ Whole (now store) × Owns own (waysIn (now store)) × Sends (waysIn (now store)) (now frame) h (now area) × Ready (now frame) h × (2048 ≤ length (now out)) ⌝ }
+    requires { ⌜ Whole (now store) × Owns own (waysIn (now store)) × Sends (waysIn (now store)) (now frame) h (now area) × Ready (now frame) h
+        × (2048 ≤ length (now out)) ⌝ }
     ensures { λ r. ⌜ Done (transitQuiet (waysIn (now (store .entry))) (now (frame .entry)) h alert) r (now (out .entry)) (now (out .exit)) ⌝ }
 {
     let place = store::place_in(store, h.egress);
@@ -487,8 +509,10 @@ fn reply_in(
     out: &mut [u8],
     beside: &mut [u8],
 ) -> Answer
-    requires { ⌜ Whole (now store) × Owns own (waysIn (now store)) × Forwardable (now frame) h alert × (length (now clock) ≡ 6) × (2048 ≤ length (now out)) × (576 ≤ length (now beside)) ⌝ }
-    ensures { λ r. ⌜ Replies (waysIn (now (store .entry))) (now (clock .entry)) (now (frame .entry)) h alert a r (now (out .entry)) (now (out .exit)) (now (beside .entry)) (now (beside .exit)) ⌝ }
+    requires { ⌜ Whole (now store) × Owns own (waysIn (now store)) × Forwardable (now frame) h alert × (length (now clock) ≡ 6)
+        × (2048 ≤ length (now out)) × (576 ≤ length (now beside)) ⌝ }
+    ensures { λ r. ⌜ Replies (waysIn (now (store .entry))) (now (clock .entry)) (now (frame .entry)) h alert a r
+        (now (out .entry)) (now (out .exit)) (now (beside .entry)) (now (beside .exit)) ⌝ }
 {
     if !handling::asks_back(alert) {
         return a;
@@ -507,8 +531,10 @@ fn answer_in(
     out: &mut [u8],
     beside: &mut [u8],
 ) -> Answer
-    requires { ⌜ Whole (now store) × Owns own (waysIn (now store)) × (asksBack alert ≡ true) × Forwardable (now frame) h alert × (length (now clock) ≡ 6) × (2048 ≤ length (now out)) × (576 ≤ length (now beside)) ⌝ }
-    ensures { λ r. ⌜ Replies (waysIn (now (store .entry))) (now (clock .entry)) (now (frame .entry)) h alert a r (now (out .entry)) (now (out .exit)) (now (beside .entry)) (now (beside .exit)) ⌝ }
+    requires { ⌜ Whole (now store) × Owns own (waysIn (now store)) × (asksBack alert ≡ true) × Forwardable (now frame) h alert
+        × (length (now clock) ≡ 6) × (2048 ≤ length (now out)) × (576 ≤ length (now beside)) ⌝ }
+    ensures { λ r. ⌜ Replies (waysIn (now (store .entry))) (now (clock .entry)) (now (frame .entry)) h alert a r
+        (now (out .entry)) (now (out .exit)) (now (beside .entry)) (now (beside .exit)) ⌝ }
 {
     if a.number == 25 {
         return message_in(store, own, clock, frame, h, out);

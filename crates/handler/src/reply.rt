@@ -108,7 +108,8 @@ fn write_echo_body(body: &[u8], clock: &[u8], out: &mut [u8], at: usize) -> usiz
 // An echo reply from `at` on, behind its link header; says where it ends.
 fn write_echo(own: Own, h: Header, clock: &[u8], body: &[u8], out: &mut [u8], at: usize) -> usize
     requires { ⌜ (18 ≤ length (now body)) × (length (now clock) ≡ 6) × (at + 28 + length (now body) ≤ length (now out)) ⌝ }
-    ensures { λ r. ⌜ Wrote (replyOctets own (h .ingress) 0xFF8 0 ++ echoBody (now (body .entry)) (now (clock .entry))) at r (now (out .entry)) (now (out .exit)) ⌝ }
+    ensures { λ r. ⌜ Wrote (replyOctets own (h .ingress) 0xFF8 0 ++ echoBody (now (body .entry)) (now (clock .entry))) at r
+        (now (out .entry)) (now (out .exit)) ⌝ }
 {
     let at = write_head(own, h.ingress, rules::PROTOCOL_ECHO, 0, out, at);
     write_echo_body(body, clock, out, at)

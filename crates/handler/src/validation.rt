@@ -10,7 +10,8 @@ ghost use mathlib.Core.Bool.{true, false, _||_, not};
 ghost use Prim.Native.Nat.{_+_, _<_, _≤_};
 ghost use lib.ListN.{length, take};
 ghost use Rattle.rules.specs.Fields.{field};
-ghost use Rattle.handler.specs.Keys.{keyOf, mixOf, slotBy, markBy, coversBy, markedBy, keyMet, Kept, hopTaken, withKey, Taking, Scanned, lookupBy, ValidatedBy};
+ghost use Rattle.handler.specs.Keys.{keyOf, mixOf, slotBy, markBy, coversBy, markedBy, keyMet, Kept, hopTaken, withKey, Taking, Scanned};
+ghost use Rattle.handler.specs.Keys.{lookupBy, ValidatedBy};
 ghost use Rattle.octets.specs.Flags.{flagTag};
 ghost use Rattle.octets.specs.Records.{hopBy};
 ghost use Rattle.stores.specs.Store.{unlessWithdrawn};
@@ -88,7 +89,8 @@ fn fresh(keys: &[u64], n: usize, key: u64, old: u8, mark: u8) -> bool
 // Whether a record of a size goes with the n before it; then its key is kept.
 fn admit(keys: &mut [u64], seen: &mut [u8], n: usize, size: usize, r: Record) -> bool
     requires { ⌜ Kept (now keys) (now seen) n ⌝ }
-    ensures { λ b. ⌜ Taking (hopTaken (take n (now (keys .entry))) n size (hopBy r)) (withKey (take n (now (keys .entry))) (hopBy r)) b (n + 1) (now (keys .exit)) (now (seen .exit)) ⌝ }
+    ensures { λ b. ⌜ Taking (hopTaken (take n (now (keys .entry))) n size (hopBy r)) (withKey (take n (now (keys .entry))) (hopBy r))
+        b (n + 1) (now (keys .exit)) (now (seen .exit)) ⌝ }
 {
     if !octets::hop_size(size) {
         return false;
