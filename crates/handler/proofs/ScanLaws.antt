@@ -6,7 +6,7 @@ use Rattle.handler.specs
 use specs.Shapes.{Owns, ruledBy, noFlags, flaggedBy, FoldedFrom}
 use Rattle.handler.proofs
 use proofs.{ValidationLaws.cut-off, ValidationLaws.flag-stops, ValidationLaws.Validating, Stages.if-laws}
-use specs.Keys.{fieldTaken, keysWith, hopTaken, withKey, Taking, Verdict, Scanned, ValidatedBy}
+use specs.Keys.{keysMet, hopTaken, withKey, Taking, Verdict, Scanned, ValidatedBy}
 use mathlib.Core.Path.{_≡_, refl, sym, ap, subst, _∙_}
 use mathlib.Core.List.{List, [], _∷_, foldl, foldl-append}
 use mathlib.Core.Bool.{true, not, Bool, false, false≢true}
@@ -15,7 +15,7 @@ use native.Mathlib.Omega.{arith}
 use borrow.Author.Needs.{needs}
 use borrow.Author.Tests.{lt-ltb, le-ltb, ltb-true, ltb-false, eq-eqb, ne-eqb, eqb-true, not-true, not-false}
 use lib.Dec.{ltb, eqb}
-use lib.ListN.{length, take, replicate}
+use lib.ListN.{length, replicate}
 use Rattle.rules.specs.Octets.{octet, be16, be48, part}
 use Rattle.rules.specs.Campus.{known}
 use Rattle.rules.specs.Fields.{Field, field, cut, fieldAt, fieldsAt, fields}
@@ -161,18 +161,18 @@ module _ (s : List ℕ) (read : FieldRead) (is : read ≡ fieldAt s 0) where
 pub ruleset own-of-laws = (needs, taken-first, taken-to, own-cut, own-read)
 
 -- what the loop keeps
-pub record Scanning (s : List ℕ) (from d : ℕ) (keys seen : List ℕ) (n : ℕ) (best : Ruling) (flags : Flags) (at : ℕ) : Type 0 where
-  pub judging : Validating s from keys seen n at
+pub record Scanning (s : List ℕ) (from d : ℕ) (seen : List ℕ) (n : ℕ) (best : Ruling) (flags : Flags) (at : ℕ) : Type 0 where
+  pub judging : Validating s from seen n at
   pub ruled : Folding (ruledBy d) Absent s from at best
   pub flagged : Folding flaggedBy noFlags s from at flags
 
-pub scan-begin : (s : List ℕ) (from d : ℕ) → Scanning s from d (replicate 64 0) (replicate 256 0) 0 Absent noFlags from
+pub scan-begin : (s : List ℕ) (from d : ℕ) → Scanning s from d (replicate 256 0) 0 Absent noFlags from
 scan-begin s from d = record { judging = J.begins s from; ruled = record { gives = refl }; flagged = record { gives = refl } }
 
 pub bad-scanned : {s : List ℕ} {from d : ℕ} {r : Scan} → r .good ≡ false → Verdict s from false → Scanned s from d r
 bad-scanned b v = record { verdict = rw b v; ruled = λ t. absurd (false≢true (sym b ∙ t)); flagged = λ t. absurd (false≢true (sym b ∙ t)) }
 
-module _ (s : List ℕ) (from d : ℕ) (keys seen : List ℕ) (n : ℕ) (best : Ruling) (flags : Flags) (at : ℕ) (l : Scanning s from d keys seen n best flags at) where
+module _ (s : List ℕ) (from d : ℕ) (seen : List ℕ) (n : ℕ) (best : Ruling) (flags : Flags) (at : ℕ) (l : Scanning s from d seen n best flags at) where
   pub scan-end : length s ≤ at → Scanned s from d (record { good = true; flags = flags; best = best })
   scan-end h = record { verdict = J.ends (l .judging) h; ruled = λ t. fold-end (l .ruled) h; flagged = λ t. fold-end (l .flagged) h }
 
@@ -181,33 +181,33 @@ module _ (s : List ℕ) (from d : ℕ) (keys seen : List ℕ) (n : ℕ) (best : 
       abbrev v : List ℕ
       v = part s (at + 3) (next - (at + 3))
 
-      module _ (two : tag ≡ 2) (r : Record) (its : r ≡ recordOf v) (taken : Bool) (keys′ seen′ : List ℕ)
-          (k : Taking (hopTaken (take n keys) n (length v) (hopBy r)) (withKey (take n keys) (hopBy r)) taken (n + 1) keys′ seen′) where
+      module _ (two : tag ≡ 2) (r : Record) (its : r ≡ recordOf v) (taken : Bool) (seen′ : List ℕ)
+          (k : Taking (hopTaken (keysMet s from n) n (length v) (hopBy r)) (withKey (keysMet s from n) (hopBy r)) taken seen′) where
         hop-is : hopBy r ≡ hopOf v
         hop-is = rw its (hop-same v)
 
-        step : Taking (hopTaken (take n keys) n (length v) (hopOf v)) (withKey (take n keys) (hopOf v)) taken (n + 1) keys′ seen′
+        step : Taking (hopTaken (keysMet s from n) n (length v) (hopOf v)) (withKey (keysMet s from n) (hopOf v)) taken seen′
         step =
-            subst (λ (x : NextHop). Taking (hopTaken (take n keys) n (length v) x) (withKey (take n keys) x) taken (n + 1) keys′ seen′) hop-is k
+            subst (λ (x : NextHop). Taking (hopTaken (keysMet s from n) n (length v) x) (withKey (keysMet s from n) x) taken seen′) hop-is k
 
         pub scan-hop-bad : (r : Scan) → r .good ≡ false → not taken ≡ true → Scanned s from d r
-        unfolding fieldTaken keysWith
-        scan-hop-bad r b x = bad-scanned b (J.stops (l .judging) h q t {r = n + 1} {keys′ = keys′} {seen′ = seen′} (rw two (rw (not-true taken x) at step)))
+        scan-hop-bad r b x = bad-scanned b (J.hop-stops (l .judging) h q t two (step .validated ∙ not-true taken x))
 
         pub scan-hop : (best′ : Ruling) → best′ ≡ newer d best (hopBy r) → not taken ≡ false → (m : ℕ) → m ≡ n + 1
-            → Scanning s from d keys′ seen′ m best′ flags next
-        unfolding fieldTaken keysWith ruledBy flaggedBy
+            → Scanning s from d seen′ m best′ flags next
+        unfolding ruledBy flaggedBy
         scan-hop best′ e x m is =
             let on = J.on (l .judging) h q t in
+            let yes = not-false taken x in
             rw is
             (record {
-              judging = J.goes-on (l .judging) h q t (rw two (rw (not-false taken x) at step));
+              judging = J.hop-on (l .judging) h q t two (step .validated ∙ yes) (step .kept yes);
               ruled = fold-on (l .ruled) on (cc hop-is);
               flagged = fold-on (l .flagged) on (rw two);
             })
 
       module _ (other : tag ≡ 2 → ⊥) (code : ℕ) (is : code ≡ flagBy tag v) where
-        pub scan-flag : (flags′ : Flags) → flags′ ≡ flaggedBy flags (field tag v) → code ≡ 0 → Scanning s from d keys seen n best flags′ next
+        pub scan-flag : (flags′ : Flags) → flags′ ≡ flaggedBy flags (field tag v) → code ≡ 0 → Scanning s from d seen n best flags′ next
         unfolding ruledBy
         scan-flag flags′ e x =
             let on = J.on (l .judging) h q t in

@@ -1,53 +1,90 @@
--- The keys met, the filter in front of them, and what the loop over the settings fields keeps, from the first field to the verdict: the records
+-- The keys met, the filter that stands for them, and what the loop over the settings fields keeps, from the first field to the verdict: the records
 -- read so far and the keys met agree, and the rest of the fields decides as the whole does. By induction on the keys, by cases on tests, and by one
 -- law of fields and of settings for each step.
 use mathlib.Core.Path.{_≡_, refl, sym, _∙_}
-use mathlib.Core.List.{List, [], _∷_, _++_}
+use mathlib.Core.List.{List, [], _∷_, _++_, append-assoc}
 use mathlib.Core.Option.{Option}
 use mathlib.Core.Bool.{Bool, true, false, not, _&&_, _||_, or-assoc, true≢false, false≢true}
 use Prim.Native.Nat.{ℕ, zero, suc, _+_, _*_, _<_, _≤_, _-_}
 use native.Mathlib.Omega.{arith}
-use native.Mathlib.Numerals.{add-one}
 use borrow.Author.Needs.{needs}
-use borrow.Author.Tests.{eq-eqb, ne-eqb, lt-ltb, not-true, not-false}
+use borrow.Author.Tests.{eq-eqb, ne-eqb, lt-ltb, le-ltb, not-true, not-false}
 use lib.Dec.{eqb}
 use lib.ListN.{length, getD, take, set, length-set, replicate, length-append}
-use lib.Seq.{slice, slice-cons, slice-empty, getD-set-same, getD-set-other, take-suc-set, length-take-le}
+use lib.Seq.{getD-set-same, getD-set-other, take-nil, take-append-add}
 use Rattle.rules.specs as rules
 use rules.{Octets.part, Campus.known}
 use rules.Fields.{hopSize, field, cut, fieldAt, fieldsAt, lengthGood}
 use rules.Settings.{hopGood, hopOf, Settings, serialMet, withField, opens, opened, continues, settingsFrom, settingsOf}
 use Rattle.rules.proofs as ruleLaws
-use ruleLaws.TestLaws.{and-no, or-no, or-yes, by-test, by-equal}
+use ruleLaws.TestLaws.{and-no, or-no, or-yes, by-test, by-equal, by-order}
 use Rattle.octets.specs.Flags.{flagBy}
 use Rattle.octets.proofs.FlagLaws.{flag-continues}
 use Rattle.handler.specs
-use specs.Keys.{keyOf, mixOf, slotBy, markBy, markedBy, coversBy, keyMet, Marked, Kept, hopTaken, fieldTaken, withKey, keysWith, Taking, Verdict}
+use specs.Keys.{keyOf, mixOf, slotBy, markBy, markedBy, coversBy, keyMet, keysIn, keysMet, Kept, hopTaken, fieldTaken, withKey, keysWith, Taking, Verdict}
 use ruleLaws.FieldLaws.{field-read, fields-at-end, fields-at-cut, fields-at-on}
 use rules.declared.{NextHop.NextHop, FieldRead.FieldRead}
 use rules.declared.FieldRead.the-variants.{Taken, Cut}
 use ruleLaws.{SettingsLaws.from-on, SettingsLaws.from-bad, Taken.taken}
 use ruleLaws.FirstLaws.{continues-cut, first, settings-open}
 
--- the scan: what it has found, or finds from place i on, is whether the key is met
-module _ (key : ℕ) (keys : List ℕ) (n i : ℕ) (found : Bool) (was : (found || keyMet key (slice i n keys)) ≡ keyMet key (take n keys)) where
-  pub met-on : (found′ : Bool) → i < n → n ≤ length keys → found′ ≡ (found || eqb (getD keys i 0) key)
-      → (found′ || keyMet key (slice (i + 1) n keys)) ≡ keyMet key (take n keys)
+-- the keys among the fields from a place on, by the field there
+module _ (s : List ℕ) (at : ℕ) where
+  keys-none : at < length s → fieldAt s at ≡ Cut → keysIn (fieldsAt s at) ≡ []
+  unfolding keysIn
+  keys-none h c = rw (fields-at-cut s at h c)
+
+  module _ (tag size next : ℕ) (t : fieldAt s at ≡ Taken tag size next) where
+    abbrev value : List ℕ
+    value = part s (at + 3) (next - (at + 3))
+
+    pub fields-next : fieldsAt s at ≡ field tag value ∷ fieldsAt s next
+    fields-next =
+        let i = field-read s at tag size next t in
+        let the-size : next - (at + 3) ≡ size = omega (arith, i) in
+        rw the-size (fields-at-on s at tag size next (omega (arith, i)) t)
+
+    keys-hop : tag ≡ 2 → keysIn (fieldsAt s at) ≡ keyOf (hopOf value) ∷ keysIn (fieldsAt s next)
+    unfolding keysIn
+    keys-hop two = rw (fields-next, two)
+
+    keys-flag : (tag ≡ 2 → ⊥) → keysIn (fieldsAt s at) ≡ keysIn (fieldsAt s next)
+    unfolding keysIn
+    keys-flag other = rw (fields-next, ne-eqb tag 2 other)
+
+-- the look at the first n records: what was found, or is found among those left, is whether the key is met
+pub record Looking (s : List ℕ) (from n key : ℕ) (found : Bool) (left at : ℕ) : Type 0 where
+  pub same : (found || keyMet key (take left (keysIn (fieldsAt s at)))) ≡ keyMet key (keysMet s from n)
+
+pub look-begins : (s : List ℕ) (from n key : ℕ) → Looking s from n key false n from
+look-begins s from n key = record { same = refl }
+
+module _ (s : List ℕ) (from n key : ℕ) (found : Bool) (left at : ℕ) (l : Looking s from n key found left at) where
+  pub look-done : left ≡ 0 → found ≡ keyMet key (keysMet s from n)
   unfolding keyMet
-  met-on found′ h k e = rw (e, add-one, or-assoc) (rw (slice-cons i n keys 0 h k) at was)
+  look-done none = sym (or-no found) ∙ (rw none at (l .same))
 
-  pub met-done : i ≤ n → n ≤ i → found ≡ keyMet key (take n keys)
-  unfolding keyMet
-  met-done h k = let e : i ≡ n = omega arith in sym (or-no found) ∙ (rw (e, slice-empty) at was)
+  pub look-end : length s ≤ at → found ≡ keyMet key (keysMet s from n)
+  unfolding keyMet keysIn
+  look-end h = sym (or-no found) ∙ (rw (fields-at-end s at h, take-nil) at (l .same))
 
-pub ruleset met-laws = (needs, met-on, met-done)
+  module _ (read : FieldRead) (q : read ≡ fieldAt s at) where
+    pub look-cut : at < length s → read ≡ Cut → found ≡ keyMet key (keysMet s from n)
+    unfolding keyMet
+    look-cut h c = sym (or-no found) ∙ (rw (keys-none s at h (sym q ∙ c), take-nil) at (l .same))
 
--- a key that is none of the first n
-unmet : (key : ℕ) (keys : List ℕ) (n : ℕ) → ((i : ℕ) → i < n → getD keys i 0 ≡ key → ⊥) → keyMet key (take n keys) ≡ false
-unfolding keyMet
-unmet key keys zero f = refl
-unmet key [] (suc n) f = refl
-unmet key (k ∷ keys) (suc n) f = rw (ne-eqb k key (f 0 (omega arith))) (unmet key keys n (λ i h. f (suc i) (omega arith)))
+    module _ (tag size next : ℕ) (t : read ≡ Taken tag size next) where
+      pub look-past : (tag ≡ 2 → ⊥) → Looking s from n key found left next
+      look-past other = record { same = rw (keys-flag s at tag size next (sym q ∙ t) other) at (l .same) }
+
+      pub look-on : tag ≡ 2 → (left ≡ 0 → ⊥) → (k : ℕ) → k ≡ keyOf (hopOf (part s (at + 3) (next - (at + 3)))) → (found′ : Bool)
+          → found′ ≡ (found || eqb k key) → (fewer : ℕ) → fewer ≡ left - 1 → Looking s from n key found′ fewer next
+      unfolding keyMet
+      look-on two some k is found′ e fewer less =
+          let more : left ≡ suc fewer = omega (arith, some) in
+          record { same = rw (e, is, or-assoc) (rw (keys-hop s at tag size next (sym q ∙ t) two, more) at (l .same)) }
+
+pub ruleset met-laws = (needs, taken, look-begins, look-done, look-end, look-cut, look-past, look-on)
 
 pub uncovered : (old mark : ℕ) → (old ≡ mark → ⊥) → (old ≡ 255 → ⊥) → coversBy old mark ≡ false
 unfolding coversBy
@@ -88,74 +125,81 @@ still-covered seen slot mark j mixed h c =
     (λ same. rw (same, getD-set-same seen slot new 0 h) (cover-kept (getD seen slot 0) mark mixed (rw same at c)))
     (λ other. rw (getD-set-other seen slot j new 0 other) c)
 
-module _ (keys seen : List ℕ) (n key slot mark : ℕ) (k : Kept keys seen n) (room : n < 64) (is : slot ≡ slotBy (mixOf key)) (h : slot < 256)
-    (made : mark ≡ markBy (mixOf key)) where
+-- a key and its mark in its place
+module _ (met seen : List ℕ) (key slot mark : ℕ) (k : Kept met seen) (is : slot ≡ slotBy (mixOf key)) (h : slot < 256) (made : mark ≡ markBy (mixOf key)) where
   abbrev seen′ : List ℕ
   seen′ = set seen slot (markedBy (getD seen slot 0) mark)
 
-  marks : Marked (set keys n key) seen′ (n + 1)
-  marks i below =
-      let in-seen : slot < length seen = omega arith in
-      let old = getD seen slot 0 in
-      let mixed = mixOf (getD keys i 0) in
-      by-equal i n
-      (λ e. rw (e, getD-set-same keys n key 0 (omega arith), ← is, getD-set-same seen slot (markedBy old mark) 0 in-seen, ← made) (cover-new old mark))
-      (λ other. rw (getD-set-other keys n i key 0 other) (still-covered seen slot mark (slotBy mixed) mixed in-seen (k .marked i (omega arith))))
+  -- a place that shows no such key
+  unshown : coversBy (getD seen slot 0) mark ≡ false → keyMet key met ≡ false
+  unshown e =
+      by-test (keyMet key met) (λ yes. absurd (true≢false (sym (k .marked key yes) ∙ (rw (is, made) at e)))) (λ unmet. unmet)
 
-  admitted : {good : Bool} {met : List ℕ} → good ≡ true → met ≡ take n keys ++ (key ∷ []) → Taking good met true (n + 1) (set keys n key) seen′
-  admitted e m =
+  more-kept : Kept (met ++ (key ∷ [])) seen′
+  more-kept =
+      let in-seen : slot < length seen = omega (arith, k .seen-long) in
       record {
-        validated = e;
-        now-met = λ _. rw (add-one, m) (take-suc-set keys n key (omega arith));
-        kept = λ _. record { keys-long = rw length-set (k .keys-long); seen-long = rw length-set (k .seen-long); few = omega arith; marked = marks };
+        seen-long = rw length-set (k .seen-long);
+        marked = λ other e.
+            by-equal key other
+            (λ same. rw (← same, ← is, ← made, getD-set-same seen slot (markedBy (getD seen slot 0) mark) 0 in-seen) (cover-new (getD seen slot 0) mark))
+            (λ apart.
+            still-covered seen slot mark (slotBy (mixOf other)) (mixOf other) in-seen
+            (k .marked other (sym (or-no (keyMet other met)) ∙ (rw (met-snoc other key met, ne-eqb key other apart) at e))));
       }
 
-pub refused : {good : Bool} {met keys seen : List ℕ} {r : ℕ} → good ≡ false → Taking good met false r keys seen
-refused e = record { validated = e; now-met = λ h. absurd (true≢false (sym h)); kept = λ h. absurd (true≢false (sym h)) }
-
-pub unchanged : {good : Bool} {met keys seen : List ℕ} {n : ℕ} → Kept keys seen n → good ≡ true → met ≡ take n keys → Taking good met true n keys seen
-unchanged k e same = record { validated = e; now-met = λ _. sym same; kept = λ _. k }
+refused : {good : Bool} {met seen : List ℕ} → good ≡ false → Taking good met false seen
+refused e = record { validated = e; kept = λ h. absurd (true≢false (sym h)) }
 
 -- the ways out of one more record, over what the code tests
-module _ (keys seen : List ℕ) (n size : ℕ) (r : NextHop) where
-  abbrev pub AdmitTo : Bool → List ℕ → List ℕ → Type 0
-  AdmitTo taken = Taking (hopTaken (take n keys) n size r) (withKey (take n keys) r) taken (n + 1)
+module _ (met seen : List ℕ) (n size : ℕ) (r : NextHop) where
+  abbrev pub AdmitTo : Bool → List ℕ → Type 0
+  AdmitTo taken = Taking (hopTaken met n size r) (withKey met r) taken
 
-  pub admit-short : (sized : Bool) → sized ≡ hopSize size → not sized ≡ true → AdmitTo false keys seen
+  pub admit-short : (sized : Bool) → sized ≡ hopSize size → not sized ≡ true → AdmitTo false seen
   unfolding hopTaken
   admit-short sized is t = refused (rw (← is, not-true sized t))
 
-  pub admit-bad : (good : Bool) → good ≡ hopGood r → not good ≡ true → AdmitTo false keys seen
+  pub admit-bad : (good : Bool) → good ≡ hopGood r → not good ≡ true → AdmitTo false seen
   unfolding hopTaken
   admit-bad good is t = refused (rw (← is, not-true good t, and-no))
 
-  pub admit-full : n ≡ 64 → AdmitTo false keys seen
+  pub admit-full : 64 ≤ n → AdmitTo false seen
   unfolding hopTaken
-  admit-full e = refused (rw (e, and-no, and-no))
+  admit-full h = refused (rw (le-ltb n 64 h, and-no, and-no))
 
   module _ (key mixed slot mark : ℕ) (its-key : key ≡ keyOf r) (its-mix : mixed ≡ mixOf key) (its-slot : slot ≡ slotBy mixed)
-      (its-mark : mark ≡ markBy mixed) where
-    module _ (new : Bool) (is : new ≡ not (keyMet key (take n keys))) where
-      pub admit-met : not new ≡ true → AdmitTo false keys seen
-      unfolding hopTaken
-      admit-met t = refused (rw (← its-key, ← is, not-true new t, and-no, and-no))
-
-      pub admit-new : not new ≡ false → slot < 256 → (sized : Bool) → sized ≡ hopSize size → not sized ≡ false → (good : Bool)
-          → good ≡ hopGood r → not good ≡ false
-          → (n ≡ 64 → ⊥) → Kept keys seen n → (with : ℕ) → with ≡ markedBy (getD seen slot 0) mark → AdmitTo true (set keys n key) (set seen slot with)
-      unfolding hopTaken
-      admit-new t h sized e-s s good e-g g room k with e-w =
-          let few : n < 64 = omega (arith, room) in
-          rw e-w
-          (admitted keys seen n key slot mark k few (rw its-mix at its-slot) h (rw its-mix at its-mark)
-          (rw (← its-key, ← is, ← e-s, ← e-g, not-false sized s, not-false good g, not-false new t, lt-ltb n 64 few)) (rw its-key))
-
+      (its-mark : mark ≡ markBy mixed) (h : slot < 256) (k : Kept met seen) where
     -- a place that shows no such key
-    pub admit-shows : Kept keys seen n → coversBy (getD seen slot 0) mark ≡ false → keyMet key (take n keys) ≡ false
-    admit-shows k e =
-        unmet key keys n (λ i h same. true≢false (sym (rw same at (k .marked i h)) ∙ (rw (its-mark, its-slot, its-mix) at e)))
+    pub admit-shows : coversBy (getD seen slot 0) mark ≡ false → keyMet key met ≡ false
+    admit-shows = unshown met seen key slot mark k (rw its-mix at its-slot) h (rw its-mix at its-mark)
 
-pub ruleset admit-laws = (needs, admit-short, admit-bad, admit-full, admit-met, admit-new, admit-shows)
+    pub admit-met : (new : Bool) → new ≡ not (keyMet key met) → not new ≡ true → AdmitTo false seen
+    unfolding hopTaken
+    admit-met new is t = refused (rw (← its-key, ← is, not-true new t, and-no, and-no))
+
+    module _ (sized : Bool) (e-s : sized ≡ hopSize size) (s : not sized ≡ false) (good : Bool) (e-g : good ≡ hopGood r) (g : not good ≡ false)
+        (room : n < 64) where
+      admitted : keyMet key met ≡ false → AdmitTo true (set seen slot (markedBy (getD seen slot 0) mark))
+      unfolding hopTaken
+      admitted unmet =
+          record {
+            validated = rw (← its-key, unmet, ← e-s, ← e-g, not-false sized s, not-false good g, lt-ltb n 64 room);
+            kept = λ _. rw (← its-key) (more-kept met seen key slot mark k (rw its-mix at its-slot) h (rw its-mix at its-mark));
+          }
+
+      pub admit-first : getD seen slot 0 ≡ 0 → AdmitTo true (set seen slot mark)
+      unfolding markedBy coversBy markBy
+      admit-first free =
+          let shown : coversBy (getD seen slot 0) mark ≡ false = rw (free, ne-eqb 0 mark (omega arith)) in
+          rw (eq-eqb (getD seen slot 0) 0 free) at (admitted (admit-shows shown))
+
+      pub admit-new : (getD seen slot 0 ≡ 0 → ⊥) → (new : Bool) → new ≡ not (keyMet key met) → not new ≡ false → AdmitTo true (set seen slot 255)
+      unfolding markedBy
+      admit-new other new is t =
+          rw (ne-eqb (getD seen slot 0) 0 other) at (admitted (not-true (keyMet key met) (sym is ∙ not-false new t)))
+
+pub ruleset admit-laws = (needs, admit-short, admit-bad, admit-full, admit-shows, admit-met, admit-first, admit-new)
 
 serial-snoc : (r q : NextHop) (hops : List NextHop)
     → serialMet r (hops ++ (q ∷ [])) ≡ (serialMet r hops || (eqb (q .destination) (r .destination) && eqb (q .serial) (r .serial)))
@@ -207,27 +251,31 @@ pub record Rest (s : List ℕ) (whole : Option Settings) (met : List ℕ) (at : 
   pub agree : Agree (read .hops) met
 
 -- what the loop keeps
-pub record Validating (s : List ℕ) (from : ℕ) (keys seen : List ℕ) (n at : ℕ) : Type 0 where
-  pub kept : Kept keys seen n
-  pub rest : (T : Settings) → T .hops ≡ [] → Rest s (settingsFrom T (fieldsAt s from)) (take n keys) at
+pub record Validating (s : List ℕ) (from : ℕ) (seen : List ℕ) (n at : ℕ) : Type 0 where
+  pub kept : Kept (keysMet s from n) seen
+  pub few : n ≤ 64
+  pub many : length (keysMet s from n) ≡ n
+  pub split : keysIn (fieldsAt s from) ≡ keysMet s from n ++ keysIn (fieldsAt s at)
+  pub rest : (T : Settings) → T .hops ≡ [] → Rest s (settingsFrom T (fieldsAt s from)) (keysMet s from n) at
 
--- what the field at a place does to the first n keys
-abbrev pub Step : List ℕ → ℕ → List ℕ → ℕ → ℕ → ℕ → Bool → ℕ → List ℕ → List ℕ → Type 0
-Step s at keys n tag next taken r keys′ seen′ =
-    Taking (fieldTaken (take n keys) n tag (part s (at + 3) (next - (at + 3))))
-    (keysWith (take n keys) tag (part s (at + 3) (next - (at + 3)))) taken r keys′ seen′
-
-pub begins : (s : List ℕ) (from : ℕ) → Validating s from (replicate 64 0) (replicate 256 0) 0 from
+pub begins : (s : List ℕ) (from : ℕ) → Validating s from (replicate 256 0) 0 from
 unfolding serialMet keyMet
 begins s from =
     record {
-      kept = record { keys-long = refl; seen-long = refl; few = omega arith; marked = λ i below. absurd (omega arith) };
+      kept = record { seen-long = refl; marked = λ key e. absurd (false≢true e) };
+      few = omega arith;
+      many = refl;
+      split = refl;
       rest = λ T e. record { read = T; decides = refl; agree = rw e (record { count = refl; alike = λ r h. refl }) };
     }
 
-module _ {s : List ℕ} {from : ℕ} {keys seen : List ℕ} {n at : ℕ} (j : Validating s from keys seen n at) where
-  many : length (take n keys) ≡ n
-  many = length-take-le n keys (omega arith)
+-- one more key behind those met
+grown : (keys met rest : List ℕ) (k n : ℕ) → keys ≡ met ++ (k ∷ rest) → length met ≡ n → take (n + 1) keys ≡ met ++ (k ∷ [])
+grown keys met rest k n e c = rw (e, ← c) (take-append-add met (k ∷ rest) 1)
+
+module _ {s : List ℕ} {from : ℕ} {seen : List ℕ} {n at : ℕ} (j : Validating s from seen n at) where
+  abbrev met : List ℕ
+  met = keysMet s from n
 
   pub ends : length s ≤ at → Verdict s from true
   unfolding settingsFrom
@@ -244,42 +292,62 @@ module _ {s : List ℕ} {from : ℕ} {keys seen : List ℕ} {n at : ℕ} (j : Va
       v = part s (at + 3) (next - (at + 3))
 
       pub on : fieldsAt s at ≡ field tag v ∷ fieldsAt s next
-      on =
-          let f = sym q ∙ taken in
-          let the-size : next - (at + 3) ≡ size = omega (arith, field-read s at tag size next f) in
-          rw the-size (fields-at-on s at tag size next h f)
+      on = fields-next s at tag size next (sym q ∙ taken)
 
-      validated-so : (T : Settings) (e : T .hops ≡ []) {b : Bool} → fieldTaken (take n keys) n tag v ≡ b → continues (j .rest T e .read) (field tag v) ≡ b
-      validated-so T e g = continues-taken (j .rest T e .read) v (take n keys) n tag many (j .rest T e .agree) ∙ g
+      validated-so : (T : Settings) (e : T .hops ≡ []) {b : Bool} → fieldTaken met n tag v ≡ b → continues (j .rest T e .read) (field tag v) ≡ b
+      validated-so T e g = continues-taken (j .rest T e .read) v met n tag (j .many) (j .rest T e .agree) ∙ g
 
-      pub stops : {r : ℕ} {keys′ seen′ : List ℕ} → Step s at keys n tag next false r keys′ seen′ → Verdict s from false
-      stops t T e =
+      pub stops : fieldTaken met n tag v ≡ false → Verdict s from false
+      stops g T e =
           let w = j .rest T e in
-          rw (← w .decides, on, from-bad (w .read) (field tag v) (fieldsAt s next) (validated-so T e (t .validated)))
+          rw (← w .decides, on, from-bad (w .read) (field tag v) (fieldsAt s next) (validated-so T e g))
 
-      pub goes-on : {r : ℕ} {keys′ seen′ : List ℕ} → Step s at keys n tag next true r keys′ seen′ → Validating s from keys′ seen′ r next
-      goes-on t =
+      rest-on : fieldTaken met n tag v ≡ true → (T : Settings) → T .hops ≡ [] → Rest s (settingsFrom T (fieldsAt s from)) (keysWith met tag v) next
+      rest-on g T e =
+          let w = j .rest T e in
           record {
-            kept = t .kept refl;
-            rest = λ T e.
-                let w = j .rest T e in
-                rw (t .now-met refl)
-                (record {
-                  read = withField (w .read) (field tag v);
-                  decides = rw (← from-on (w .read) (field tag v) (fieldsAt s next) (validated-so T e (t .validated)), ← on) (w .decides);
-                  agree = agree-with (w .read) tag v (take n keys) (w .agree);
-                });
+            read = withField (w .read) (field tag v);
+            decides = rw (← from-on (w .read) (field tag v) (fieldsAt s next) (validated-so T e g), ← on) (w .decides);
+            agree = agree-with (w .read) tag v met (w .agree);
           }
+
+      -- a record
+      module _ (two : tag ≡ 2) where
+        pub hop-stops : hopTaken met n (length v) (hopOf v) ≡ false → Verdict s from false
+        unfolding fieldTaken
+        hop-stops g = stops (rw two g)
+
+        pub hop-on : {seen′ : List ℕ} → hopTaken met n (length v) (hopOf v) ≡ true → Kept (withKey met (hopOf v)) seen′ → Validating s from seen′ (n + 1) next
+        unfolding fieldTaken keysWith hopTaken
+        hop-on g k =
+            let keys = keysIn (fieldsAt s from) in
+            let rest = keysIn (fieldsAt s next) in
+            let parts : keys ≡ met ++ (keyOf (hopOf v) ∷ rest) = rw (keys-hop s at tag size next (sym q ∙ taken) two) at (j .split) in
+            let more = grown keys met rest (keyOf (hopOf v)) n parts (j .many) in
+            record {
+              kept = rw more k;
+              few = by-order n 64 (λ h. omega arith) (λ h. absurd (false≢true (rw (le-ltb n 64 h, and-no, and-no) at g)));
+              many = rw (more, length-append, j .many);
+              split = rw (more, append-assoc) parts;
+              rest = λ T e. rw more (rw two at (rest-on (rw two g) T e));
+            }
 
       -- a flag
       module _ (other : tag ≡ 2 → ⊥) {code : ℕ} (is : code ≡ flagBy tag v) where
         pub flag-stops : (code ≡ 0 → ⊥) → Verdict s from false
         unfolding fieldTaken
-        flag-stops z = stops (refused {keys = keys} {seen = seen} {r = n} (rw (ne-eqb tag 2 other, ← is) (ne-eqb code 0 z)))
+        flag-stops z = stops (rw (ne-eqb tag 2 other, ← is) (ne-eqb code 0 z))
 
-        pub flag-on : code ≡ 0 → Validating s from keys seen n next
+        pub flag-on : code ≡ 0 → Validating s from seen n next
         unfolding fieldTaken keysWith
-        flag-on z = goes-on (unchanged (j .kept) (rw (ne-eqb tag 2 other, ← is) (eq-eqb code 0 z)) (rw (ne-eqb tag 2 other)))
+        flag-on z =
+            record {
+              kept = j .kept;
+              few = j .few;
+              many = j .many;
+              split = rw (keys-flag s at tag size next (sym q ∙ taken) other) at (j .split);
+              rest = rw (ne-eqb tag 2 other) at (rest-on (rw (ne-eqb tag 2 other, ← is) (eq-eqb code 0 z)));
+            }
 
 -- the first field
 module _ (s : List ℕ) {tag size next : ℕ} (e : fieldAt s 0 ≡ Taken tag size next) where

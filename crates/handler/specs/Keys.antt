@@ -1,12 +1,12 @@
--- The keys of the records met so far, and the filter in front of them: how settings are validated in one pass.
-use Prim.Native.Nat.{ℕ, _+_, _*_, _/_, _%_, _≤_, _<_}
+-- The keys of the records met so far, and the filter that stands for them: how settings are validated in one pass.
+use Prim.Native.Nat.{ℕ, _+_, _*_, _/_, _%_}
 use mathlib.Core.Path.{_≡_}
 use mathlib.Core.List.{List, [], _∷_, _++_}
 use mathlib.Core.Bool.{Bool, true, false, not, _&&_, _||_}
 use lib.ListN.{length, getD, take}
 use lib.Dec.{ltb, eqb}
 use Rattle.rules.specs.Octets.{if_then_else_}
-use Rattle.rules.specs.Fields.{fieldsAt, hopSize}
+use Rattle.rules.specs.Fields.{Field, field, cut, fieldsAt, hopSize}
 use Rattle.rules.specs.Settings.{Settings, hopGood, hopOf, hopsMost, settingsFrom, settingsOf, settingsRead, waysOf}
 use Rattle.rules.specs.Campus.{known}
 use Rattle.rules.specs.declared.NextHop.{NextHop}
@@ -43,15 +43,19 @@ unfoldable pub keyMet : ℕ → List ℕ → Bool
 keyMet key [] = false
 keyMet key (k ∷ keys) = eqb k key || keyMet key keys
 
--- the place of each of the first n keys may have it
-abbrev pub Marked : List ℕ → List ℕ → ℕ → Type 0
-Marked keys seen n = (i : ℕ) → i < n → coversBy (getD seen (slotBy (mixOf (getD keys i 0))) 0) (markBy (mixOf (getD keys i 0))) ≡ true
+-- the keys of the records among fields, and the first n of those from a place on
+unfoldable pub keysIn : List Field → List ℕ
+keysIn [] = []
+keysIn (cut ∷ fs) = keysIn fs
+keysIn (field tag v ∷ fs) = if eqb tag 2 then keyOf (hopOf v) ∷ keysIn fs else keysIn fs
 
-pub record Kept (keys seen : List ℕ) (n : ℕ) : Type 0 where
-  pub keys-long : length keys ≡ 64
+abbrev pub keysMet : List ℕ → ℕ → ℕ → List ℕ
+keysMet s from n = take n (keysIn (fieldsAt s from))
+
+-- the place of each key met may have it
+pub record Kept (met seen : List ℕ) : Type 0 where
   pub seen-long : length seen ≡ 256
-  pub few : n ≤ 64
-  pub marked : Marked keys seen n
+  pub marked : (key : ℕ) → keyMet key met ≡ true → coversBy (getD seen (slotBy (mixOf key)) 0) (markBy (mixOf key)) ≡ true
 
 -- whether one more record, or field, goes with the n keys met so far
 unfoldable pub hopTaken : List ℕ → ℕ → ℕ → NextHop → Bool
@@ -67,11 +71,10 @@ withKey keys r = keys ++ (keyOf r ∷ [])
 unfoldable pub keysWith : List ℕ → ℕ → List ℕ → List ℕ
 keysWith keys tag v = if eqb tag 2 then withKey keys (hopOf v) else keys
 
--- whether a record or field is taken; then the first r keys are `met`
-pub record Taking (good : Bool) (met : List ℕ) (taken : Bool) (r : ℕ) (keys seen : List ℕ) : Type 0 where
+-- whether a record is taken; then these keys are met
+pub record Taking (good : Bool) (met : List ℕ) (taken : Bool) (seen : List ℕ) : Type 0 where
   pub validated : good ≡ taken
-  pub now-met : taken ≡ true → take r keys ≡ met
-  pub kept : taken ≡ true → Kept keys seen r
+  pub kept : taken ≡ true → Kept met seen
 
 -- r: whether the fields from a place on go with settings that have no records yet
 abbrev pub Verdict : List ℕ → ℕ → Bool → Type 0

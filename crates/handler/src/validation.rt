@@ -7,10 +7,11 @@ use rules::FieldRead;
 use rules::Ruling;
 ghost use mathlib.Core.Path.{_≡_};
 ghost use mathlib.Core.Bool.{true, false, _||_, not};
-ghost use Prim.Native.Nat.{_+_, _<_, _≤_};
-ghost use lib.ListN.{length, take};
+ghost use Prim.Native.Nat.{_<_, _≤_};
+ghost use lib.ListN.{length};
 ghost use Rattle.rules.specs.Fields.{field};
-ghost use Rattle.handler.specs.Keys.{keyOf, mixOf, slotBy, markBy, coversBy, markedBy, keyMet, Kept, hopTaken, withKey, Taking, Scanned};
+ghost use Rattle.rules.specs.Settings.{hopOf};
+ghost use Rattle.handler.specs.Keys.{keyOf, mixOf, slotBy, markBy, coversBy, keyMet, keysMet, Kept, hopTaken, withKey, Taking, Scanned};
 ghost use Rattle.handler.specs.Keys.{lookupBy, ValidatedBy};
 ghost use Rattle.octets.specs.Flags.{flagTag};
 ghost use Rattle.octets.specs.Records.{hopBy};
@@ -46,23 +47,37 @@ fn mark_of(mixed: u64) -> u8
     (mixed >> 16 & 127) as u8 + 1
 }
 
-// What stands in a slot once one more key is there.
-fn marked(old: u8, mark: u8) -> u8
-    ensures { λ r. ⌜ r ≡ markedBy old mark ⌝ }
+// The key of a record as it stands among the settings.
+fn key_at(v: &[u8]) -> u64
+    ensures { λ r. ⌜ r ≡ keyOf (hopOf (now (v .entry))) ⌝ }
 {
-    if old == 0 { mark } else { 255 }
+    octets::be16(v, 0) as u64 * 4294967296 + octets::be32(v, 10) as u64
 }
 
-// Whether a key is among the first n.
-fn met(keys: &[u64], n: usize, key: u64) -> bool
-    requires { ⌜ n ≤ length (now keys) ⌝ }
-    ensures { λ r. ⌜ r ≡ keyMet key (take n (now (keys .entry))) ⌝ }
+// Whether a key is that of one of the first n records. Few are looked for, so that the keys are read anew and not kept.
+fn met(s: &[u8], from: usize, n: usize, key: u64) -> bool
+    ensures { λ r. ⌜ r ≡ keyMet key (keysMet (now (s .entry)) from n) ⌝ }
 {
     let mut found = false;
-    let mut i = 0;
-    while i < n {
-        found = either(found, keys[i] == key);
-        i += 1;
+    let mut left = n;
+    let mut at = from;
+    while at < s.len() {
+        if left == 0 {
+            return found;
+        }
+        let FieldRead::Taken {
+            tag,
+            length: _,
+            next,
+        } = octets::field_at(s, at)
+        else {
+            return found;
+        };
+        if tag == 2 {
+            found = either(found, key_at(&s[at + 3..next]) == key);
+            left -= 1;
+        }
+        at = next;
     }
     found
 }
@@ -73,24 +88,24 @@ fn either(a: bool, b: bool) -> bool
     if a { true } else { b }
 }
 
-// Another key's mark alone in the slot, or none, shows that no earlier record has this key; only else is there a look at them all.
-fn fresh(keys: &[u64], n: usize, key: u64, old: u8, mark: u8) -> bool
-    requires { ⌜ (n ≤ length (now keys)) × (coversBy old mark ≡ false → keyMet key (take n (now keys)) ≡ false) ⌝ }
-    ensures { λ r. ⌜ r ≡ not (keyMet key (take n (now (keys .entry)))) ⌝ }
+// Another key's mark alone in the slot shows that no earlier record has this key; only else is there a look at them all.
+fn fresh(s: &[u8], from: usize, n: usize, key: u64, old: u8, mark: u8) -> bool
+    requires { ⌜ (coversBy old mark ≡ false → keyMet key (keysMet (now s) from n) ≡ false) ⌝ }
+    ensures { λ r. ⌜ r ≡ not (keyMet key (keysMet (now (s .entry)) from n)) ⌝ }
 {
     if old != mark {
         if old != 255 {
             return true;
         }
     }
-    !met(keys, n, key)
+    !met(s, from, n, key)
 }
 
-// Whether a record of a size goes with the n before it; then its key is kept.
-fn admit(keys: &mut [u64], seen: &mut [u8], n: usize, size: usize, r: Record) -> bool
-    requires { ⌜ Kept (now keys) (now seen) n ⌝ }
-    ensures { λ b. ⌜ Taking (hopTaken (take n (now (keys .entry))) n size (hopBy r)) (withKey (take n (now (keys .entry))) (hopBy r))
-        b (n + 1) (now (keys .exit)) (now (seen .exit)) ⌝ }
+// Whether a record of a size goes with the n before it; then its key is marked. Most are the first in their slot.
+fn admit(s: &[u8], from: usize, seen: &mut [u8], n: usize, size: usize, r: Record) -> bool
+    requires { ⌜ Kept (keysMet (now s) from n) (now seen) ⌝ }
+    ensures { λ b. ⌜ Taking (hopTaken (keysMet (now (s .entry)) from n) n size (hopBy r)) (withKey (keysMet (now (s .entry)) from n) (hopBy r))
+        b (now (seen .exit)) ⌝ }
 {
     if !octets::hop_size(size) {
         return false;
@@ -98,7 +113,7 @@ fn admit(keys: &mut [u64], seen: &mut [u8], n: usize, size: usize, r: Record) ->
     if !octets::record_good(r) {
         return false;
     }
-    if n == 64 {
+    if 64 <= n {
         return false;
     }
     let key = key_of(r);
@@ -106,11 +121,14 @@ fn admit(keys: &mut [u64], seen: &mut [u8], n: usize, size: usize, r: Record) ->
     let slot = slot_of(mixed);
     let mark = mark_of(mixed);
     let old = seen[slot];
-    if !fresh(keys, n, key, old, mark) {
+    if old == 0 {
+        seen[slot] = mark;
+        return true;
+    }
+    if !fresh(s, from, n, key, old, mark) {
         return false;
     }
-    keys[n] = key;
-    seen[slot] = marked(old, mark);
+    seen[slot] = 255;
     true
 }
 
@@ -153,7 +171,6 @@ fn scan_from(s: &[u8], from: usize, d: u16) -> Scan
     requires { ⌜ from ≤ length (now s) ⌝ }
     ensures { λ r. ⌜ Scanned (now (s .entry)) from d r ⌝ }
 {
-    let mut keys = [0u64; 64];
     let mut seen = [0u8; 256];
     let mut n = 0;
     let mut best = Ruling::Absent;
@@ -171,7 +188,7 @@ fn scan_from(s: &[u8], from: usize, d: u16) -> Scan
         let v = &s[at + 3..next];
         if tag == 2 {
             let r = octets::record_of(v);
-            if !admit(&mut keys, &mut seen, n, v.len(), r) {
+            if !admit(s, from, &mut seen, n, v.len(), r) {
                 return bad_scan();
             }
             n += 1;

@@ -1,14 +1,16 @@
--- The parts of a number of eight octets are what is read where they stand, and the header that one such number has. By arithmetic.
+-- The parts of a number of eight octets are what is read where they stand; the header that one such number has, and the field that one begins.
+-- By arithmetic.
 use mathlib.Core.Path.{_≡_, refl, sym, _∙_}
 use mathlib.Core.List.{List}
-use Prim.Native.Nat.{ℕ, _+_, _*_, _/_, _%_, _≤_}
-use native.Mathlib.Omega.{arith}
+use Prim.Native.Nat.{ℕ, _+_, _-_, _*_, _/_, _%_, _≤_}
+use native.Mathlib.{Omega.arith, Nat.add-assoc}
 use lib.ListN.{length}
-use Rattle.rules.specs.Octets.{be16, be32}
+use borrow.Author.Tests.{le-ltb}
+use Rattle.rules.specs.{Octets.octet, Octets.be16, Octets.be32, Fields.fieldAt}
 use Rattle.rules.specs.{Header.readFrame, Link.linkLength, Link.ethertypeTrill}
-use Rattle.rules.specs.declared.FrameRead.the-variants.{Trill}
-use Rattle.rules.proofs.FrameLaws.{read-frame-laws, read-trill, length-plain}
-use Rattle.octets.specs.Words.{be64}
+use Rattle.rules.specs.declared.{FrameRead.the-variants.Trill, FieldRead.the-variants.Taken}
+use Rattle.rules.proofs.{FieldLaws.field-at-laws, FrameLaws.read-frame-laws, FrameLaws.read-trill, FrameLaws.length-plain}
+use Rattle.octets.specs.Words.{be64, le64, lowFirst}
 
 -- two numbers of four octets, or four of two
 module _ (s : List ℕ) (at n : ℕ) (is : n ≡ be64 s at) where
@@ -44,3 +46,18 @@ read-untagged f n is long trill =
     (second-part f 12 n is) (third-part f 12 n is) (last-part f 12 n is)
 
 pub ruleset read-laws = (read-untagged, read-frame-laws)
+
+-- a field that begins with tag 2 and length 14, told by the low three octets
+pub field-record : (s : List ℕ) (at n : ℕ) → n ≡ le64 s at → at ≤ length s → 17 ≤ length s - at → n % 16777216 ≡ 0x0E0002
+    → Taken 2 14 (at + 17) ≡ fieldAt s at
+unfolding lowFirst fieldAt
+field-record s at n is from room e =
+    let low : octet s at + octet s (at + 1) * 256 + octet s (at + 2) * 65536 ≡ 0x0E0002 = omega arith in
+    let tag : octet s at ≡ 2 = omega arith in
+    let least : octet s (at + 2) ≤ 14 = omega (arith, low, tag) in
+    let most : 14 ≤ octet s (at + 2) = omega (arith, low, tag) in
+    let size : be16 s (at + 1) ≡ 14 = simp add-assoc (omega (arith, low, tag, least, most)) in
+    let next : at + 3 + 14 ≡ at + 17 = omega arith in
+    rw (le-ltb (length s) (at + 3) (omega arith), size, le-ltb (length s) (at + 3 + 14) (omega arith), tag, next)
+
+pub ruleset field-laws = (field-record, field-at-laws)

@@ -210,7 +210,11 @@ pub fn eight(word: u64) -> [u8; 8]
     ]
 }
 
-// The field at a place (document 01, "Fields"): cut short, or its tag and length with the next place.
+// Tag 2 and length 14, the low octet first: how a next-hop record without a VLAN begins.
+const RECORD: u64 = 0x0E0002;
+
+// The field at a place (document 01, "Fields"): cut short, or its tag and length with the next place. A record is told by one test, so that the
+// place behind it does not wait for its length to be read.
 pub fn field_at(s: &[u8], at: usize) -> FieldRead
     ensures { λ r. ⌜ r ≡ fieldAt (now (s .entry)) at ⌝ }
 {
@@ -220,6 +224,15 @@ pub fn field_at(s: &[u8], at: usize) -> FieldRead
     let left = s.len() - at;
     if left < 3 {
         return FieldRead::Cut;
+    }
+    if 17 <= left {
+        if le64(s, at) % 16777216 == RECORD {
+            return FieldRead::Taken {
+                tag: 2,
+                length: 14,
+                next: at + 17,
+            };
+        }
     }
     let length = be16(s, at + 1) as usize;
     if left - 3 < length {

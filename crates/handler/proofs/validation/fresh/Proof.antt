@@ -1,4 +1,4 @@
--- Its contract: what the place shows by the requirement, all else by the scan.
+-- Its contract: what the place shows by the requirement, all else by the look at the records.
 use mathlib.Core.{Path.sym, Path.ap, Bool.not}
 use borrow.Author.Needs.{needs}
 use Rattle.handler.proofs
@@ -9,5 +9,5 @@ pub fresh-spec : {M : Type 1} → fn.Statement.statement M
 fresh-spec = fn.Tie.close (fn.Tie.spec
     (λ c.
     let start = c .before .before .before in
-    ap not (sym (start .pre .1 (uncovered (start .args .old) (start .args .mark) (c .before .if1 .taken) (c .if2 .taken)))))
+    ap not (sym (start .pre (uncovered (start .args .old) (start .args .mark) (c .before .if1 .taken) (c .if2 .taken)))))
     (λ c κs. search needs) (λ c. ap not (c .met .ensures)))
