@@ -14,7 +14,6 @@ use native.Mathlib.Omega.{arith}
 use native.Mathlib.Nat.{add-zero}
 use lib.ListN.{length, take, drop, length-drop, length-append, getD, length-take, take-append-drop, drop-of-length-le}
 use lib.Seq.{take-all, take-add, drop-drop, drop-cons, length-take-le}
-use lib.Bits.{bitOr}
 use lib.Dec.{eqb}
 use Rattle.rules.proofs.OctetLaws.{length-part, drop-part, put-inside, put-tail, octets16-be16}
 use Rattle.rules.proofs.FrameLaws.{frame-read, link-length}
@@ -23,7 +22,6 @@ use mir.Val as Val
 use Rattle.handler.specs
 use specs.Shapes.{linkSize, taggedOctets, Fits, sentBy, headerSent, restWith, replyHead, replyChannel, replyOctets, waysBy}
 use Rattle.octets.specs.Words.{octets64}
-use Rattle.octets.proofs.Bits.{or-add}
 use Rattle.octets.specs.Copy.{Wrote, fitting}
 use Rattle.octets.proofs.Ends.{copied, wrote-long, joined, copied-on}
 use rules.declared.{NextHop.NextHop, Header.Header, FrameRead.the-variants.Trill}
@@ -57,9 +55,9 @@ over s t {out} {u = u} {at = at} a e b short room =
     record { ends = rw length-append (omega arith); after = b .after ∙ rw (a .after, e) (put-tail out at s t u room short) }
 
 -- a MAC above 16 bits more
-octets-above : (mac low : ℕ) → low < 65536 → octets48 ((mac % 281474976710656 * 65536 + low) / 65536) ≡ octets48 mac
-octets-above mac low small =
-    let x = (mac % 281474976710656 * 65536 + low) / 65536 in
+octets-above : (mac : ℕ) → octets48 (mac * 65536 % 18446744073709551616 / 65536) ≡ octets48 mac
+octets-above mac =
+    let x = mac * 65536 % 18446744073709551616 / 65536 in
     let a : x / 4294967296 / 256 % 256 ≡ mac / 4294967296 / 256 % 256 = omega arith in
     let b : x / 4294967296 % 256 ≡ mac / 4294967296 % 256 = omega arith in
     let c : x / 65536 / 256 % 256 ≡ mac / 65536 / 256 % 256 = omega arith in
@@ -68,19 +66,16 @@ octets-above mac low small =
     let f : x % 256 ≡ mac % 256 = omega arith in
     rw (a, b, c, d, e, f)
 
-pub above-or : (mac low : ℕ) → low < 65536 → bitOr (mac * 65536 % 18446744073709551616) low ≡ mac % 281474976710656 * 65536 + low
-above-or mac low small = or-add (mac * 65536 % 18446744073709551616) 16 low (omega arith) small ∙ omega arith
-
 -- both MACs
-pub macs-written : (to : NextHop) (own w : ℕ) (d d1 d2 a b : List ℕ) (m n : ℕ) → w ≡ to .mac % 281474976710656 * 65536 + to .neighbour → to .neighbour < 65536
-    → a ≡ octets64 w → b ≡ octets64 own → Wrote (fitting d 0 a) 0 m d d1 → Wrote (fitting d1 6 b) 6 n d1 d2 → 14 ≤ length d
+pub macs-written : (to : NextHop) (own : ℕ) (d d1 d2 a b : List ℕ) (m n : ℕ) → a ≡ octets64 (to .mac * 65536 % 18446744073709551616)
+    → b ≡ octets64 own → Wrote (fitting d 0 a) 0 m d d1 → Wrote (fitting d1 6 b) 6 n d1 d2 → 14 ≤ length d
     → Wrote (octets48 (to .mac) ++ octets64 own) 0 14 d d2
-macs-written to own w d d1 d2 a b m n is small ea eb p q room =
+macs-written to own d d1 d2 a b m n ea eb p q room =
+    let w = to .mac * 65536 % 18446744073709551616 in
     let first : Wrote (octets48 (w / 65536) ++ octets16 w) 0 m d d1 = copied p ea (omega arith) in
     let rest = copied q eb (omega (arith, wrote-long first (omega (arith, first .ends)))) in
     let both = over (octets48 (w / 65536)) (octets16 w) first refl rest (omega arith) (omega arith) in
-    let mac : octets48 (w / 65536) ≡ octets48 (to .mac) = rw is (octets-above (to .mac) (to .neighbour) small) in
-    record { ends = refl; after = both .after ∙ ap (λ (x : List ℕ). put d 0 (x ++ octets64 own)) mac }
+    record { ends = refl; after = both .after ∙ ap (λ (x : List ℕ). put d 0 (x ++ octets64 own)) (octets-above (to .mac)) }
 
 pub ruleset write-macs-laws = (needs, macs-written)
 

@@ -3,7 +3,7 @@ use rules::NextHop;
 use rules::Ruling;
 ghost use mathlib.Core.Path.{_≡_};
 ghost use mathlib.Core.List.{_++_};
-ghost use Prim.Native.Nat.{_+_, _*_, _%_, _≤_};
+ghost use Prim.Native.Nat.{_≤_};
 ghost use lib.ListN.{length};
 ghost use Rattle.rules.specs.Octets.{octets48};
 ghost use Rattle.rules.specs.Link.{link};
@@ -58,19 +58,12 @@ fn tagged_octets(vlan: u16) -> [u8; 6]
     ]
 }
 
-// A MAC above a nickname.
-fn above(mac: u64, nickname: u16) -> u64
-    ensures { λ r. ⌜ r ≡ mac % 281474976710656 * 65536 + nickname ⌝ }
-{
-    mac << 16 | nickname as u64
-}
-
 // Both MACs, and behind them two octets of anything, over which the Ethertype or the tag is written.
 fn write_macs(to: NextHop, own: u64, out: &mut [u8])
     requires { ⌜ 14 ≤ length (now out) ⌝ }
     ensures { λ _. ⌜ Wrote (octets48 (to .mac) ++ octets64 own) 0 14 (now (out .entry)) (now (out .exit)) ⌝ }
 {
-    let destination = octets::eight(above(to.mac, to.neighbour));
+    let destination = octets::eight(to.mac << 16);
     octets::copy(out, 0, &destination);
     let source = octets::eight(own);
     octets::copy(out, 6, &source);
