@@ -2,7 +2,7 @@
 use Rattle.rules.specs.{Handling.routed, Handling.decapsulated, Handling.transit, Handling.alerted, Handling.handled, Header.opLength, Header.weAreEgress}
 use Rattle.rules.specs.{Settings.Ways, Settings.Settings, Settings.settingsRead, Settings.waysOf, Settings.settingsOf, Campus.known, Channel.channelRead}
 use Rattle.rules.specs.{Header.innerOf, Extension.areaSent, Link.link, Handling.onward, Handling.forwarded, Handling.forwardedRest}
-use Rattle.rules.specs.declared.{Alert.Alert, Header.Header}
+use Rattle.rules.specs.declared.{Alert.Alert, Alert.the-variants.NoAlert, Header.Header}
 use Rattle.handler.specs
 use specs.declared.handling.{Local.Local, Task.Task, Received.Received}
 use specs.declared.handling.Local.the-variants.{Dropped, Answered, Message}
@@ -11,15 +11,14 @@ use specs.declared.handling.Received.the-variants.{Refused, Trill}
 use specs.declared.way.{Lookup.Lookup, Own.Own}
 use specs.declared.validation.Validated.{Validated}
 use specs.declared.answers.Answer.{Answer}
-use specs.Tasks.{transitQuiet, messaged, localAt, wantedBy, Routes, askedBy, receivedBy, Receiving, Replies, RepliesBy, Both}
+use specs.Tasks.{transitQuiet, messaged, localAt, wantedBy, Ends, LocalRole, Routes, Arrives, askedBy, receivedBy, Receiving, Replies, RepliesBy, Both}
 use specs.Shapes.{Owns, Sends, Done, droppedBy, onlyFor, waysBy}
 use specs.{Keys.lookupBy, Keys.ValidatedBy, Calls.LookupOf}
 use Rattle.handler.proofs
 use proofs.{RouteLaws.received-lent, StageLaws.by-hop, StageLaws.done-dropped}
 use proofs.TaskLaws.{both-of, back-message, same-message, quiet-lookup, same-channelled, none-read, none-stops, none-alert, task-laws}
 use proofs.TaskLaws.{forward-in-laws, asks-so, replies-quiet}
-use proofs.TaskLaws.{copy-ready, copy-both, front-count, front-done, front-room}
-use proofs.TaskLaws.{comes-ends, plain-egress, plain-transit}
+use proofs.TaskLaws.{lent-clock, copy-ready, copy-both, copy-done, front-count, front-done, front-room, plain-transit}
 use mathlib.Core.Path.{_≡_, refl, sym, ap, _∙_}
 use mathlib.Core.List.{List}
 use mathlib.Core.Bool.{true, not, Bool, false, true≢false, false≢true}
@@ -100,7 +99,7 @@ module _ (own : Own) (j : Validated) (t : Lookup) (e : t ≡ lookupBy own j) (f 
 
 pub ruleset message-by-laws = (needs, message-by, front-count, front-done, front-room)
 
-pub ruleset plain-by-laws = (needs, comes-ends, plain-egress, plain-transit, quiet-by)
+pub ruleset plain-by-laws = (needs, quiet-by)
 
 -- a frame without an area asks for one destination only
 module _ (S : Ways) (clock f : List ℕ) (h : Header) (none : opLength (h .word) ≡ 0) where
@@ -143,41 +142,63 @@ module _ {s : List ℕ} {d : ℕ} (own : Own) (j : Validated) (x : LookupOf s d 
   lookup-edition rfc7179 e = e ∙ ap (λ (y : Ways). y .rfc7179) (x .lookup)
 
 module _ (s f : List ℕ) (h : Header) (own : Own) (j : Validated) (x : LookupOf s (wantedBy (own .nickname) h) (lookupBy own j)) where
-  pub plain-lookup : (n : ℕ) → n ≡ opLength (h .word) → n ≡ 0 → (clock : List ℕ) (r : Answer) (out out1 beside : List ℕ)
-      → Done (routed (waysBy (lookupBy own j)) clock f h) r out out1 → Both (routed (switchAt s) clock f h) r out out1 beside beside
-  plain-lookup n is z clock r out out1 beside d =
-      let same : routed (switchAt s) clock f h ≡ routed (waysBy (lookupBy own j)) clock f h =
+  -- without an area, in transit
+  pub plain-lookup : (egress : Bool) → egress ≡ weAreEgress (own .nickname) h → egress ≡ false → (n : ℕ) → n ≡ opLength (h .word) → n ≡ 0
+      → (clock : List ℕ) (r : Answer) (out out1 beside : List ℕ) → Done (transitQuiet (waysBy (lookupBy own j)) f h NoAlert) r out out1
+      → Both (routed (switchAt s) clock f h) r out out1 beside beside
+  plain-lookup egress e t n is z clock r out out1 beside d =
+      let T = waysBy (lookupBy own j) in
+      let same : routed (switchAt s) clock f h ≡ routed T clock f h =
       routed-only (switchAt s) clock f h (sym is ∙ z)
       ∙ ap (λ (n : ℕ). routed (onlyFor (wantedBy n h) (switchAt s)) clock f h) (sym (lookup-named own j x))
       ∙ ap (λ (y : Ways). routed y clock f h) (sym (x .lookup)) in
-      both-of beside (rw same d)
+      both-of beside (rw same (plain-transit T clock f h (sym is ∙ z) (own .nickname) refl egress e r out out1 t d))
+
+  local-lookup : (local : Local) → LocalRole (own .nickname) h local → (clock : List ℕ) (r : Answer) (out out1 : List ℕ)
+      → Done (localAt (waysBy (lookupBy own j)) clock f h local) r out out1 → Done (localAt (switchAt s) clock f h local) r out out1
+  local-lookup (Dropped n) role clock r out out1 d = d
+  local-lookup (Answered n start size) role clock r out out1 d = d
+  local-lookup Message role clock r out out1 d = back-message (switchAt s) f h (lookupBy own j) r out out1 (rw role at (x .lookup)) clock d
+
+  -- to us
+  pub lookup-arrived : (egress : Bool) → egress ≡ weAreEgress (own .nickname) h → egress ≡ true → (local : Local) → Arrives (j .rfc7179) f h local
+      → (clock : List ℕ) (r : Answer) (out out1 beside : List ℕ) → Done (localAt (waysBy (lookupBy own j)) clock f h local) r out out1
+      → Both (routed (switchAt s) clock f h) r out out1 beside beside
+  lookup-arrived egress e t local arrives clock r out out1 beside d =
+      let task = arrives .task (own .nickname) (sym e ∙ t) in
+      both-of beside
+      (rw (task .same (switchAt s) clock (lookup-named own j x) (lookup-edition own j x (j .rfc7179) refl)) (local-lookup local (task .role) clock r out out1 d))
 
   -- with an area, of our role's destination
   module _ {rfc7179 strip : Bool} {kept : List ℕ} {task : Task} (routes : Routes (own .nickname) rfc7179 strip f h kept task) where
     pub lookup-local : (local : Local) → task ≡ Ended local → (clock : List ℕ) (r : Answer) (out out1 : List ℕ)
         → Done (localAt (waysBy (lookupBy own j)) clock f h local) r out out1 → Done (localAt (switchAt s) clock f h local) r out out1
-    lookup-local (Dropped n) e clock r out out1 d = d
-    lookup-local (Answered n start size) e clock r out out1 d = d
-    lookup-local Message e clock r out out1 d =
-        back-message (switchAt s) f h (lookupBy own j) r out out1 (rw (rw e at (routes .role)) at (x .lookup)) clock d
+    lookup-local local e = local-lookup local (rw e at (routes .role))
 
     pub lookup-onward : (alert : Alert) (size : ℕ) → task ≡ Forward alert size → LookupOf s (h .egress) (lookupBy own j)
     lookup-onward alert size e = rw (rw e at (routes .role)) at x
 
+pub arrives-ends : {rfc7179 : Bool} {f : List ℕ} {h : Header} {local : Local} → Arrives rfc7179 f h local → Ends local
+arrives-ends x = x .ends
+
 pub edition-by : (j : Validated) (known : Bool) → j .rfc7179 ≡ known → known ≡ j .rfc7179
 edition-by j known e = sym e
 
-pub copy-lookup : (s : List ℕ) (h x : Header) → x ≡ h → (own y : Own) → y ≡ own → (j : Validated)
-    → LookupOf s (wantedBy (own .nickname) h) (lookupBy own j) → LookupOf s (wantedBy (y .nickname) x) (lookupBy y j)
-copy-lookup s h x same own y alike j k = rw (same, alike) k
+-- what is lent in a copy, or lent on
+pub lent-switch : (s s′ : List ℕ) → s′ ≡ s → switchAt s′ ≡ switchAt s
+lent-switch s s′ e = rw e
 
-pub copy-by : (f : List ℕ) (h x : Header) → x ≡ h → (own y : Own) → y ≡ own → (j : Validated) (r a : Answer) → r ≡ a → (clock out out1 : List ℕ)
-    → Done (messaged (waysBy (lookupBy y j)) clock f x) a out out1 → Done (messaged (waysBy (lookupBy own j)) clock f h) r out out1
-copy-by f h x same own y alike j r a made clock out out1 d = rw (made, ← same, ← alike) d
+pub copy-lookup : (s s′ : List ℕ) → s′ ≡ s → (h x : Header) → x ≡ h → (own y : Own) → y ≡ own → (j : Validated)
+    → LookupOf s (wantedBy (own .nickname) h) (lookupBy own j) → LookupOf s′ (wantedBy (y .nickname) x) (lookupBy y j)
+copy-lookup s s′ e h x same own y alike j k = rw (e, same, alike) k
 
-pub ruleset apart-by-laws = (needs, copy-ready, copy-by)
+pub copy-ways : (own y : Own) → y ≡ own → (j : Validated) → waysBy (lookupBy y j) ≡ waysBy (lookupBy own j)
+copy-ways own y e j = rw e
 
-pub ruleset handle-by-laws = (needs, plain-lookup, edition-by, copy-ready, copy-both, copy-lookup)
+pub ruleset apart-by-laws = (needs, lent-clock, copy-ready, copy-done, copy-ways)
+
+pub ruleset handle-by-laws =
+    (needs, plain-lookup, lookup-arrived, arrives-ends, edition-by, lent-clock, copy-ready, copy-both, lent-switch, copy-lookup)
 
 pub ruleset area-by-laws = (task-laws, lookup-named, lookup-edition, lookup-local, lookup-onward)
 

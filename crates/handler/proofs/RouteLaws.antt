@@ -39,7 +39,7 @@ use specs.declared.handling.{Local.Local, Task.Task, Received.Received}
 use specs.declared.handling.Local.the-variants.{Dropped, Answered, Message}
 use specs.declared.handling.Task.the-variants.{Ended, Forward}
 use specs.Tasks.{areaReadBy, PutAside, ReadBy, stopsBy, alertBy, transitAt, wantedBy, askedBy, Answerable, Comes, LocalRole, Sized, Aside, RoutesRead, Routes}
-use specs.Tasks.{Receives, Lent, Receiving}
+use specs.Tasks.{Arrives, Receives, Lent, Receiving}
 use Rattle.rules.specs.Options as O
 use Rattle.rules.specs.Answer as A
 use Rattle.handler.specs.declared.handling.Received.the-variants as R
@@ -266,6 +266,30 @@ module _ (nickname : ℕ) (rfc7179 : Bool) (size : ℕ) (f : List ℕ) (h : Head
         }
 
 pub ruleset route-read-laws = (needs, ready, inner-held, route-stopped, route-egress, route-transit)
+
+-- a frame to us with an area
+module _ (rfc7179 : Bool) (f : List ℕ) (h : Header) (area : List ℕ) (held : area ≡ areaOf f h) where
+  pub arrives-faulty : Ready f h → (strip : Bool) (kept : List ℕ) (read : AreaRead) → ReadBy rfc7179 strip area kept read → (n p : ℕ) → read ≡ Faulty n p
+      → Arrives rfc7179 f h (Answered n p 0)
+  arrives-faulty is strip kept read a n p e =
+      record {
+        task = λ nickname t. record { same = faulty nickname .same; left = faulty nickname .left; role = Prim.tt; sized = Prim.tt };
+        ends = faulty 0 .left;
+      }
+    where
+      faulty : (nickname : ℕ) → Routes nickname rfc7179 strip f h kept (Ended (Answered n p 0))
+      faulty nickname = route-faulty nickname rfc7179 strip f h area kept held read a is n p e
+
+  module _ (well : areaReadBy rfc7179 area ≡ WellFormed) (stops : Bool) (b : stops ≡ stopsBy rfc7179 true area) where
+    pub arrives-stopped : stops ≡ true → Arrives rfc7179 f h (Dropped 20)
+    arrives-stopped x =
+        record { task = λ nickname t. route-stopped nickname rfc7179 0 f h area held well true (sym t) stops b x; ends = Prim.tt }
+
+    pub arrives-read : stops ≡ false → (local : Local) → Comes f h local → Arrives rfc7179 f h local
+    arrives-read x local d =
+        record { task = λ nickname t. route-egress nickname rfc7179 0 f h area held well true (sym t) stops b x local refl d; ends = d .ends }
+
+pub ruleset arrived-laws = (needs, arrives-stopped, arrives-read)
 
 -- 12 to 18
 module _ (f : List ℕ) (h : Header) (is : readFrame f ≡ Trill h) (own : Own) where

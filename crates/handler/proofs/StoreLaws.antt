@@ -9,7 +9,7 @@ use native.Mathlib.Omega.{arith}
 use borrow.Author.Needs.{needs}
 use borrow.Author.Tests.{lt-ltb, le-ltb, le-leb, lt-leb, eq-eqb, ne-eqb, not-true, not-false}
 use lib.Dec.{leb, eqb}
-use lib.ListN.{length, getD, take, drop}
+use lib.ListN.{length, getD}
 use Rattle.rules.specs as rules
 use rules.{Settings.nicknameValid, Handling.routed}
 use rules.declared.{Header.Header, NextHop.NextHop, Ruling.Ruling}
@@ -21,8 +21,7 @@ use specs.declared.way.Own.{Own}
 use specs.declared.handling.Received.{Received}
 use specs.declared.handling.Received.the-variants.{Refused, Trill}
 use specs.{Shapes.droppedBy, Shapes.Owns, Shapes.onlyFor, Shapes.waysBy, Tasks.receivedBy, Tasks.Receiving, Tasks.Both}
-use proofs.TaskLaws.{both-of, finds, back-message, both-plain, copies, front-count, front-done, front-room}
-use proofs.Stages.{lent-rest}
+use proofs.TaskLaws.{both-of, finds, back-message, both-plain, copies, front-count, front-done, front-room, plain-laws}
 use Rattle.stores.proofs.PlaceLaws.{good-whole, step-past, step-up, step-stay, place-hinted, place-searched, for-past, for-other}
 use Rattle.stores.specs.Store.{nicknameIn, countIn, destAt, hopOf, hopAt, lastAt, hintAt, placeIn, hopFor, waysIn, storeGood, handledIn, Whole}
 use Rattle.rules.specs.Answer as A
@@ -142,21 +141,24 @@ module _ (w clock f out beside : List ℕ) (ok : Bool) (is : ok ≡ storeGood w)
 
 pub ruleset handle-prepared-laws = (needs, received-lent, good-store, store-bad, store-early, store-done)
 
--- a frame that was received, by a good store
--- a store lent anew, from its start on
-all-lent : (w : List ℕ) → take (length w - 0) (drop 0 w) ≡ w
-all-lent w = lent-rest w 0
+-- a frame that was received, by a good store; a store lent on is the same
+module _ (w w′ : List ℕ) (same : w′ ≡ w) where
+  pub lent-whole : Whole w → Whole w′
+  lent-whole x = rw same x
 
-pub whole-lent : (w : List ℕ) → Whole w → Whole (take (length w - 0) (drop 0 w))
-whole-lent w x = rw (all-lent w) x
+  pub lent-ways : waysIn w′ ≡ waysIn w
+  lent-ways = rw same
 
-pub place-lent : (w : List ℕ) (d place : ℕ) → place ≡ placeIn (take (length w - 0) (drop 0 w)) (countIn (take (length w - 0) (drop 0 w))) d
-    → place ≡ placeIn w (countIn w) d
-place-lent w d place e = rw (all-lent w) at e
+  pub lent-place : (d place : ℕ) → place ≡ placeIn w′ (countIn w′) d → place ≡ placeIn w (countIn w) d
+  lent-place d place e = rw same at e
 
-pub ruleset message-in-laws = (needs, whole-lent, place-lent, back-message, front-count, front-done, front-room)
+pub ruleset message-in-laws = (needs, lent-whole, lent-place, back-message, front-count, front-done, front-room)
+
+pub ruleset plain-in-laws = (plain-laws, lent-whole, lent-place)
+
+pub ruleset apart-in-laws = (needs, lent-whole, lent-ways, copies)
 
 pub edition-in : (w : List ℕ) (b known : Bool) → b ≡ waysIn w .rfc7179 → b ≡ known → known ≡ waysIn w .rfc7179
 edition-in w b known e k = sym k ∙ e
 
-pub ruleset handle-in-laws = (needs, both-plain, edition-in, copies)
+pub ruleset handle-in-laws = (needs, both-plain, edition-in, lent-whole, lent-ways, copies)

@@ -6,7 +6,8 @@ use rules.{Header.opLength, Header.areaOf, Header.innerOf, Header.weAreEgress}
 use rules.Extension.{areaSent, areaRead, areaStops, flagUnsummarized, summaryBare, extensionRead, extensionStops}
 use rules.Channel.{replyInner, bodyOf, replyMode, silenced, returnPath, errorReply, echoReply, replyRest, errorBody, echoBody, channelRead}
 use Rattle.handler.proofs
-use proofs.StageLaws.{by-hop, back, ready, inner-held, done-dropped, done-unwritten, plain-sent}
+use proofs.StageLaws.{by-hop, back, ready, inner-held, area-held, done-dropped, done-unwritten, plain-sent}
+use proofs.RouteLaws.{area-made, read-well, arrives-faulty}
 use proofs.Walks.{area-short}
 use mathlib.Core.Path.{_≡_, refl, sym, ap, _∙_}
 use mathlib.Core.List.{List, [], _++_, append-assoc}
@@ -33,7 +34,7 @@ use specs.declared.handling.{Local.Local, Task.Task}
 use specs.declared.handling.Local.the-variants.{Dropped, Answered, Message}
 use specs.declared.handling.Task.the-variants.{Ended, Forward}
 use specs.Tasks.{PutAside, alertRefusal, alertQuiet, transitQuiet, transitAt, messaged, localAt, asksBack, Answerable}
-use specs.Tasks.{Forwardable, Ends, Comes, Routes, Replies, RepliesBy, Both}
+use specs.Tasks.{Forwardable, Ends, Comes, LocalRole, Routes, Arrives, Replies, RepliesBy, Both}
 use specs.Shapes.{sentOf, answerOf, repliedBy, besideBy, viaOf, neighbourOf, Owns, Sends, onlyFor, waysBy, Ready, Replied, Done}
 use Rattle.rules.specs.Answer as A
 
@@ -264,13 +265,37 @@ module _ (S : Ways) (clock f : List ℕ) (h : Header) (none : opLength (h .word)
         rw (routed-transit S clock f h none-read (none-stops (weAreEgress (S .nickname) h)) (cc))
         (by-hop (S .hop (h .egress)) (λ q. rw (transit, q) (rw (transitQuiet, q) at d)) (λ hop q. rw (transit, q, none-alert) (rw (transitQuiet, q) at d)))
 
+-- and to us
+pub arrives-plain : (rfc7179 : Bool) (f : List ℕ) (h : Header) (n : ℕ) → n ≡ opLength (h .word) → n ≡ 0 → (local : Local) → Comes f h local
+    → Arrives rfc7179 f h local
+arrives-plain rfc7179 f h n is z local x =
+    record {
+      task = λ nickname t.
+          record {
+            same = λ S clock named two.
+                routed-egress S clock f h (none-read S clock f h (sym is ∙ z)) (none-stops S clock f h (sym is ∙ z) (weAreEgress (S .nickname) h)) (cc)
+                ∙ x .same S clock;
+            left = x .ends;
+            role = ended nickname t local;
+            sized = Prim.tt;
+          };
+      ends = x .ends;
+    }
+  where
+    ended : (nickname : ℕ) → weAreEgress nickname h ≡ true → (local : Local) → LocalRole nickname h local
+    ended nickname t (Dropped number) = Prim.tt
+    ended nickname t (Answered number start size) = Prim.tt
+    ended nickname t Message = t
+
+pub ruleset at-egress-laws = (needs, ready, area-held, area-made, read-well, arrives-plain, arrives-faulty)
+
 pub comes-ends : {f : List ℕ} {h : Header} {local : Local} → Comes f h local → Ends local
 comes-ends x = x .ends
 
 pub owns-named : {own : Own} {S : Ways} → Owns own S → own .nickname ≡ S .nickname
 owns-named x = x .named
 
-pub ruleset plain-in-laws = (needs, comes-ends, owns-named, plain-egress, plain-transit, quiet-lookup)
+pub ruleset plain-laws = (needs, comes-ends, owns-named, plain-egress, plain-transit, quiet-lookup)
 
 -- a frame in transit without what is replied to an alert, and with it: by the next hop
 module _ (S : Ways) (clock f : List ℕ) (h : Header) (P : A.Handled → A.Handled → Type 0) where
@@ -468,21 +493,22 @@ front-done a r out out1 d same =
       alone = d .alone;
     }
 
--- what is lent in a copy
-module _ (f : List ℕ) (h x : Header) (same : x ≡ h) where
-  pub copy-ready : Ready f h → Ready f x
-  copy-ready is = rw same is
+-- what is lent in a copy, or lent on
+pub lent-clock : (clock clock′ : List ℕ) → clock′ ≡ clock → length clock ≡ 6 → length clock′ ≡ 6
+lent-clock clock clock′ e long = rw e long
 
-  module _ (r a : Answer) (made : r ≡ a) (S : Ways) (clock out out1 : List ℕ) where
-    pub copy-both : (beside beside1 : List ℕ) → Both (routed S clock f x) a out out1 beside beside1 → Both (routed S clock f h) r out out1 beside beside1
-    copy-both beside beside1 d = rw (made, ← same) d
+module _ (f f′ : List ℕ) (lent : f′ ≡ f) (h x : Header) (same : x ≡ h) where
+  pub copy-ready : Ready f h → Ready f′ x
+  copy-ready is = rw (lent, same) is
 
-    pub copy-done : Done (messaged S clock f x) a out out1 → Done (messaged S clock f h) r out out1
-    copy-done d = rw (made, ← same) d
+  module _ (r a : Answer) (made : r ≡ a) (S S′ : Ways) (ways : S′ ≡ S) (clock clock′ : List ℕ) (timed : clock′ ≡ clock) (out out1 : List ℕ) where
+    pub copy-both : (beside beside1 : List ℕ) → Both (routed S′ clock′ f′ x) a out out1 beside beside1 → Both (routed S clock f h) r out out1 beside beside1
+    copy-both beside beside1 d = rw (made, ← same, ← lent, ← ways, ← timed) d
 
-pub copy-owns : (own x : Own) → x ≡ own → (S : Ways) → Owns own S → Owns x S
-copy-owns own x same S o = rw same o
+    pub copy-done : Done (messaged S′ clock′ f′ x) a out out1 → Done (messaged S clock f h) r out out1
+    copy-done d = rw (made, ← same, ← lent, ← ways, ← timed) d
 
-pub ruleset copies = (copy-ready, copy-both, copy-done, copy-owns)
+pub copy-owns : (own x : Own) → x ≡ own → (S S′ : Ways) → S′ ≡ S → Owns own S → Owns x S′
+copy-owns own x same S S′ ways o = rw (same, ways) o
 
-pub ruleset apart-in-laws = (needs, copies)
+pub ruleset copies = (lent-clock, copy-ready, copy-both, copy-done, copy-owns)

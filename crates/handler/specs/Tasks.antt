@@ -166,6 +166,11 @@ pub record Routes (nickname : ℕ) (rfc7179 strip : Bool) (f : List ℕ) (h : He
   pub role : Role nickname h t
   pub aside : Aside rfc7179 strip f h kept t
 
+-- a frame to us comes to an answer with nothing to forward, at every switch of an edition that is its egress
+pub record Arrives (rfc7179 : Bool) (f : List ℕ) (h : Header) (local : Local) : Type 0 where
+  pub task : (nickname : ℕ) → weAreEgress nickname h ≡ true → RoutesRead nickname rfc7179 0 f h (Ended local)
+  pub ends : Ends local
+
 -- a frame as received, at every switch of a nickname and MAC
 abbrev pub receivedBy : Ways → List ℕ → List ℕ → Received → A.Handled
 receivedBy S clock f (R.Refused n) = A.dropped n

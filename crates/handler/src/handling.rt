@@ -30,7 +30,7 @@ ghost use Rattle.rules.specs.declared.FrameRead.the-variants.{Trill};
 ghost use Rattle.rules.specs.declared.Alert.the-variants.{NoAlert};
 ghost use Rattle.handler.specs.Shapes.{AreaWords, Ready, Replied, Sends, Done, waysBy};
 ghost use Rattle.handler.specs.Tasks.{areaReadBy, ReadBy, stopsBy, alertBy, alertRefusal, wantedBy, askedBy, asksBack, transitQuiet, messaged};
-ghost use Rattle.handler.specs.Tasks.{EchoIn, Comes, RoutesRead, Routes, Receives, Receiving};
+ghost use Rattle.handler.specs.Tasks.{EchoIn, Comes, RoutesRead, Routes, Arrives, Receives, Receiving};
 
 // A frame as received: the number that drops it, or a TRILL frame of which none of 10 to 18 is given.
 pub enum Received {
@@ -247,6 +247,40 @@ pub fn route(
         }),
         AreaRead::Read(c) => route_read(nickname, rfc7179, area, c.to, f, h),
     }
+}
+
+// A frame to us: 30 to 35 or 38, and 20, if it has an area; then what is in it.
+pub fn at_egress(rfc7179: bool, f: &[u8], h: Header) -> Local
+    requires { ⌜ Ready (now f) h ⌝ }
+    ensures { λ r. ⌜ Arrives rfc7179 (now (f .entry)) h r ⌝ }
+{
+    if header::op_length(h.word) == 0 {
+        return decapsulated(f, h);
+    }
+    let start = h.place + 6;
+    let inner = header::inner_start(h);
+    let area = &f[start..inner];
+    let mut kept = [0u8; 124];
+    let read = read_area(rfc7179, false, area, &mut kept);
+    match read {
+        AreaRead::Faulty { number, place } => Local::Answered {
+            number: number,
+            start: place,
+            length: 0,
+        },
+        AreaRead::Read(_) => arrived(rfc7179, area, f, h),
+    }
+}
+
+// 20, once the area is read.
+fn arrived(rfc7179: bool, area: &[u8], f: &[u8], h: Header) -> Local
+    requires { ⌜ Ready (now f) h × (now area ≡ areaOf (now f) h) × (areaReadBy rfc7179 (now area) ≡ WellFormed) ⌝ }
+    ensures { λ r. ⌜ Arrives rfc7179 (now (f .entry)) h r ⌝ }
+{
+    if area_stops(rfc7179, true, area) {
+        return Local::Dropped { number: 20 };
+    }
+    decapsulated(f, h)
 }
 
 // 12 to 18.

@@ -31,11 +31,25 @@ ghost use Rattle.rules.specs.Settings.{settingsOf, settingsRead, waysOf};
 ghost use Rattle.rules.specs.Campus.{known};
 ghost use Rattle.rules.specs.Header.{opLength};
 ghost use Rattle.rules.specs.Handling.{routed, handled};
+ghost use Rattle.rules.specs.declared.Alert.the-variants.{NoAlert};
 ghost use Rattle.stores.specs.Store.{handledIn, wayOutIn, waysIn, Whole};
 ghost use Rattle.handler.specs.Shapes.{Owns, waysBy, Ready, Sends, Done, WayDone};
 ghost use Rattle.handler.specs.Tasks.{wantedBy, asksBack, transitQuiet, transitAt, messaged, localAt, Ends, Forwardable, Replies, RepliesBy, Both};
 ghost use Rattle.handler.specs.Keys.{lookupBy};
 ghost use Rattle.handler.specs.Calls.{LookupOf};
+
+// The same octets, or words, lent on. What says where they lie is then stored where they are handed to a function that stays apart, and nowhere before.
+fn reborrow(s: &[u8]) -> &[u8]
+    ensures { λ r. ⌜ now r ≡ now (s .entry) ⌝ }
+{
+    &s[0..]
+}
+
+fn reborrow_words(s: &[u64]) -> &[u64]
+    ensures { λ r. ⌜ now r ≡ now (s .entry) ⌝ }
+{
+    &s[0..]
+}
 
 // The handling of a frame by settings octets.
 pub fn handle(
@@ -62,7 +76,8 @@ pub fn handle(
 }
 
 // A frame of which none of 10 to 18 is given, by what was looked up in good settings. A function that is called twice stays one of its own, so
-// what it keeps does not take up the registers of a frame without an area.
+// what it keeps does not take up the registers of a frame without an area. A frame to us comes back from the reading of its area: so its message
+// is not lent on a second time.
 fn handle_by(
     settings: &[u8],
     own: Own,
@@ -78,11 +93,18 @@ fn handle_by(
     ensures { λ r. ⌜ Both (routed (waysOf (settingsRead (now (settings .entry)))) (now (clock .entry)) (now (frame .entry)) h) r
         (now (out .entry)) (now (out .exit)) (now (beside .entry)) (now (beside .exit)) ⌝ }
 {
+    if header::we_are_egress(own.nickname, h) {
+        let local = handling::at_egress(j.rfc7179, frame, h);
+        return local_by(own, j, clock, frame, h, local, out);
+    }
     if header::op_length(h.word) == 0 {
-        return plain_by(own, j, clock, frame, h, out);
+        return plain_by(own, j, frame, h, out);
     }
     let own = way::copy_of(own);
     let h = header::copy_of(h);
+    let settings = reborrow(settings);
+    let clock = reborrow(clock);
+    let frame = reborrow(frame);
     if j.rfc7179 {
         let a = area_by(settings, own, j, true, clock, frame, h, out, beside);
         return answers::copy_of(a);
@@ -91,15 +113,11 @@ fn handle_by(
     answers::copy_of(a)
 }
 
-// Without an area.
-fn plain_by(own: Own, j: Validated, clock: &[u8], frame: &[u8], h: Header, out: &mut [u8]) -> Answer
-    requires { ⌜ (opLength (h .word) ≡ 0) × Ready (now frame) h × (length (now clock) ≡ 6) × (2048 ≤ length (now out)) ⌝ }
-    ensures { λ r. ⌜ Done (routed (waysBy (lookupBy own j)) (now (clock .entry)) (now (frame .entry)) h) r (now (out .entry)) (now (out .exit)) ⌝ }
+// In transit, without an area.
+fn plain_by(own: Own, j: Validated, frame: &[u8], h: Header, out: &mut [u8]) -> Answer
+    requires { ⌜ (opLength (h .word) ≡ 0) × Ready (now frame) h × (2048 ≤ length (now out)) ⌝ }
+    ensures { λ r. ⌜ Done (transitQuiet (waysBy (lookupBy own j)) (now (frame .entry)) h NoAlert) r (now (out .entry)) (now (out .exit)) ⌝ }
 {
-    if header::we_are_egress(own.nickname, h) {
-        let local = handling::decapsulated(frame, h);
-        return local_by(own, j, clock, frame, h, local, out);
-    }
     let t = validation::lookup(own, j);
     handling::forward(t, frame, h, out)
 }
@@ -133,7 +151,14 @@ fn apart_by(own: Own, j: Validated, clock: &[u8], frame: &[u8], h: Header, out: 
     requires { ⌜ Ready (now frame) h × (length (now clock) ≡ 6) × (576 ≤ length (now out)) ⌝ }
     ensures { λ r. ⌜ Done (messaged (waysBy (lookupBy own j)) (now (clock .entry)) (now (frame .entry)) h) r (now (out .entry)) (now (out .exit)) ⌝ }
 {
-    let a = message_by(way::copy_of(own), j, clock, frame, header::copy_of(h), out);
+    let a = message_by(
+        way::copy_of(own),
+        j,
+        reborrow(clock),
+        reborrow(frame),
+        header::copy_of(h),
+        out,
+    );
     answers::copy_of(a)
 }
 
@@ -322,6 +347,9 @@ fn handle_in(
     }
     let own = way::copy_of(own);
     let h = header::copy_of(h);
+    let store = reborrow_words(store);
+    let clock = reborrow(clock);
+    let frame = reborrow(frame);
     if store::rfc7179(store) {
         let a = area_in(store, own, true, clock, frame, h, out, beside);
         return answers::copy_of(a);
@@ -347,7 +375,7 @@ fn plain_in(
         let local = handling::decapsulated(frame, h);
         return local_in(store, own, clock, frame, h, local, out);
     }
-    let place = store::place_in(store, h.egress);
+    let place = store::place_in(reborrow_words(store), h.egress);
     let t = store::lookup(store, own, h.egress, place);
     handling::forward(t, frame, h, out)
 }
@@ -389,10 +417,10 @@ fn apart_in(
     ensures { λ r. ⌜ Done (messaged (waysIn (now (store .entry))) (now (clock .entry)) (now (frame .entry)) h) r (now (out .entry)) (now (out .exit)) ⌝ }
 {
     let a = message_in(
-        store,
+        reborrow_words(store),
         way::copy_of(own),
-        clock,
-        frame,
+        reborrow(clock),
+        reborrow(frame),
         header::copy_of(h),
         out,
     );
@@ -411,7 +439,7 @@ fn message_in(
     requires { ⌜ Whole (now store) × Owns own (waysIn (now store)) × Ready (now frame) h × (length (now clock) ≡ 6) × (576 ≤ length (now out)) ⌝ }
     ensures { λ r. ⌜ Done (messaged (waysIn (now (store .entry))) (now (clock .entry)) (now (frame .entry)) h) r (now (out .entry)) (now (out .exit)) ⌝ }
 {
-    let place = store::place_in(&store[0..], h.ingress);
+    let place = store::place_in(reborrow_words(store), h.ingress);
     let t = store::lookup(store, own, h.ingress, place);
     handling::message(t, clock, frame, h, &mut out[..576])
 }

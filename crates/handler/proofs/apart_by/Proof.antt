@@ -5,4 +5,5 @@ use proofs.apart_by as fn
 
 pub apart-by-spec : {M : Type 1} → fn.Statement.statement M
 apart-by-spec = fn.Tie.close (fn.Tie.spec
-    (λ c _. search laws) (λ c _. search laws) (λ c _. search laws) (λ c _. search laws) (λ c. search laws) (λ c. search laws))
+    (λ c _. search laws) (λ c _. search laws) (λ c _. search laws) (λ c _. search laws) (λ c _. search laws) (λ c _. search laws) (λ c. search laws)
+    (λ c. search laws))

@@ -6,5 +6,5 @@ use proofs.handle_in as fn
 pub handle-in-spec : {M : Type 1} → fn.Statement.statement M
 handle-in-spec = fn.Tie.close (fn.Tie.spec
     (λ c _. search laws) (λ c _. search laws) (λ c. search laws) (λ c. search laws) (λ c _. search laws) (λ c _. search laws) (λ c _. search laws)
-    (λ c _. search laws) (λ c _. search laws) (λ c. search laws) (λ c. search laws) (λ c. search laws) (λ c _. search laws) (λ c _. search laws)
-    (λ c. search laws) (λ c. search laws) (λ c. search laws))
+    (λ c _. search laws) (λ c _. search laws) (λ c _. search laws) (λ c _. search laws) (λ c _. search laws) (λ c. search laws) (λ c. search laws)
+    (λ c. search laws) (λ c _. search laws) (λ c _. search laws) (λ c. search laws) (λ c. search laws) (λ c. search laws))
