@@ -4,10 +4,10 @@ use mathlib.Core.{Path._≡_, Path.refl, Path.sym, Path._∙_, List.List}
 use mathlib.Core.Bool.{Bool, true, false, not, _&&_, _||_, false≢true}
 use Prim.Native.Nat.{ℕ, _%_, _<_}
 use borrow.Author.{Needs.needs, Tests.eq-eqb, Tests.ne-eqb, Tests.not-true, Tests.not-false}
-use lib.{ListN.getD, Dec.eqb}
+use lib.Dec.{eqb}
 use Rattle.rules.specs.Options.{hopByHopCritical, ingressToEgressCritical, implemented, strippable}
 use Rattle.rules.proofs.TestLaws.{and-no, and-yes, by-equal, everyBelow, each-below}
-use Rattle.handler.specs.Treatment.{Treats, transitDiscards, egressDiscards, stripApplies, isFlowId, strippedBy}
+use Rattle.handler.specs.Treatment.{entryIn, Treats, transitDiscards, egressDiscards, stripApplies, isFlowId, strippedBy}
 
 abbrev pub same : Bool → Bool → Bool
 same true b = b
@@ -22,10 +22,10 @@ is-same false true e = absurd (false≢true e)
 -- an entry says what the definitions say of its key, for Length 2 and for another
 abbrev pub agrees : List ℕ → ℕ → Bool
 agrees table key =
-    same (transitDiscards (getD table key 0)) (hopByHopCritical key)
-    && same (egressDiscards (getD table key 0)) (hopByHopCritical key || ingressToEgressCritical key)
-    && same (not (eqb key 0x083) && stripApplies (getD table key 0)) (strippable key 2)
-    && same (stripApplies (getD table key 0)) (strippable key 0)
+    same (transitDiscards (entryIn table key)) (hopByHopCritical key)
+    && same (egressDiscards (entryIn table key)) (hopByHopCritical key || ingressToEgressCritical key)
+    && same (not (eqb key 0x083) && stripApplies (entryIn table key)) (strippable key 2)
+    && same (stripApplies (entryIn table key)) (strippable key 0)
 
 strippable-other : (key size : ℕ) → (size ≡ 2 → ⊥) → strippable key size ≡ strippable key 0
 unfolding strippable implemented

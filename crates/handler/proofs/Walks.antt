@@ -24,7 +24,7 @@ use specs.declared.options.{Cursor.Cursor, AreaRead.AreaRead}
 use specs.declared.options.AreaRead.the-variants.{Read, Faulty}
 use specs.Shapes.{AreaWords, Place, WholeOption, cursorBy, readBy, sentOf, optionsSent, ended, foundBy, walkOf}
 use specs.Shapes.{AreaWalked, summarizedBy, areaReadOf, AreaKept, AllKept}
-use specs.Treatment.{Treats, transitDiscards, egressDiscards, strippedBy}
+use specs.Treatment.{entryIn, Treats, transitDiscards, egressDiscards, strippedBy}
 use Rattle.rules.specs.Options as O
 
 -- a critical option of one kind is none of the other
@@ -36,17 +36,11 @@ critical-kinds : (key : ℕ) → hopByHopCritical key ≡ true → ingressToEgre
 critical-kinds key e = let i = eqb-true (ie key) 0 (search and-left) in rw (ne-eqb (ie key) 1 (omega arith))
 
 -- what the table says of an option
-module _ {c : Cursor} {key n : ℕ} (b : WholeOption c key n) (table : List ℕ) (t : Treats table) (strip : Bool) (size : ℕ) (sized : size ≡ optionSize n) where
-  pub behind-at : c .at + size < 18446744073709551616
-  behind-at = omega arith
-
-  pub behind-room : c .to + size ≤ 124
-  behind-room = omega arith
-
-  pub behind-is : (gone : Bool) → gone ≡ (strip && strippedBy (getD table key 0) key n) → (to : ℕ) → to ≡ (if gone then c .to else c .to + size)
-      → (transit : Bool) → transit ≡ transitDiscards (getD table key 0) → (hop : Bool) → hop ≡ (c .hop || transit)
-      → (alone : Bool) → alone ≡ (egressDiscards (getD table key 0) && not (transitDiscards (getD table key 0)))
-      → (egress : Bool) → egress ≡ (c .egress || alone)
+module _ {c : Cursor} {key n : ℕ} (b : WholeOption c key n) (table : List ℕ) (t : Treats table) (strip : Bool)
+    (size : ℕ) (sized : size ≡ optionSize n) (entry : ℕ) (found : entry ≡ entryIn table key) where
+  pub behind-is : (gone : Bool) → gone ≡ (strip && strippedBy entry key n) → (to : ℕ) → to ≡ (if gone then c .to else c .to + size)
+      → (transit : Bool) → transit ≡ transitDiscards entry → (hop : Bool) → hop ≡ (c .hop || transit)
+      → (alone : Bool) → alone ≡ (egressDiscards entry && not (transitDiscards entry)) → (egress : Bool) → egress ≡ (c .egress || alone)
       → record { at = c .at + size; to = to; floor = key + 1; hop = hop; egress = egress } ≡ cursorBy strip c key n (c .at + optionSize n)
   behind-is gone g to e transit tr hop h alone a egress eg =
       cc (
@@ -56,7 +50,7 @@ module _ {c : Cursor} {key n : ℕ} (b : WholeOption c key n) (table : List ℕ)
         egress-alone (hopByHopCritical key) (ingressToEgressCritical key) (critical-kinds key),
       )
 
-pub ruleset behind-laws = (needs, behind-at, behind-room, behind-is)
+pub ruleset behind-laws = (needs, behind-is)
 
 -- one option, by its ways out
 module _ {area : List ℕ} {c : Cursor} (o : Place area c) (more : c .at < length area) where

@@ -72,11 +72,11 @@ fn met(seen: bool, now: bool) -> bool
 }
 
 // The cursor behind an option without a fault.
-fn behind(table: &[u8; 512], strip: bool, c: Cursor, key: u16, n: u8) -> Cursor
+fn behind(table: &[u64; 32], strip: bool, c: Cursor, key: u16, n: u8) -> Cursor
     requires { ⌜ WholeOption c key n × Treats (now table) ⌝ }
     ensures { λ r. ⌜ r ≡ cursorBy strip c key n (c .at + O.optionSize n) ⌝ }
 {
-    let entry = table[key as usize];
+    let entry = treatment::entry_of(table, key);
     let size = option_size(n);
     let stripped = treatment::is_stripped(strip, entry, key, n);
     Cursor {
@@ -90,7 +90,7 @@ fn behind(table: &[u8; 512], strip: bool, c: Cursor, key: u16, n: u8) -> Cursor
 
 // One option: the cursor behind it, or a fault. An option of a reserved Length is past any area, and a key that is not above the one before is
 // below it or equal, so that one test finds 30 and 31, and one 32 and 33.
-fn option_at(area: &[u8], table: &[u8; 512], strip: bool, c: Cursor) -> AreaRead
+fn option_at(area: &[u8], table: &[u64; 32], strip: bool, c: Cursor) -> AreaRead
     requires { ⌜ Place (now area) c × (c .at < length (now area)) × Treats (now table) ⌝ }
     ensures { λ r. ⌜ r ≡ readBy strip c (O.optionAt (now (area .entry)) (c .floor) (c .at)) ⌝ }
 {
@@ -127,7 +127,7 @@ fn option_at(area: &[u8], table: &[u8; 512], strip: bool, c: Cursor) -> AreaRead
 }
 
 // All options, or the first fault; those that are kept are written behind the first word.
-fn walk_area(area: &[u8], table: &[u8; 512], strip: bool, kept: &mut [u8; 124]) -> AreaRead
+fn walk_area(area: &[u8], table: &[u64; 32], strip: bool, kept: &mut [u8; 124]) -> AreaRead
     requires { ⌜ AreaWords (now area) × (4 < length (now area)) × (length (now kept) ≡ 124) × Treats (now table) ⌝ }
     ensures { λ r. ⌜ AreaWalked strip (now (area .entry)) (now (kept .entry)) (now (kept .exit)) r ⌝ }
 {

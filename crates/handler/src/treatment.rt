@@ -1,28 +1,76 @@
 // What becomes of an option, by its nine-bit key (document 02, T-08).
 ghost use mathlib.Core.Path.{_≡_};
 ghost use mathlib.Core.Bool.{_&&_, not};
-ghost use Rattle.handler.specs.Treatment.{Treats, transitDiscards, egressDiscards, stripApplies, isFlowId, strippedBy};
+ghost use Prim.Native.Nat.{_<_};
+ghost use Rattle.handler.specs.Treatment.{entryIn, Treats, transitDiscards, egressDiscards, stripApplies, isFlowId, strippedBy};
 
 const FLOW_ID: u16 = 0x083;
 
-// A digit for each key, the sum of what is done to the option: 1, transit discards it; 2, the egress discards it; 4, the strip flag
-// applies to it. Two rows for each IE and NC, in the order 00, 01, 10, 11; the first has the Types 0x00 to 0x1F, the second 0x20 to
-// 0x3F, each Type with MT 0 and then MT 1. So the pad (Type 0x20, NC 1) begins rows 4 and 8, and the Flow ID is the fourth of row 3.
-const TREATMENT: [u8; 512] = *b"\
-    3333333333333333333333333333333333333333333333333333333333333333\
-    3333333333333333333333333333333333333333333333333333333333333333\
-    0404040404040404040404040404040404040404040404040404040404040404\
-    0004040404040404040404040404040404040404040404040404040404040404\
-    2222222222222222222222222222222222222222222222222222222222222222\
-    2222222222222222222222222222222222222222222222222222222222222222\
-    0000000000000000000000000000000000000000000000000000000000000000\
-    0000000000000000000000000000000000000000000000000000000000000000";
+// A digit for each key, the sum of what is done to the option: 1, transit discards it; 2, the egress discards it; 4, the strip flag applies
+// to it. A word has 16 keys, the first key the lowest digit, so that it reads from right to left: eight Types, each with MT 0 and then MT 1.
+const BOTH: u64 = 0x3333333333333333;
+
+const EGRESS: u64 = 0x2222222222222222;
+
+const STRIPPED: u64 = 0x4040404040404040;
+
+const STRIPPED_BUT_PAD: u64 = 0x4040404040404000;
+
+const KEPT: u64 = 0;
+
+// Eight words for each IE and NC, for the Types 0x00 to 0x3F. So the pad (Type 0x20, NC 1) begins the fifth of the second and of the last eight,
+// and the Flow ID is the fourth digit of the second eight. A list of words, as rows of words take a longer index at each option.
+const TREATMENT: [u64; 32] = [
+    // IE 0, NC 0
+    BOTH,
+    BOTH,
+    BOTH,
+    BOTH,
+    BOTH,
+    BOTH,
+    BOTH,
+    BOTH,
+    // IE 0, NC 1
+    STRIPPED,
+    STRIPPED,
+    STRIPPED,
+    STRIPPED,
+    STRIPPED_BUT_PAD,
+    STRIPPED,
+    STRIPPED,
+    STRIPPED,
+    // IE 1, NC 0
+    EGRESS,
+    EGRESS,
+    EGRESS,
+    EGRESS,
+    EGRESS,
+    EGRESS,
+    EGRESS,
+    EGRESS,
+    // IE 1, NC 1
+    KEPT,
+    KEPT,
+    KEPT,
+    KEPT,
+    KEPT,
+    KEPT,
+    KEPT,
+    KEPT,
+];
 
 // The one statement on the table: it agrees with the flag definitions at every key.
-pub fn treatments() -> [u8; 512]
+pub fn treatments() -> [u64; 32]
     ensures { λ r. ⌜ Treats r ⌝ }
 {
     TREATMENT
+}
+
+pub fn entry_of(table: &[u64; 32], key: u16) -> u8
+    requires { ⌜ key < 512 ⌝ }
+    ensures { λ r. ⌜ r ≡ entryIn (now (table .entry)) key ⌝ }
+{
+    ((table[(key / 16) as usize] >> (key % 16 * 4) as u32) % 8) as u8
 }
 
 pub fn transit_discards(entry: u8) -> bool
