@@ -267,9 +267,9 @@ module _ (w starts : List ℕ) (n : ℕ) (a : Answer) where
   sent-on h found e = simp eq-eqb e
 
   module _ (found : Named) (is : found ≡ sentTo w starts n a) where
-    sent-nowhere : found ≡ Unknown → (eqb (a .number) 50 && inCampus (switchesIn w starts n) (a .neighbour)) ≡ false
+    sent-unknown : found ≡ Unknown → (eqb (a .number) 50 && inCampus (switchesIn w starts n) (a .neighbour)) ≡ false
     unfolding sentTo
-    sent-nowhere e =
+    sent-unknown e =
         by-test (eqb (a .number) 50)
         (λ t. rw (t, named-none w starts n (a .neighbour) (numberIn w starts n (a .neighbour)) refl (rw (is, t) at e)))
         (λ t. rw t)
@@ -286,7 +286,7 @@ module _ (w starts : List ℕ) (n : ℕ) (a : Answer) where
       pub next-waiting : found ≡ Unknown → (kind : Kind) {cur : List ℕ} {r : Onward} → Leads w starts n waiting head tail cur r firstWaiting
           → Leads w starts n waiting head tail cur r (onwardBy (switchesIn w starts n) kind a out)
       unfolding onwardBy
-      next-waiting e kind first = record { leads = λ q h. rw (sent-nowhere e) (first .leads q h) }
+      next-waiting e kind first = record { leads = λ q h. rw (sent-unknown e) (first .leads q h) }
 
       pub next-on : NextReady w starts n a waiting head tail → {i : ℕ} (replied : Bool) {f : List ℕ} → found ≡ At i → f ≡ take (a .written) out
           → length out ≡ 2048 → (cur : List ℕ) {cur′ : List ℕ} {end : ℕ} → Wrote (fitting cur 0 f) 0 end cur cur′ → length cur ≡ 2048

@@ -167,7 +167,8 @@ module _ (s f : List ℕ) (h : Header) (own : Own) (j : Validated) (x : LookupOf
   lookup-arrived egress e t local arrives clock r out out1 beside d =
       let task = arrives .task (own .nickname) (sym e ∙ t) in
       both-of beside
-      (rw (task .same (switchAt s) clock (lookup-named own j x) (lookup-edition own j x (j .rfc7179) refl)) (local-lookup local (task .role) clock r out out1 d))
+      (rw (task .same (switchAt s) clock (lookup-named own j x) (lookup-edition own j x (j .rfc7179) refl))
+      (local-lookup local (task .role) clock r out out1 d))
 
   -- with an area, of our role's destination
   module _ {rfc7179 strip : Bool} {kept : List ℕ} {task : Task} (routes : Routes (own .nickname) rfc7179 strip f h kept task) where

@@ -162,19 +162,19 @@ pub ruleset own-of-laws = (needs, taken-first, taken-to, own-cut, own-read)
 
 -- what the loop keeps
 pub record Scanning (s : List ℕ) (from d : ℕ) (seen : List ℕ) (n : ℕ) (best : Ruling) (flags : Flags) (at : ℕ) : Type 0 where
-  pub judging : Validating s from seen n at
+  pub validating : Validating s from seen n at
   pub ruled : Folding (ruledBy d) Absent s from at best
   pub flagged : Folding flaggedBy noFlags s from at flags
 
 pub scan-begin : (s : List ℕ) (from d : ℕ) → Scanning s from d (replicate 256 0) 0 Absent noFlags from
-scan-begin s from d = record { judging = J.begins s from; ruled = record { gives = refl }; flagged = record { gives = refl } }
+scan-begin s from d = record { validating = J.begins s from; ruled = record { gives = refl }; flagged = record { gives = refl } }
 
 pub bad-scanned : {s : List ℕ} {from d : ℕ} {r : Scan} → r .good ≡ false → Verdict s from false → Scanned s from d r
 bad-scanned b v = record { verdict = rw b v; ruled = λ t. absurd (false≢true (sym b ∙ t)); flagged = λ t. absurd (false≢true (sym b ∙ t)) }
 
 module _ (s : List ℕ) (from d : ℕ) (seen : List ℕ) (n : ℕ) (best : Ruling) (flags : Flags) (at : ℕ) (l : Scanning s from d seen n best flags at) where
   pub scan-end : length s ≤ at → Scanned s from d (record { good = true; flags = flags; best = best })
-  scan-end h = record { verdict = J.ends (l .judging) h; ruled = λ t. fold-end (l .ruled) h; flagged = λ t. fold-end (l .flagged) h }
+  scan-end h = record { verdict = J.ends (l .validating) h; ruled = λ t. fold-end (l .ruled) h; flagged = λ t. fold-end (l .flagged) h }
 
   module _ (h : at < length s) (read : FieldRead) (q : read ≡ fieldAt s at) where
     module _ (tag size next : ℕ) (t : read ≡ Taken tag size next) where
@@ -191,17 +191,17 @@ module _ (s : List ℕ) (from d : ℕ) (seen : List ℕ) (n : ℕ) (best : Rulin
             subst (λ (x : NextHop). Taking (hopTaken (keysMet s from n) n (length v) x) (withKey (keysMet s from n) x) taken seen′) hop-is k
 
         pub scan-hop-bad : (r : Scan) → r .good ≡ false → not taken ≡ true → Scanned s from d r
-        scan-hop-bad r b x = bad-scanned b (J.hop-stops (l .judging) h q t two (step .validated ∙ not-true taken x))
+        scan-hop-bad r b x = bad-scanned b (J.hop-stops (l .validating) h q t two (step .validated ∙ not-true taken x))
 
         pub scan-hop : (best′ : Ruling) → best′ ≡ newer d best (hopBy r) → not taken ≡ false → (m : ℕ) → m ≡ n + 1
             → Scanning s from d seen′ m best′ flags next
         unfolding ruledBy flaggedBy
         scan-hop best′ e x m is =
-            let on = J.on (l .judging) h q t in
+            let on = J.on (l .validating) h q t in
             let yes = not-false taken x in
             rw is
             (record {
-              judging = J.hop-on (l .judging) h q t two (step .validated ∙ yes) (step .kept yes);
+              validating = J.hop-on (l .validating) h q t two (step .validated ∙ yes) (step .kept yes);
               ruled = fold-on (l .ruled) on (cc hop-is);
               flagged = fold-on (l .flagged) on (rw two);
             })
@@ -210,9 +210,9 @@ module _ (s : List ℕ) (from d : ℕ) (seen : List ℕ) (n : ℕ) (best : Rulin
         pub scan-flag : (flags′ : Flags) → flags′ ≡ flaggedBy flags (field tag v) → code ≡ 0 → Scanning s from d seen n best flags′ next
         unfolding ruledBy
         scan-flag flags′ e x =
-            let on = J.on (l .judging) h q t in
+            let on = J.on (l .validating) h q t in
             record {
-              judging = J.flag-on (l .judging) h q t other is x;
+              validating = J.flag-on (l .validating) h q t other is x;
               ruled = fold-on (l .ruled) on (rw (ne-eqb tag 2 other));
               flagged = fold-on (l .flagged) on e;
             }

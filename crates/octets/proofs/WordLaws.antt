@@ -47,7 +47,7 @@ read-untagged f n is long trill =
 
 pub ruleset read-laws = (read-untagged, read-frame-laws)
 
--- a field that begins with tag 2 and length 14, told by the low three octets
+-- a field that begins with tag 2 and length 14, known by the low three octets
 pub field-record : (s : List ℕ) (at n : ℕ) → n ≡ le64 s at → at ≤ length s → 17 ≤ length s - at → n % 16777216 ≡ 0x0E0002
     → Taken 2 14 (at + 17) ≡ fieldAt s at
 unfolding lowFirst fieldAt

@@ -213,7 +213,7 @@ pub fn eight(word: u64) -> [u8; 8]
 // Tag 2 and length 14, the low octet first: how a next-hop record without a VLAN begins.
 const RECORD: u64 = 0x0E0002;
 
-// The field at a place (document 01, "Fields"): cut short, or its tag and length with the next place. A record is told by one test, so that the
+// The field at a place (document 01, "Fields"): cut short, or its tag and length with the next place. A record is known by one test, so that the
 // place behind it does not wait for its length to be read.
 pub fn field_at(s: &[u8], at: usize) -> FieldRead
     ensures { λ r. ⌜ r ≡ fieldAt (now (s .entry)) at ⌝ }

@@ -9,7 +9,7 @@ use specs.Settings.{Settings, Ways, waysOf}
 use specs.Handling.{handling}
 use specs.Campus.{switchNamed, Kind, State, Waiting, inCampus, over, next, nextAfter, runFrom, entryOctets, traceOctets}
 use proofs.NextLaws.{next-alike}
-use proofs.RunLaws.{state, rest, run-none, run-nowhere, run-step}
+use proofs.RunLaws.{state, rest, run-none, run-unknown, run-step}
 use Rattle.rules.specs
 use Rattle.rules.proofs
 
@@ -53,7 +53,7 @@ module _ (l m : List Settings) (alike : (n : ℕ) → Both (switchNamed l n) (sw
   run-alike zero i n kind f q = simp run-none same-none
   run-alike (suc fuel) i n kind f q =
       by-both (switchNamed l n) (switchNamed m n) (alike n)
-      (λ x y. simp run-nowhere same-none)
+      (λ x y. simp run-unknown same-none)
       (λ S T x y e.
       let other : nextAfter m kind q (handling (waysOf T) clock f) ≡ nextAfter l kind q (handling (waysOf S) clock f) =
       rw (← e) (sym (next-alike l m known-alike kind q (handling (waysOf S) clock f))) in

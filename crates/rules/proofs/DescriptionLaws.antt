@@ -166,26 +166,26 @@ module _ (d : Described) where
     described-refused e = simp (describedFrom, tests)
 
 -- whatever a description is read as: accepted, with an entry switch, or refused by a code of two digits, not 0
-abbrev pub Told : Description → Type 0
-Told (accepted d) = Sound d × (known (d .entry) ≡ true)
-Told (refused code) = (0 < code) × (code < 100)
+abbrev pub ResultSound : Description → Type 0
+ResultSound (accepted d) = Sound d × (known (d .entry) ≡ true)
+ResultSound (refused code) = (0 < code) × (code < 100)
 
 refusal-small : (d : Described) (f : Field) → fieldRefusal d f < 100
 unfolding fieldRefusal
 refusal-small d cut = omega arith
 refusal-small d (field tag v) = search (either (λ n. n < 100), leb-true) depth 12
 
-from-told : (d : Described) (fs : List Field) → Sound d → Told (describedFrom d fs)
+from-result : (d : Described) (fs : List Field) → Sound d → ResultSound (describedFrom d fs)
 unfolding describedFrom
-from-told d [] s = by-test (known (d .entry)) (λ k. rw k (s, k)) (λ k. rw k (omega arith))
-from-told d (f ∷ fs) s =
+from-result d [] s = by-test (known (d .entry)) (λ k. rw k (s, k)) (λ k. rw k (omega arith))
+from-result d (f ∷ fs) s =
     by-test (eqb (fieldRefusal d f) 0)
-    (λ k. rw (describedFrom, k) (from-told (withNext d f) fs (next-sound d f s (eqb-true (fieldRefusal d f) 0 k))))
+    (λ k. rw (describedFrom, k) (from-result (withNext d f) fs (next-sound d f s (eqb-true (fieldRefusal d f) 0 k))))
     (λ k. let n = eqb-false (fieldRefusal d f) 0 k in rw (describedFrom, k) (omega (arith, refusal-small d f)))
 
-pub described-told : (file : List ℕ) → Told (described file)
+pub described-result : (file : List ℕ) → ResultSound (described file)
 unfolding described
-described-told file = search (either Told, from-told nothingYet (fields file) nothing-sound, leb-true)
+described-result file = search (either ResultSound, from-result nothingYet (fields file) nothing-sound, leb-true)
 
 -- what is known of an accepted description
 pub record Accepted (d : Described) : Type 0 where
@@ -205,7 +205,7 @@ member-some (List·Memᴰ·tail m) = omega arith
 pub accepted-good : (file : List ℕ) (d : Described) → described file ≡ accepted d → Accepted d
 unfolding clockOf Clocked Named
 accepted-good file d e =
-    let t : Told (accepted d) = (rw e at (described-told file)) in
+    let t : ResultSound (accepted d) = (rw e at (described-result file)) in
     let s = t .0 in
     by-option (d .entry) (λ n. apart (cc (t .1))) (λ S is.
     let n = s .named S is in

@@ -106,9 +106,9 @@ module _ (switches : List Settings) (clock : List ℕ) where
   run-none i n kind f q = refl
 
   module _ (m i n : ℕ) (kind : Kind) (f : List ℕ) (q : List Waiting) where
-    pub run-nowhere : switchNamed switches n ≡ none → run (suc m) i n kind f q ≡ []
+    pub run-unknown : switchNamed switches n ≡ none → run (suc m) i n kind f q ≡ []
     unfolding runFrom
-    run-nowhere e = rw (runFrom, e)
+    run-unknown e = rw (runFrom, e)
 
     module _ (S : Settings) (e : switchNamed switches n ≡ some S) where
       pub run-step : run (suc m) i n kind f q ≡ state i S kind f ∷ rest m i (nextAfter switches kind q (answer S f))
@@ -135,7 +135,7 @@ module _ (switches : List Settings) (clock : List ℕ) where
   rest-ended (suc m) more i (next n kind f q) lt =
       let more-by-one : suc m + more ≡ suc (m + more) = omega arith in
       by-option (switchNamed switches n)
-      (λ e. simp (more-by-one, run-nowhere))
+      (λ e. simp (more-by-one, run-unknown))
       (λ S e.
       let step = run-step m (suc i) n kind f q S e in
       let later = rest-ended m more (suc i) (nextAfter switches kind q (answer S f)) (omega (arith, lt, ap length step)) in
@@ -194,7 +194,7 @@ module _ (switches : List Settings) (clock : List ℕ) where
     unfolding rest firstWaiting sentOn
     runs zero i n kind f q a = rw run-none stopped
     runs (suc m) i n kind f q a =
-        by-option (switchNamed switches n) (λ e. rw run-nowhere stopped) (λ S e.
+        by-option (switchNamed switches n) (λ e. rw run-unknown stopped) (λ S e.
         let d = does S clock f (fit S (named-member switches n S e)) six in
         let made = does-make d in
         let b = joined q _ a (stays switches made .0) in

@@ -9,7 +9,7 @@ use lib.ListN.{length, length-append}
 use specs.Campus.{Described, refused, accepted, described, State, plainRun}
 use specs.Text.{ascii, lineFeed, decimalFrom, decimal, entryText, entriesText, printed}
 use proofs.TestLaws.{tests, by-test}
-use proofs.DescriptionLaws.{described-told, accepted-good}
+use proofs.DescriptionLaws.{described-result, accepted-good}
 use proofs.DemandLaws.{plain-most, plain-numbers}
 use Rattle.rules.specs
 use Rattle.rules.proofs
@@ -60,7 +60,7 @@ module _ (n : ℕ) where
 
 -- the code of a refusal is not 0, and has two digits
 pub refused-ranged : (file : List ℕ) (code : ℕ) → described file ≡ refused code → (0 < code) × (code < 100)
-refused-ranged file code e = rw e at (described-told file)
+refused-ranged file code e = rw e at (described-result file)
 
 -- a line, and the lines of a run
 line-most : (s : State) → s .answer .number < 64 → length (entryText s) ≤ 18
