@@ -21,7 +21,7 @@ use specs.declared.way.Own.{Own}
 use specs.declared.handling.Received.{Received}
 use specs.declared.handling.Received.the-variants.{Refused, Trill}
 use specs.{Shapes.droppedBy, Shapes.Owns, Shapes.onlyFor, Shapes.waysBy, Tasks.receivedBy, Tasks.Receiving, Tasks.Both}
-use proofs.TaskLaws.{both-of, finds, back-message, both-plain, copies, front-count, front-done, front-room, plain-laws}
+use proofs.TaskLaws.{both-of, finds, back-message, both-plain, copies, front-count, front-done, front-room}
 use Rattle.stores.proofs.PlaceLaws.{good-whole, step-past, step-up, step-stay, place-hinted, place-searched, for-past, for-other}
 use Rattle.stores.specs.Store.{nicknameIn, countIn, destAt, hopOf, hopAt, lastAt, hintAt, placeIn, hopFor, waysIn, storeGood, handledIn, Whole}
 use Rattle.rules.specs.Answer as A
@@ -153,8 +153,6 @@ module _ (w w′ : List ℕ) (same : w′ ≡ w) where
   lent-place d place e = rw same at e
 
 pub ruleset message-in-laws = (needs, lent-whole, lent-place, back-message, front-count, front-done, front-room)
-
-pub ruleset plain-in-laws = (plain-laws, lent-whole, lent-place)
 
 pub ruleset apart-in-laws = (needs, lent-whole, lent-ways, copies)
 

@@ -295,7 +295,7 @@ comes-ends x = x .ends
 pub owns-named : {own : Own} {S : Ways} → Owns own S → own .nickname ≡ S .nickname
 owns-named x = x .named
 
-pub ruleset plain-laws = (needs, comes-ends, owns-named, plain-egress, plain-transit, quiet-lookup)
+pub ruleset plain-in-laws = (needs, comes-ends, owns-named, plain-egress, plain-transit, quiet-lookup)
 
 -- a frame in transit without what is replied to an alert, and with it: by the next hop
 module _ (S : Ways) (clock f : List ℕ) (h : Header) (P : A.Handled → A.Handled → Type 0) where

@@ -38,7 +38,7 @@ ghost use Rattle.handler.specs.Tasks.{wantedBy, asksBack, transitQuiet, 
 ghost use Rattle.handler.specs.Keys.{lookupBy};
 ghost use Rattle.handler.specs.Calls.{LookupOf};
 
-// The same octets, or words, lent on. What says where they lie is then stored where they are handed to a function that stays apart, and nowhere before.
+// The same octets, or words, lent on: where they lie is then stored where they are handed to a function that stays apart, and not for every frame.
 fn reborrow(s: &[u8]) -> &[u8]
     ensures { λ r. ⌜ now r ≡ now (s .entry) ⌝ }
 {
@@ -375,7 +375,7 @@ fn plain_in(
         let local = handling::decapsulated(frame, h);
         return local_in(store, own, clock, frame, h, local, out);
     }
-    let place = store::place_in(reborrow_words(store), h.egress);
+    let place = store::place_inlined(store, h.egress);
     let t = store::lookup(store, own, h.egress, place);
     handling::forward(t, frame, h, out)
 }

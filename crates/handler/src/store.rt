@@ -123,6 +123,19 @@ pub fn place_in(w: &[u64], d: u16) -> usize
     search(w, n, d)
 }
 
+// The same for a frame without an area, which is most: a function with one caller is put where it is called, and one with more is not.
+pub fn place_inlined(w: &[u64], d: u16) -> usize
+    requires { ⌜ Whole (now w) ⌝ }
+    ensures { λ r. ⌜ r ≡ placeIn (now (w .entry)) (countIn (now (w .entry))) d ⌝ }
+{
+    let n = w[3] as usize;
+    let i = hint_at(w, d);
+    if last_at(w, n, d, i) {
+        return i;
+    }
+    search(w, n, d)
+}
+
 fn hop_of(key: u64, value: u64) -> NextHop
     ensures { λ r. ⌜ r ≡ hopOf key value ⌝ }
 {
