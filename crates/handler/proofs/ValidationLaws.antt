@@ -52,39 +52,43 @@ module _ (s : List ℕ) (at : ℕ) where
     unfolding keysIn
     keys-flag other = rw (fields-next, ne-eqb tag 2 other)
 
--- the look at the first n records: what was found, or is found among those left, is whether the key is met
-pub record Looking (s : List ℕ) (from n key : ℕ) (found : Bool) (left at : ℕ) : Type 0 where
-  pub same : (found || keyMet key (take left (keysIn (fieldsAt s at)))) ≡ keyMet key (keysMet s from n)
+-- the look at the first n records: whether the key is among those left is whether it is met
+pub record Looking (s : List ℕ) (from n key left at : ℕ) : Type 0 where
+  pub same : keyMet key (take left (keysIn (fieldsAt s at))) ≡ keyMet key (keysMet s from n)
 
-pub look-begins : (s : List ℕ) (from n key : ℕ) → Looking s from n key false n from
+pub look-begins : (s : List ℕ) (from n key : ℕ) → Looking s from n key n from
 look-begins s from n key = record { same = refl }
 
-module _ (s : List ℕ) (from n key : ℕ) (found : Bool) (left at : ℕ) (l : Looking s from n key found left at) where
-  pub look-done : left ≡ 0 → found ≡ keyMet key (keysMet s from n)
+module _ (s : List ℕ) (from n key left at : ℕ) (l : Looking s from n key left at) where
+  pub look-done : left ≡ 0 → false ≡ keyMet key (keysMet s from n)
   unfolding keyMet
-  look-done none = sym (or-no found) ∙ (rw none at (l .same))
+  look-done none = rw none at (l .same)
 
-  pub look-end : length s ≤ at → found ≡ keyMet key (keysMet s from n)
+  pub look-end : length s ≤ at → false ≡ keyMet key (keysMet s from n)
   unfolding keyMet keysIn
-  look-end h = sym (or-no found) ∙ (rw (fields-at-end s at h, take-nil) at (l .same))
+  look-end h = rw (fields-at-end s at h, take-nil) at (l .same)
 
   module _ (read : FieldRead) (q : read ≡ fieldAt s at) where
-    pub look-cut : at < length s → read ≡ Cut → found ≡ keyMet key (keysMet s from n)
+    pub look-cut : at < length s → read ≡ Cut → false ≡ keyMet key (keysMet s from n)
     unfolding keyMet
-    look-cut h c = sym (or-no found) ∙ (rw (keys-none s at h (sym q ∙ c), take-nil) at (l .same))
+    look-cut h c = rw (keys-none s at h (sym q ∙ c), take-nil) at (l .same)
 
     module _ (tag size next : ℕ) (t : read ≡ Taken tag size next) where
-      pub look-past : (tag ≡ 2 → ⊥) → Looking s from n key found left next
+      pub look-past : (tag ≡ 2 → ⊥) → Looking s from n key left next
       look-past other = record { same = rw (keys-flag s at tag size next (sym q ∙ t) other) at (l .same) }
 
-      pub look-on : tag ≡ 2 → (left ≡ 0 → ⊥) → (k : ℕ) → k ≡ keyOf (hopOf (part s (at + 3) (next - (at + 3)))) → (found′ : Bool)
-          → found′ ≡ (found || eqb k key) → (fewer : ℕ) → fewer ≡ left - 1 → Looking s from n key found′ fewer next
-      unfolding keyMet
-      look-on two some k is found′ e fewer less =
-          let more : left ≡ suc fewer = omega (arith, some) in
-          record { same = rw (e, is, or-assoc) (rw (keys-hop s at tag size next (sym q ∙ t) two, more) at (l .same)) }
+      module _ (two : tag ≡ 2) (some : left ≡ 0 → ⊥) (k : ℕ) (is : k ≡ keyOf (hopOf (part s (at + 3) (next - (at + 3))))) where
+        split : (fewer : ℕ) → left ≡ suc fewer → (eqb k key || keyMet key (take fewer (keysIn (fieldsAt s next)))) ≡ keyMet key (keysMet s from n)
+        unfolding keyMet
+        split fewer more = rw is (rw (keys-hop s at tag size next (sym q ∙ t) two, more) at (l .same))
 
-pub ruleset met-laws = (needs, taken, look-begins, look-done, look-end, look-cut, look-past, look-on)
+        pub look-found : k ≡ key → true ≡ keyMet key (keysMet s from n)
+        look-found e = rw (eq-eqb k key e) at (split (left - 1) (omega (arith, some)))
+
+        pub look-on : (k ≡ key → ⊥) → (fewer : ℕ) → fewer ≡ left - 1 → Looking s from n key fewer next
+        look-on e fewer less = record { same = rw (ne-eqb k key e) at (split fewer (omega (arith, some))) }
+
+pub ruleset met-laws = (needs, taken, look-begins, look-done, look-end, look-cut, look-past, look-found, look-on)
 
 pub uncovered : (old mark : ℕ) → (old ≡ mark → ⊥) → (old ≡ 255 → ⊥) → coversBy old mark ≡ false
 unfolding coversBy

@@ -6,7 +6,7 @@ use octets::Record;
 use rules::FieldRead;
 use rules::Ruling;
 ghost use mathlib.Core.Path.{_≡_};
-ghost use mathlib.Core.Bool.{true, false, _||_, not};
+ghost use mathlib.Core.Bool.{true, false, not};
 ghost use Prim.Native.Nat.{_<_, _≤_};
 ghost use lib.ListN.{length};
 ghost use Rattle.rules.specs.Fields.{field};
@@ -58,12 +58,11 @@ fn key_at(v: &[u8]) -> u64
 fn met(s: &[u8], from: usize, n: usize, key: u64) -> bool
     ensures { λ r. ⌜ r ≡ keyMet key (keysMet (now (s .entry)) from n) ⌝ }
 {
-    let mut found = false;
     let mut left = n;
     let mut at = from;
     while at < s.len() {
         if left == 0 {
-            return found;
+            return false;
         }
         let FieldRead::Taken {
             tag,
@@ -71,21 +70,17 @@ fn met(s: &[u8], from: usize, n: usize, key: u64) -> bool
             next,
         } = octets::field_at(s, at)
         else {
-            return found;
+            return false;
         };
         if tag == 2 {
-            found = either(found, key_at(&s[at + 3..next]) == key);
+            if key_at(&s[at + 3..next]) == key {
+                return true;
+            }
             left -= 1;
         }
         at = next;
     }
-    found
-}
-
-fn either(a: bool, b: bool) -> bool
-    ensures { λ r. ⌜ r ≡ (a || b) ⌝ }
-{
-    if a { true } else { b }
+    false
 }
 
 // Another key's mark alone in the slot shows that no earlier record has this key; only else is there a look at them all.
