@@ -1,7 +1,7 @@
 -- A store as the code reads it: one law for each way out, over what the tests and calls before it say. By computation.
 use Rattle.handler.proofs
 use proofs.{RouteLaws.received-lent, StageLaws.done-dropped}
-use Prim.Native.Nat.{ℕ, _+_, _-_, _*_, _/_, _%_, _^_, _≤_, _<_}
+use Prim.Native.Nat.{ℕ, _+_, _*_, _/_, _%_, _^_, _≤_, _<_}
 use mathlib.Core.Path.{_≡_, refl, sym, _∙_}
 use mathlib.Core.List.{List}
 use mathlib.Core.Bool.{Bool, true, false, not}
