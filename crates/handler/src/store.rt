@@ -129,9 +129,9 @@ pub fn place_inlined(w: &[u64], d: u16) -> usize
     ensures { λ r. ⌜ r ≡ placeIn (now (w .entry)) (countIn (now (w .entry))) d ⌝ }
 {
     let n = w[3] as usize;
-    let i = hint_at(w, d);
-    if last_at(w, n, d, i) {
-        return i;
+    let hint = hint_at(w, d);
+    if last_at(w, n, d, hint) {
+        return hint;
     }
     search(w, n, d)
 }
