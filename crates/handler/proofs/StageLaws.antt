@@ -172,7 +172,7 @@ module _ (S : Ways) {f : List ℕ} {h : Header} (is : Ready f h) (none : opLengt
 
 -- a reply, or none
 unreplied : {a : A.Handled} (n : ℕ) (out : List ℕ) → a ≡ A.dropped n → Replied (a .octets) 0 out out
-unreplied n out e = rw e (record { long = refl; few = omega arith; after = sym (put-none out 0) })
+unreplied n out e = rw e (record { wrote = record { ends = refl; after = sym (put-none out 0) }; few = omega arith })
 
 -- 25 and 53
 module _ (S : Ways) (f : List ℕ) (h : Header) (code : ℕ) (inner : List ℕ) (held : inner ≡ innerOf f h) (quiet : Bool) (q : quiet ≡ silenced code inner)
@@ -215,7 +215,7 @@ module _ (S : Ways) (r : NextHop) (out : List ℕ) (roomy : 576 ≤ length out) 
       reply-made number code body octets is few w =
           let all = joined linked w in
           let size = length-append (replyOctets own (h .ingress) number code) body in
-          rw (← is) (record { long = rw zero-add at (all .ends); few = omega (arith, link-most S r); after = all .after })
+          rw (← is) (record { wrote = all; few = omega (arith, link-most S r, all .ends) })
 
       pub error-made : (f : List ℕ) (code : ℕ) → Wrote (replyOctets own (h .ingress) 0x001 code ++ errorBody f h) k end out1 out2
           → Replied (errorReply S r f h code) end out out2

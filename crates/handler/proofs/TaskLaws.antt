@@ -13,7 +13,7 @@ use mathlib.Core.Path.{_≡_, refl, sym, ap, _∙_}
 use mathlib.Core.List.{List, [], _++_, append-assoc}
 use mathlib.Core.Bool.{Bool, true, false, not, _&&_, true≢false}
 use Prim.Native.Nat.{ℕ, _+_, _-_, _≤_}
-use native.Mathlib.Omega.{arith}
+use native.Mathlib.{Omega.arith, Nat.zero-add}
 use borrow.Author.Needs.{needs}
 use borrow.Author.Tests.{ne-eqb, not-true, not-false}
 use lib.Dec.{ltb, eqb}
@@ -79,8 +79,9 @@ module _ (t : Lookup) (f : List ℕ) (h : Header) where
 -- written, it is the answer
 reply-done : {refusal number : ℕ} {S : Ways} {via n : ℕ} {a : A.Handled} {out out1 : List ℕ} → Reply refusal number S via a → Replied (a .octets) n out out1
     → Done a (repliedBy refusal number n via) out out1
-reply-done unsent p = record { answer = rw (p .long); after = p .after; alone = refl }
-reply-done {S = S} (sent hop rest v) p = record { answer = rw (p .long, some-octets S hop rest, v); after = p .after; alone = refl }
+reply-done unsent p = record { answer = rw (p .wrote .ends); after = p .wrote .after; alone = refl }
+reply-done {S = S} (sent hop rest v) p =
+    record { answer = rw (p .wrote .ends, zero-add, some-octets S hop rest, v); after = p .wrote .after; alone = refl }
 
 -- 21, the alert's 25 and 26, and 50
 module _ (T : Ways) (f : List ℕ) (h : Header) (alert : Alert) (out : List ℕ) (R : Ruling) (asks : R ≡ T .hop (h .egress)) where

@@ -263,9 +263,8 @@ pub record Ready (f : List ℕ) (h : Header) : Type 0 where
 
 -- a reply written at the start of a buffer, and its length
 pub record Replied (reply : List ℕ) (n : ℕ) (out out′ : List ℕ) : Type 0 where
-  pub long : n ≡ length reply
+  pub wrote : Wrote reply 0 n out out′
   pub few : n ≤ 576
-  pub after : out′ ≡ put out 0 reply
 
 -- an answer with nothing beside it, and the output buffer after it
 pub record Done (a : A.Handled) (r : Answer) (out out′ : List ℕ) : Type 0 where
