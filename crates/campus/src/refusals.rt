@@ -60,7 +60,7 @@ fn nickname_known(w: &[u64], starts: &[usize], n: usize, v: &[u8]) -> bool
     requires { ⌜ Placed (now w) (now starts) n ⌝ }
     ensures { λ r. ⌜ r ≡ knownIn (now (w .entry)) (now (starts .entry)) n (O.be16 (now (v .entry)) 0) ⌝ }
 {
-    let Named::At(_) = switches::find(w, starts, n, octets::be16(v, 0) as u32) else {
+    let Named::At(_) = switches::find(w, starts, n, octets::be16(v, 0)) else {
         return false;
     };
     true

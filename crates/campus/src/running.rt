@@ -186,7 +186,7 @@ fn put_waiting(
     ensures { λ r. ⌜ Waits (now (w .entry)) (now (starts .entry)) n (now (waiting .entry)) (now (waiting .exit)) tail r
         (waitingBy towards (now (f .entry)) ∷ []) ⌝ }
 {
-    let Named::At(i) = switches::find(w, starts, n, towards as u32) else {
+    let Named::At(i) = switches::find(w, starts, n, towards) else {
         return tail;
     };
     put_slot(waiting, tail, i, f);
@@ -273,7 +273,7 @@ fn sent_to(w: &[u64], starts: &[usize], n: usize, a: Answer) -> Named
     if a.number != 50 {
         return Named::Unknown;
     }
-    switches::find(w, starts, n, a.neighbour as u32)
+    switches::find(w, starts, n, a.neighbour)
 }
 
 // The frame that was forwarded, if it stays in the campus; else the reply that has waited longest.
@@ -437,7 +437,7 @@ pub fn run(
     ensures { λ r. ⌜ Ran (statesOf (now (s .entry))) (now (trace .entry)) (now (trace .exit)) r ⌝ }
 {
     let v = between(s, read.place + 3, s.len());
-    let Named::At(i) = switches::find(w, starts, read.n, octets::be16(v, 0) as u32) else {
+    let Named::At(i) = switches::find(w, starts, read.n, octets::be16(v, 0)) else {
         return 0;
     };
     run_at(s, w, starts, read, two, i, v, trace)

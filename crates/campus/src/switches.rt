@@ -13,7 +13,7 @@ pub enum Named {
 }
 
 // The latest of the first n switches that has this nickname.
-pub fn find(w: &[u64], starts: &[usize], n: usize, nickname: u32) -> Named
+pub fn find(w: &[u64], starts: &[usize], n: usize, nickname: u16) -> Named
     requires { ⌜ Placed (now w) (now starts) n ⌝ }
     ensures { λ r. ⌜ r ≡ numberIn (now (w .entry)) (now (starts .entry)) n nickname ⌝ }
 {

@@ -5,5 +5,5 @@ use proofs.running.run as fn
 
 pub run-spec : {M : Type 1} → fn.Statement.statement M
 run-spec = fn.Tie.close (fn.Tie.spec
-    (λ c. search laws) (λ c _. search laws) (λ c _. search laws) (λ c. search laws) (λ c _. search laws) (λ c. search laws) (λ c. search laws)
-    (λ c. search laws) (λ c _. search laws) (λ c. search laws) (λ c. search laws))
+    (λ c. search laws) (λ c _. search laws) (λ c _. search laws) (λ c _. search laws) (λ c. search laws) (λ c. search laws) (λ c. search laws)
+    (λ c _. search laws) (λ c. search laws) (λ c. search laws))
