@@ -30,7 +30,7 @@ use specs.declared.switches.Named.{Named}
 use specs.declared.switches.Named.the-variants.{At, Unknown}
 use specs.declared.reading.Reading.{Reading}
 use specs.Places.{between, clockAt, clockFrom, entryValue, describedBy}
-use specs.Stores.{settingsAt, switchesIn, numberIn, Placed, SoundAt, Sound, wordsFor, Accepts, ReadDone}
+use specs.Stores.{settingsAt, switchesIn, numberIn, Started, SoundAt, Sound, wordsFor, Accepts, ReadDone}
 use specs.Steps.{neededBy, Ran, runOf, RunReady, EntryReady, statesOf}
 use specs.{Queue.LoopReady, Done.CampusDone}
 use Rattle.campus.proofs
@@ -100,8 +100,8 @@ accepts-sound {s} {w} {starts} {n} {clock} {place} a =
     (omega (arith, accepted-good s (describedBy s (a .switches) clock place) (a .is) .few-switches))
 
 module _ {s w starts : List ℕ} {n clock place : ℕ} {trace : List ℕ} (ready : RunReady s w starts n clock place trace) where
-  pub run-placed : Placed w starts n
-  run-placed = accepts-sound (ready .read) .placed
+  pub run-started : Started w starts n
+  run-started = accepts-sound (ready .read) .started
 
   -- where the entry switch is
   module _ (v : List ℕ) (ev : v ≡ entryValue s place) (b : ℕ) (eb : b ≡ be16 v 0) (found : Named) (ef : found ≡ numberIn w starts n b) where
@@ -125,7 +125,7 @@ module _ {s w starts : List ℕ} {n clock place : ℕ} {trace : List ℕ} (ready
         let named = rw eb at (there .1) in
         search
 
-pub ruleset run-laws = (needs, run-placed, run-unknown, entry-ready)
+pub ruleset run-laws = (needs, run-started, run-unknown, entry-ready)
 
 -- every nickname has two octets
 all-small : (w starts : List ℕ) (n : ℕ) → ((i : ℕ) → i < n → SoundAt w starts i) → (S : Settings) → List·Memᴰ S (switchesIn w starts n)

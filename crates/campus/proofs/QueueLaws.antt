@@ -22,7 +22,7 @@ use Rattle.handler.specs.declared.answers.Answer.{Answer}
 use Rattle.campus.specs
 use specs.declared.switches.Named.{Named}
 use specs.declared.switches.Named.the-variants.{At, Unknown}
-use specs.declared.running.{At.At as Place, Onward.Onward}
+use specs.declared.running.{At.At as Turn, Onward.Onward}
 use specs.declared.running.Onward.the-variants.{To, Ends}
 use specs.{Stores.settingsAt, Stores.switchesIn, Stores.numberIn, Stores.Sound, Steps.kindBy}
 use specs.Queue.{waitingBy, slotOctets, Free, Slot, Held, Queue, Waits, repliesBy, WaitReady, sentTo, onwardBy, NextReady, Leads, OnwardReady, Onwarded}
@@ -306,7 +306,7 @@ pub ruleset sent-to-laws = (needs, sent-not, sent-on)
 pub ruleset next-of-laws = (needs, next-waiting, next-on)
 
 -- the reply put in, and what is next
-module _ {w starts : List ℕ} {n : ℕ} {a : Answer} {at : Place} {out beside waiting waiting′ : List ℕ} {tail : ℕ}
+module _ {w starts : List ℕ} {n : ℕ} {a : Answer} {at : Turn} {out beside waiting waiting′ : List ℕ} {tail : ℕ}
     (put-in : Waits w starts n waiting waiting′ (at .tail) tail (repliesBy a out beside)) where
   pub onward-next : OnwardReady w starts n a at out beside waiting → NextReady w starts n a waiting′ (at .head) tail
   onward-next ready =

@@ -14,7 +14,7 @@ use Rattle.rules.specs as rules
 use rules.Octets.{if_then_else_, be16, part}
 use rules.Fields.{field, lengthGood, Field, cut, fieldAt, fieldsFrom, fields}
 use rules.Settings.{Settings, switchOf, opens, switchGood, hopOf, serialMet, withField}
-use rules.Campus.{switchNamed, known, placeGood, valueGood, nicknameNew, roomGood, serialNew, entryKnown, fieldRefusal, withNext, Described, onLatest}
+use rules.Campus.{switchNamed, known, orderGood, valueGood, nicknameNew, roomGood, serialNew, entryKnown, fieldRefusal, withNext, Described, onLatest}
 use rules.Campus.{refused, describedFrom, described, fileMost}
 use rules.declared.FieldRead.{FieldRead}
 use rules.declared.FieldRead.the-variants.{Taken, Cut}
@@ -25,7 +25,7 @@ use Rattle.octets.specs.Flags.{flagTag, flagValue, flagBy}
 use Rattle.stores.specs.Extend.{opensIn, withSwitch}
 use Rattle.stores.proofs.ExtendLaws.{recordBy, record-checked, flag-checked, extended-long, switch-long}
 use Rattle.campus.specs
-use specs.Places.{placeBy, countedBy, between, clockAt, entryValue, codeAfter, clockedBy}
+use specs.Places.{orderBy, countedBy, between, clockAt, entryValue, codeAfter, clockedBy}
 use specs.Stores.{knownIn, endOf, spanOf, Kept, Stores, PartOpens, PartExtends, soFar, OfSettings, Took, wordsFor, ReadDone}
 use specs.declared.reading.Reading.{Reading}
 use Rattle.campus.proofs
@@ -56,19 +56,19 @@ pub ruleset clocked-laws = (needs, clocked-same, clocked-here)
 
 -- whether a tag is in its place
 module _ (n clock tag : ℕ) where
-  pub place-settings : {k : ℕ} → tag ≡ k → (eqb k 2 || eqb k 3 || eqb k 6) ≡ true → not (eqb n 0) ≡ placeBy n clock tag
-  unfolding placeBy
-  place-settings e t = rw (e, placeBy, t)
+  pub order-settings : {k : ℕ} → tag ≡ k → (eqb k 2 || eqb k 3 || eqb k 6) ≡ true → not (eqb n 0) ≡ orderBy n clock tag
+  unfolding orderBy
+  order-settings e t = rw (e, orderBy, t)
 
-  pub place-4 : tag ≡ 4 → eqb clock 0 ≡ placeBy n clock tag
-  unfolding placeBy
-  place-4 e = rw e
+  pub order-4 : tag ≡ 4 → eqb clock 0 ≡ orderBy n clock tag
+  unfolding orderBy
+  order-4 e = rw e
 
-  pub place-any : (tag ≡ 2 → ⊥) → (tag ≡ 3 → ⊥) → (tag ≡ 6 → ⊥) → (tag ≡ 4 → ⊥) → true ≡ placeBy n clock tag
-  unfolding placeBy
-  place-any a b c d = simp ne-eqb
+  pub order-any : (tag ≡ 2 → ⊥) → (tag ≡ 3 → ⊥) → (tag ≡ 6 → ⊥) → (tag ≡ 4 → ⊥) → true ≡ orderBy n clock tag
+  unfolding orderBy
+  order-any a b c d = simp ne-eqb
 
-pub ruleset place-good-laws = (needs, place-settings, place-4, place-any)
+pub ruleset order-good-laws = (needs, order-settings, order-4, order-any)
 
 -- the code of one field, by the switches so far
 serial-other : (l : List Settings) (c : Option (List ℕ)) (v : List ℕ) (tag : ℕ) → (tag ≡ 2 → ⊥) → serialNew (soFar l c) tag v ≡ true
@@ -76,10 +76,10 @@ unfolding serialNew
 serial-other [] c v tag h = refl
 serial-other (T ∷ l) c v tag h = rw (serialNew, ne-eqb tag 2 h)
 
-place-is : (l : List Settings) (c : Option (List ℕ)) (n clock tag : ℕ) → length l ≡ n → known c ≡ not (eqb clock 0)
-    → placeGood (soFar l c) tag ≡ placeBy n clock tag
-unfolding placeGood placeBy
-place-is l c n clock tag h k =
+order-is : (l : List Settings) (c : Option (List ℕ)) (n clock tag : ℕ) → length l ≡ n → known c ≡ not (eqb clock 0)
+    → orderGood (soFar l c) tag ≡ orderBy n clock tag
+unfolding orderGood orderBy
+order-is l c n clock tag h k =
     by-test (eqb tag 2 || eqb tag 3 || eqb tag 6)
     (λ t.
     let no-clock : eqb tag 4 ≡ false = by-test (eqb tag 4) (λ e. cc (rw (eqb-true tag 4 e) at t)) (λ f. f) in
@@ -92,11 +92,11 @@ module _ (T : Settings) (l : List Settings) (c : Option (List ℕ)) (v : List �
   some-switch = ne-eqb (suc (length l)) 0 (omega arith)
 
   code-2 : recordBy T v ≡ fieldRefusal (soFar (T ∷ l) c) (field 2 v)
-  unfolding fieldRefusal placeGood valueGood nicknameNew roomGood serialNew entryKnown
+  unfolding fieldRefusal orderGood valueGood nicknameNew roomGood serialNew entryKnown
   code-2 = rw (some-switch, Bool·not-not (serialMet (hopOf v) (T .hops)))
 
   code-flag : (tag : ℕ) → (eqb tag 3 || eqb tag 6) ≡ true → flagBy tag v ≡ fieldRefusal (soFar (T ∷ l) c) (field tag v)
-  unfolding fieldRefusal placeGood valueGood nicknameNew roomGood serialNew entryKnown flagTag flagValue lengthGood
+  unfolding fieldRefusal orderGood valueGood nicknameNew roomGood serialNew entryKnown flagTag flagValue lengthGood
   code-flag tag t =
       by-test (eqb tag 3) (λ b. rw (eqb-true tag 3 b, some-switch)) (λ b. rw (eqb-true tag 6 (rw b at t), some-switch))
 
@@ -122,17 +122,17 @@ module _ (w starts : List ℕ) (n clock tag : ℕ) (v : List ℕ) where
     unfolding fieldRefusal
     took-42 t = not-taken 42 w (omega arith) refl (λ l c s e k. rw (sym a ∙ not-true g t))
 
-    module _ (t : not g ≡ false) (p : Bool) (b : p ≡ placeBy n clock tag) where
+    module _ (t : not g ≡ false) (p : Bool) (b : p ≡ orderBy n clock tag) where
       pub its-good : lengthGood tag (length v) ≡ true
       its-good = sym a ∙ not-false g t
 
       pub took-43 : not p ≡ true → Took w starts n clock tag v 43 w starts
       unfolding fieldRefusal
-      took-43 q = not-taken 43 w (omega arith) refl (λ l c s e k. rw (its-good, place-is l c n clock tag e k ∙ sym b ∙ not-true p q))
+      took-43 q = not-taken 43 w (omega arith) refl (λ l c s e k. rw (its-good, order-is l c n clock tag e k ∙ sym b ∙ not-true p q))
 
       module _ (q : not p ≡ false) where
-        in-place : placeBy n clock tag ≡ true
-        in-place = sym b ∙ not-false p q
+        in-order : orderBy n clock tag ≡ true
+        in-order = sym b ∙ not-false p q
 
         pub length-1 : tag ≡ 1 → lengthGood 1 (length v) ≡ true
         length-1 e = rw e at its-good
@@ -147,14 +147,14 @@ module _ (w starts : List ℕ) (n clock tag : ℕ) (v : List ℕ) where
             record {
               size = refl;
               starts-size = refl;
-              checked = λ l c s m k. rw (e, rw e at its-good, place-is l c n clock 4 m k ∙ (rw e at in-place), serial-other l c v 4 (omega arith));
+              checked = λ l c s m k. rw (e, rw e at its-good, order-is l c n clock 4 m k ∙ (rw e at in-order), serial-other l c v 4 (omega arith));
               stored = λ l c s m z. rw e s;
             }
 
         module _ (e : tag ≡ 5) (x : Bool) (is : x ≡ knownIn w starts n (be16 v 0)) where
           entry-code : (l : List Settings) (c : Option (List ℕ)) → Stores w starts l → length l ≡ n
               → (if not x then 48 else 0) ≡ fieldRefusal (soFar l c) (field tag v)
-          unfolding fieldRefusal placeGood valueGood nicknameNew roomGood entryKnown
+          unfolding fieldRefusal orderGood valueGood nicknameNew roomGood entryKnown
           entry-code l c s m = rw (e, rw e at its-good, serial-other l c v 5 (omega arith), ← known-is w starts l s n m (be16 v 0), ← is)
 
           pub took-48 : not x ≡ true → Took w starts n clock tag v 48 w starts
@@ -165,10 +165,10 @@ module _ (w starts : List ℕ) (n clock tag : ℕ) (v : List ℕ) where
           took-5 y = record { size = refl; starts-size = refl; checked = λ l c s m k. (rw y at (entry-code l c s m)); stored = λ l c s m z. rw e s }
 
         pub of-switch : OfSettings tag (length v) → 0 < n
-        unfolding placeBy
+        unfolding orderBy
         of-switch o =
             by-test (eqb n 0)
-            (λ z. absurd (false≢true (rw (placeBy, settings-tag o, z) at in-place)))
+            (λ z. absurd (false≢true (rw (orderBy, settings-tag o, z) at in-order)))
             (λ z. omega (arith, eqb-false n 0 z))
 
 pub ruleset take-laws = (needs, took-42, took-43, length-1, took-1, took-4, took-48, took-5, its-good, of-switch)
@@ -192,7 +192,7 @@ module _ (w starts : List ℕ) (n clock : ℕ) (v : List ℕ) (k : Kept w starts
   open-code = if not r then 44 else if x then 45 else if not (ltb n 16) then 46 else 0
 
   open-code-is : (l : List Settings) (c : Option (List ℕ)) → Stores w starts l → length l ≡ n → fieldRefusal (soFar l c) (field 1 v) ≡ open-code
-  unfolding fieldRefusal placeGood valueGood nicknameNew roomGood entryKnown
+  unfolding fieldRefusal orderGood valueGood nicknameNew roomGood entryKnown
   open-code-is l c s m =
       rw (long, serial-other l c v 1 (omega arith), Bool·not-not (known (switchNamed l (be16 v 0))), ← good-is, ← known-is w starts l s n m (be16 v 0), ← is, m)
 
@@ -234,7 +234,7 @@ part-extended-long {w} {v} {at = at} {tag} x h = rw (x .words) (part-long w at _
 
 module _ (w starts : List ℕ) (n clock tag : ℕ) (v : List ℕ) (k : Kept w starts n) (some : 0 < n) where
   pub extend-within : getD starts (n - 1) 0 ≤ length w
-  extend-within = omega (arith, k .placed .within (n - 1) (omega arith))
+  extend-within = omega (arith, k .started .within (n - 1) (omega arith))
 
   module _ (of : OfSettings tag (length v)) (r : ℕ) (w′ : List ℕ) (x : PartExtends w (getD starts (n - 1) 0) tag v r w′) where
     -- by the latest switch
@@ -306,7 +306,7 @@ passes : (d : Described) (tag : ℕ) (v : List ℕ) → fieldRefusal d (field ta
 unfolding fieldRefusal
 passes d tag v e =
     let p1 = none-given (not (lengthGood tag (length v))) 42 _ (omega arith) e in
-    let p2 = none-given (not (placeGood d tag)) 43 _ (omega arith) (p1 .1) in
+    let p2 = none-given (not (orderGood d tag)) 43 _ (omega arith) (p1 .1) in
     let p3 = none-given (not (valueGood tag v)) 44 _ (omega arith) (p2 .1) in
     let p4 = none-given (not (nicknameNew d tag v)) 45 _ (omega arith) (p3 .1) in
     let p5 = none-given (not (roomGood d tag)) 46 _ (omega arith) (p4 .1) in
@@ -330,11 +330,11 @@ module _ (s : List ℕ) (at : ℕ) where
       unfolding codeAfter
       after-length f = rw (codeAfter, lt-leb (length s) at h, ← is, e, ← its, f)
 
-      pub after-place : not good ≡ false → 43 ≡ codeAfter s at
+      pub after-order : not good ≡ false → 43 ≡ codeAfter s at
       unfolding codeAfter
-      after-place t = rw (codeAfter, lt-leb (length s) at h, ← is, e, ← its, t)
+      after-order t = rw (codeAfter, lt-leb (length s) at h, ← is, e, ← its, t)
 
-pub ruleset code-after-laws = (needs, after-end, after-cut, after-length, after-place)
+pub ruleset code-after-laws = (needs, after-end, after-cut, after-length, after-order)
 
 module _ (s : List ℕ) (at : ℕ) (h : at < length s) (d : Described) (k : known (d .entry) ≡ true) (g : ℕ) where
   abbrev Refused : Type 0
@@ -345,7 +345,7 @@ module _ (s : List ℕ) (at : ℕ) (h : at < length s) (d : Described) (k : know
   refuses f fs code is r c z = (rw (is, ← c, ← r) (described-refused d f fs (omega arith)), omega arith)
 
   behind : Refused
-  unfolding fieldRefusal placeGood
+  unfolding fieldRefusal orderGood
   behind = go (fieldAt s at) refl
     where
       go : (w : FieldRead) → w ≡ fieldAt s at → Refused
@@ -357,7 +357,7 @@ module _ (s : List ℕ) (at : ℕ) (h : at < length s) (d : Described) (k : know
           let on = fields-on g s at tag size next h (sym e) in
           by-test (lengthGood tag size)
           (λ b. refuses (field tag v) (fieldsFrom g s next) 43 on (rw (l, b, k))
-          (after-place s at (Taken tag size next) e h tag size next refl true (sym b) refl) (omega arith))
+          (after-order s at (Taken tag size next) e h tag size next refl true (sym b) refl) (omega arith))
           (λ b. refuses (field tag v) (fieldsFrom g s next) 42 on (rw (l, b))
           (after-length s at (Taken tag size next) e h tag size next refl false (sym b) refl) (omega arith))
 
@@ -598,7 +598,7 @@ module _ {s w₀ starts₀ w starts : List ℕ} {n clock at : ℕ} (h : Holding 
                         count = h .count;
                         sixteen = took .starts-size ∙ h .sixteen;
                         span = omega (arith, span-room);
-                        placed = omega (arith, its);
+                        started = omega (arith, its);
                       };
                 })
                 (λ b.

@@ -11,7 +11,7 @@ use borrow.Author.Tests.{eqb-true, eqb-false}
 use lib.Dec.{eqb}
 use lib.ListN.{length, getD, take, drop, length-take, length-append}
 use Rattle.rules.specs as rules
-use rules.{Octets.octet, Octets.be16, Octets.put, Settings.Settings, Settings.waysOf, Link.linkLength, Link.linkEthertype, Link.ethertypeTrill}
+use rules.{Octets.octet, Octets.be16, Octets.put, Settings.Settings, Settings.waysOf, Link.linkLength, Link.linkEthertype, Link.ethertypeTag, Link.ethertypeTrill}
 use rules.{Header.hopCount, Header.readFrame, Handling.handling, Answer.Handled, Demand.repliesIn}
 use rules.Campus.{hopReceived, egressReceived, kindOctet, entryOctets, Kind, State, Waiting, repliesMade, staying, Next, over, next, sentOn}
 use rules.Campus.{nextAfter, runFrom, traceOctets}
@@ -28,7 +28,7 @@ use Rattle.octets.proofs.Ends.{copied}
 use Rattle.stores.specs.Store.{handledIn}
 use Rattle.handler.specs.declared.answers.Answer.{Answer}
 use Rattle.handler.specs.Tasks.{Both}
-use Rattle.stores.proofs.PlaceLaws.{good-whole}
+use Rattle.stores.proofs.IndexLaws.{good-whole}
 use Rattle.campus.specs
 use specs.declared.received.HopEgress.{HopEgress}
 use specs.declared.running.{At.At, Onward.Onward}
@@ -39,16 +39,16 @@ use specs.Queue.{repliesBy, Free, Queue, Holds, Onwards, onwardBy, OnwardReady, 
 use Rattle.campus.proofs.{StoresLaws.lent, StoresLaws.name-here, QueueLaws.copied-begins}
 
 -- a tag at the end of the link header
-module _ (f : List ℕ) (high : ℕ) (is-high : high ≡ octet f 12) where
-  pub untagged-high : (high ≡ 0x81 → ⊥) → 14 ≡ linkLength f
+module _ (f : List ℕ) (high a : ℕ) (is-high : high ≡ octet f 12) (is-a : a ≡ ethertypeTag / 256 % 256) where
+  pub untagged-high : (high ≡ a → ⊥) → 14 ≡ linkLength f
   untagged-high h = length-plain f (be16 f 12) refl (λ e. h (omega arith))
 
-  module _ (low : ℕ) (is-low : low ≡ octet f 13) where
-    pub untagged-low : (low ≡ 0 → ⊥) → 14 ≡ linkLength f
+  module _ (low b : ℕ) (is-low : low ≡ octet f 13) (is-b : b ≡ ethertypeTag % 256) where
+    pub untagged-low : (low ≡ b → ⊥) → 14 ≡ linkLength f
     untagged-low h = length-plain f (be16 f 12) refl (λ e. h (omega arith))
 
-    pub tagged : high ≡ 0x81 → low ≡ 0 → 18 ≡ linkLength f
-    tagged a b = length-tagged f (be16 f 12) refl (omega arith)
+    pub tagged : high ≡ a → low ≡ b → 18 ≡ linkLength f
+    tagged e g = length-tagged f (be16 f 12) refl (omega arith)
 
 pub ruleset link-length-laws = (needs, untagged-high, untagged-low, tagged)
 

@@ -18,11 +18,11 @@ use Rattle.rules.specs.Settings.{Settings, Ways, switchOf, withField, opens, sw
 use Rattle.rules.proofs.{TestLaws.by-test, TestLaws.and-true, AlikeLaws.Both}
 use Rattle.stores.specs.Extend.{Opens, Extends, withSwitch, extending, extended}
 use Rattle.stores.specs.Store.{unlessWithdrawn, Stands}
-use Rattle.stores.proofs.{LookupLaws.next-hop, PlaceLaws.good-whole}
+use Rattle.stores.proofs.{LookupLaws.next-hop, IndexLaws.good-whole}
 use Rattle.stores.proofs.ExtendLaws.{Ample, extended-stands, switch-stands, says, is-good, stands-too}
 use Rattle.campus.specs
 use specs.declared.switches.Named.the-variants.{At, Unknown}
-use specs.Stores.{storeAt, switchesIn, numberIn, endOf, Placed, Sound, Kept, PartOpens, PartExtends, settingsIn, settingsAt, foundBy}
+use specs.Stores.{storeAt, switchesIn, numberIn, endOf, Started, Sound, Kept, PartOpens, PartExtends, settingsIn, settingsAt, foundBy}
 use specs.Stores.{spanOf, Store, Stores, SoundAt}
 use specs.declared.switches.Named.{Named}
 
@@ -53,7 +53,7 @@ module _ {w starts : List ℕ} {n nickname i : ℕ} (k : Seeking w starts n nick
     unfolding numberIn
     seek-on h = record { within = omega arith; same = rw (ne-eqb _ _ h) at from-last }
 
-    pub seek-within : Placed w starts n → getD starts (i - 1) 0 < length w
+    pub seek-within : Started w starts n → getD starts (i - 1) 0 < length w
     seek-within p = p .within (i - 1) (omega arith)
 
 pub ruleset find-laws = (needs, seek-end, seek-here, seek-on, seek-within)
@@ -170,19 +170,19 @@ module _ (w : List ℕ) (a : ℕ) (x : List ℕ) (h : a ≤ length w) where
   pub part-long : length x ≡ length (drop a w) → length (take a w ++ x) ≡ length w
   part-long e = length-append (take a w) x ∙ omega (arith, length-take-le a w h, length-drop a w)
 
-  -- the switches in front of the part stay, where their places do
+  -- the switches in front of the part stay, where their starts do
   stores-front : (starts starts′ : List ℕ) (l : List Settings) → spanOf l ≤ a → ((i : ℕ) → i < length l → getD starts′ i 0 ≡ getD starts i 0)
       → Stores w starts l → Stores (take a w ++ x) starts′ l
-  stores-front starts starts′ [] low places s = tt
-  stores-front starts starts′ (T ∷ l) low places s = (
+  stores-front starts starts′ [] low kept s = tt
+  stores-front starts starts′ (T ∷ l) low kept s = (
     record {
-      start = places (length l) (omega arith) ∙ s .0 .start;
+      start = kept (length l) (omega arith) ∙ s .0 .start;
       stands =
           stands-too (drop (spanOf l) w) (drop (spanOf l) (take a w ++ x)) T
           (λ j b. simp getD-drop (front-same (spanOf l + j) (omega (arith, span-more T l)))) (s .0 .stands);
       valid = s .0 .valid;
     },
-    stores-front starts starts′ l (omega (arith, span-more T l)) (λ i b. places i (omega arith)) (s .1),
+    stores-front starts starts′ l (omega (arith, span-more T l)) (λ i b. kept i (omega arith)) (s .1),
   )
 
 -- one more switch
@@ -321,4 +321,4 @@ module _ (w starts : List ℕ) (l : List Settings) (s : Stores w starts l) (n : 
   pub stores-sound : spanOf l ≤ length w → n ≤ length starts → Sound w starts n
   stores-sound room listed =
       let each : (i : ℕ) → i < n → SoundAt w starts i = λ i h. sound-each w starts l s room (omega arith) i (omega arith) in
-      record { placed = record { long = listed; within = λ i h. each i h .start }; each = each }
+      record { started = record { long = listed; within = λ i h. each i h .start }; each = each }

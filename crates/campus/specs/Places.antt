@@ -36,8 +36,8 @@ describedBy s switches clock place =
     }
 
 -- whether a tag is in its place, by what the code knows
-unfoldable pub placeBy : ℕ → ℕ → ℕ → Bool
-placeBy n clock tag = if eqb tag 2 || eqb tag 3 || eqb tag 6 then not (eqb n 0) else if eqb tag 4 then eqb clock 0 else true
+unfoldable pub orderBy : ℕ → ℕ → ℕ → Bool
+orderBy n clock tag = if eqb tag 2 || eqb tag 3 || eqb tag 6 then not (eqb n 0) else if eqb tag 4 then eqb clock 0 else true
 
 -- the code for what stands behind the entry field, 0 for nothing
 unfoldable pub codeAfter : List ℕ → ℕ → ℕ

@@ -1,4 +1,4 @@
--- The switches as the code holds them: stores one behind the other in a row of words, and the places where they start.
+-- The switches as the code holds them: stores one behind the other in a row of words, and where each starts.
 use Prim.Native.Nat.{ℕ, zero, suc, _+_, _*_, _/_, _%_, _≤_, _<_}
 use mathlib.Core.Path.{_≡_}
 use mathlib.Core.List.{List, [], _∷_, _++_}
@@ -57,15 +57,15 @@ unfoldable pub endOf : List ℕ → List ℕ → ℕ → ℕ
 endOf w starts zero = 0
 endOf w starts (suc n) = getD starts n 0 + 4 + 2 * getD w (getD starts n 0 + 3) 0
 
-pub record Placed (w starts : List ℕ) (n : ℕ) : Type 0 where
+pub record Started (w starts : List ℕ) (n : ℕ) : Type 0 where
   pub long : n ≤ length starts
   pub within : (i : ℕ) → i < n → getD starts i 0 < length w
 
--- what one more field needs: places, and words for a switch or a record behind the last store
+-- what one more field needs: starts, and words for a switch or a record behind the last store
 pub record Kept (w starts : List ℕ) (n : ℕ) : Type 0 where
   pub sixteen : length starts ≡ 16
   pub few : n ≤ 16
-  pub placed : Placed w starts n
+  pub started : Started w starts n
   pub room : endOf w starts n + 6 ≤ length w
 
 -- a store opened or extended within the words
@@ -123,7 +123,7 @@ pub record Accepts (s w starts : List ℕ) (n clock place : ℕ) : Type 0 where
   pub count : length switches ≡ n
   pub sixteen : length starts ≡ 16
   pub span : spanOf switches ≤ length w
-  pub placed : place + 3 ≤ length s
+  pub started : place + 3 ≤ length s
 
 pub record ReadDone (s w starts : List ℕ) (r : Reading) : Type 0 where
   pub refuses : (r .code ≡ 0 → ⊥) → refused (r .code) ≡ described s
@@ -137,5 +137,5 @@ pub record SoundAt (w starts : List ℕ) (i : ℕ) : Type 0 where
   pub says : waysIn (storeAt w starts i) ≡ waysOf (settingsAt w starts i)
 
 pub record Sound (w starts : List ℕ) (n : ℕ) : Type 0 where
-  pub placed : Placed w starts n
+  pub started : Started w starts n
   pub each : (i : ℕ) → i < n → SoundAt w starts i

@@ -36,12 +36,7 @@ fn code_after(s: &[u8], at: usize) -> u32
     if s.len() <= at {
         return 0;
     }
-    let FieldRead::Taken {
-        tag,
-        length,
-        next: _,
-    } = octets::field_at(s, at)
-    else {
+    let FieldRead::Taken { tag, length, .. } = octets::field_at(s, at) else {
         return 41;
     };
     if !refusals::length_good(tag, length) {
@@ -83,12 +78,7 @@ pub fn read(s: &[u8], w: &mut [u64], starts: &mut [usize]) -> Reading
     let mut clock = 0;
     let mut at = 0;
     while at < s.len() {
-        let FieldRead::Taken {
-            tag,
-            length: _,
-            next,
-        } = octets::field_at(s, at)
-        else {
+        let FieldRead::Taken { tag, next, .. } = octets::field_at(s, at) else {
             return refused(41);
         };
         let code = refusals::take(w, starts, n, clock, tag, &s[at + 3..next]);

@@ -29,10 +29,10 @@ fn hop_count(low: u8) -> u8
 fn link_length(f: &[u8]) -> usize
     ensures { λ r. ⌜ r ≡ linkLength (now (f .entry)) ⌝ }
 {
-    if octets::octet(f, 12) != 0x81 {
+    if octets::octet(f, 12) != octets::high(rules::ETHERTYPE_TAG) {
         return 14;
     }
-    if octets::octet(f, 13) != 0 {
+    if octets::octet(f, 13) != octets::low(rules::ETHERTYPE_TAG) {
         return 14;
     }
     18

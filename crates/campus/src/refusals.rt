@@ -7,8 +7,8 @@ ghost use Prim.Native.Nat.{_<_};
 ghost use lib.ListN.{length};
 ghost use Rattle.rules.specs.Octets as O;
 ghost use Rattle.rules.specs.Fields as F;
-ghost use Rattle.campus.specs.Stores.{knownIn, Placed, Kept, OfSettings, Took};
-ghost use Rattle.campus.specs.Places.{placeBy};
+ghost use Rattle.campus.specs.Stores.{knownIn, Started, Kept, OfSettings, Took};
+ghost use Rattle.campus.specs.Places.{orderBy};
 
 pub fn length_good(tag: u8, size: usize) -> bool
     ensures { λ r. ⌜ r ≡ F.lengthGood tag size ⌝ }
@@ -37,8 +37,8 @@ pub fn length_good(tag: u8, size: usize) -> bool
     size <= 2050
 }
 
-fn place_good(n: usize, clock: usize, tag: u8) -> bool
-    ensures { λ r. ⌜ r ≡ placeBy n clock tag ⌝ }
+fn order_good(n: usize, clock: usize, tag: u8) -> bool
+    ensures { λ r. ⌜ r ≡ orderBy n clock tag ⌝ }
 {
     if tag == 2 {
         return n != 0;
@@ -57,7 +57,7 @@ fn place_good(n: usize, clock: usize, tag: u8) -> bool
 
 // Whether one of the first n switches has the nickname at the start of `v`.
 fn nickname_known(w: &[u64], starts: &[usize], n: usize, v: &[u8]) -> bool
-    requires { ⌜ Placed (now w) (now starts) n ⌝ }
+    requires { ⌜ Started (now w) (now starts) n ⌝ }
     ensures { λ r. ⌜ r ≡ knownIn (now (w .entry)) (now (starts .entry)) n (O.be16 (now (v .entry)) 0) ⌝ }
 {
     let Named::At(_) = switches::find(w, starts, n, octets::be16(v, 0)) else {
@@ -103,7 +103,7 @@ pub fn take(w: &mut [u64], starts: &mut [usize], n: usize, clock: usize, tag: u8
     if !length_good(tag, v.len()) {
         return 42;
     }
-    if !place_good(n, clock, tag) {
+    if !order_good(n, clock, tag) {
         return 43;
     }
     if tag == 1 {

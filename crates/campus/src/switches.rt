@@ -4,7 +4,7 @@ ghost use mathlib.Core.Path.{_≡_};
 ghost use Prim.Native.Nat.{_+_, _≤_, _<_};
 ghost use lib.ListN.{length};
 ghost use Rattle.rules.specs.Campus.{someEdition2};
-ghost use Rattle.campus.specs.Stores.{switchesIn, numberIn, endOf, Placed, Sound, Kept, PartOpens, PartExtends};
+ghost use Rattle.campus.specs.Stores.{switchesIn, numberIn, endOf, Started, Sound, Kept, PartOpens, PartExtends};
 
 // The number of a switch, or no such switch.
 pub enum Named {
@@ -14,7 +14,7 @@ pub enum Named {
 
 // The latest of the first n switches that has this nickname.
 pub fn find(w: &[u64], starts: &[usize], n: usize, nickname: u16) -> Named
-    requires { ⌜ Placed (now w) (now starts) n ⌝ }
+    requires { ⌜ Started (now w) (now starts) n ⌝ }
     ensures { λ r. ⌜ r ≡ numberIn (now (w .entry)) (now (starts .entry)) n nickname ⌝ }
 {
     let mut i = n;

@@ -25,14 +25,14 @@ not-four : (x : Call) → uncounted x .number ≡ 4 → ⊥
 unfolding given
 not-four x e = true≢false (sym (rw e at (handled-bounded (x .settings) (x .clock) (x .room) (x .besideRoom) (x .frame) .listed)))
 
--- one more in one place is one more in the sum
+-- one more in one counter is one more in the sum
 sum-one-more : (l : List ℕ) (i : ℕ) → i < length l → sum (set l i (getD l i 0 + 1)) ≡ suc (sum l)
 unfolding sum
 sum-one-more [] i h = absurd (omega arith)
 sum-one-more (n ∷ l) zero h = omega arith
 sum-one-more (n ∷ l) (suc i) h = omega (arith, sum-one-more l i (omega arith))
 
--- and one more occurrence of that place alone
+-- and one more occurrence of that counter alone
 each-one-more : (l : List ℕ) (n : ℕ) → n < length l → (k : ℕ) (ns : List ℕ)
     → getD (set l n (getD l n 0 + 1)) k 0 + occurrences k ns ≡ getD l k 0 + occurrences k (n ∷ ns)
 unfolding occurrences
@@ -55,12 +55,12 @@ grown (x ∷ xs) c whole =
     (λ e. rw (counted-full c x e) (grown xs c whole))
     (λ e.
     let n = uncounted x .number in
-    let in-place : n < length (c .«by_answer») = omega (arith, small x) in
+    let counted : n < length (c .«by_answer») = omega (arith, small x) in
     let g = grown xs (oneMore c n) (rw length-set whole) in
     rw (counted-open c x e, ne-eqb n 4 (not-four x))
     (record {
-      all = omega (arith, g .all, sum-one-more (c .«by_answer») n in-place);
-      each = λ k h. g .each k h ∙ each-one-more (c .«by_answer») n in-place k (handlings (answers (oneMore c n) xs));
+      all = omega (arith, g .all, sum-one-more (c .«by_answer») n counted);
+      each = λ k h. g .each k h ∙ each-one-more (c .«by_answer») n counted k (handlings (answers (oneMore c n) xs));
       total = omega (arith, g .total);
     }))
 

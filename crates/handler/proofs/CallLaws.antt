@@ -4,21 +4,20 @@ use Rattle.rules.specs.{Settings.Ways, Settings.Settings, Settings.settingsRead
 use Rattle.rules.specs.{Header.innerOf, Extension.areaSent, Link.link, Handling.onward, Handling.forwarded, Handling.forwardedRest}
 use Rattle.rules.specs.declared.{Alert.Alert, Alert.the-variants.NoAlert, Header.Header}
 use Rattle.handler.specs
-use specs.declared.handling.{Local.Local, Task.Task, Received.Received}
+use specs.declared.handling.{Local.Local, Received.Received}
 use specs.declared.handling.Local.the-variants.{Dropped, Answered, Message}
-use specs.declared.handling.Task.the-variants.{Ended, Forward}
 use specs.declared.handling.Received.the-variants.{Refused, Trill}
 use specs.declared.way.{Lookup.Lookup, Own.Own}
 use specs.declared.validation.Validated.{Validated}
 use specs.declared.answers.Answer.{Answer}
-use specs.Tasks.{transitQuiet, messaged, localAt, wantedBy, Ends, LocalRole, Routes, Arrives, askedBy, receivedBy, Receiving, Replies, RepliesBy, Both}
+use specs.Tasks.{transitQuiet, messaged, localAt, wantedBy, Ends, Arrives, askedBy, receivedBy, Receiving, Replies, RepliesBy, Both}
 use specs.Shapes.{Owns, Sends, Done, droppedBy, onlyFor, waysBy}
-use specs.{Keys.lookupBy, Keys.ValidatedBy, Calls.LookupOf}
+use specs.{Ranks.lookupBy, Ranks.ValidatedBy, Calls.LookupOf}
 use Rattle.handler.proofs
 use proofs.{RouteLaws.received-lent, StageLaws.by-hop, StageLaws.done-dropped}
 use proofs.TaskLaws.{both-of, back-message, same-message, quiet-lookup, same-channelled, none-read, none-stops, none-alert, task-laws}
 use proofs.TaskLaws.{forward-in-laws, asks-so, replies-quiet}
-use proofs.TaskLaws.{lent-clock, copy-ready, copy-both, copy-done, front-count, front-done, front-room, plain-transit}
+use proofs.TaskLaws.{lent-clock, copy-ready, copy-both, copy-done, arrives-ends, front-count, front-done, front-room, plain-transit}
 use mathlib.Core.Path.{_≡_, refl, sym, ap, _∙_}
 use mathlib.Core.List.{List}
 use mathlib.Core.Bool.{true, not, Bool, false, true≢false, false≢true}
@@ -135,6 +134,9 @@ module _ {s : List ℕ} {d : ℕ} (own : Own) (j : Validated) (x : LookupOf s d 
   pub lookup-named : own .nickname ≡ switchAt s .nickname
   lookup-named = lookup-owns .named
 
+  pub lookup-away : (h : Header) → weAreEgress (own .nickname) h ≡ false → weAreEgress (switchAt s .nickname) h ≡ false
+  lookup-away h away = rw lookup-named at away
+
   pub lookup-good : known (settingsOf s) ≡ true
   lookup-good = x .good
 
@@ -154,33 +156,21 @@ module _ (s f : List ℕ) (h : Header) (own : Own) (j : Validated) (x : LookupOf
       ∙ ap (λ (y : Ways). routed y clock f h) (sym (x .lookup)) in
       both-of beside (rw same (plain-transit T clock f h (sym is ∙ z) (own .nickname) refl egress e r out out1 t d))
 
-  local-lookup : (local : Local) → LocalRole (own .nickname) h local → (clock : List ℕ) (r : Answer) (out out1 : List ℕ)
+  local-lookup : (local : Local) → weAreEgress (own .nickname) h ≡ true → (clock : List ℕ) (r : Answer) (out out1 : List ℕ)
       → Done (localAt (waysBy (lookupBy own j)) clock f h local) r out out1 → Done (localAt (switchAt s) clock f h local) r out out1
-  local-lookup (Dropped n) role clock r out out1 d = d
-  local-lookup (Answered n start size) role clock r out out1 d = d
-  local-lookup Message role clock r out out1 d = back-message (switchAt s) f h (lookupBy own j) r out out1 (rw role at (x .lookup)) clock d
+  local-lookup (Dropped n) ours clock r out out1 d = d
+  local-lookup (Answered n start size) ours clock r out out1 d = d
+  local-lookup Message ours clock r out out1 d = back-message (switchAt s) f h (lookupBy own j) r out out1 (rw ours at (x .lookup)) clock d
 
   -- to us
   pub lookup-arrived : (egress : Bool) → egress ≡ weAreEgress (own .nickname) h → egress ≡ true → (local : Local) → Arrives (j .rfc7179) f h local
       → (clock : List ℕ) (r : Answer) (out out1 beside : List ℕ) → Done (localAt (waysBy (lookupBy own j)) clock f h local) r out out1
       → Both (routed (switchAt s) clock f h) r out out1 beside beside
   lookup-arrived egress e t local arrives clock r out out1 beside d =
-      let task = arrives .task (own .nickname) (sym e ∙ t) in
+      let ours = sym e ∙ t in
       both-of beside
-      (rw (task .same (switchAt s) clock (lookup-named own j x) (lookup-edition own j x (j .rfc7179) refl))
-      (local-lookup local (task .role) clock r out out1 d))
-
-  -- with an area, of our role's destination
-  module _ {rfc7179 strip : Bool} {kept : List ℕ} {task : Task} (routes : Routes (own .nickname) rfc7179 strip f h kept task) where
-    pub lookup-local : (local : Local) → task ≡ Ended local → (clock : List ℕ) (r : Answer) (out out1 : List ℕ)
-        → Done (localAt (waysBy (lookupBy own j)) clock f h local) r out out1 → Done (localAt (switchAt s) clock f h local) r out out1
-    lookup-local local e = local-lookup local (rw e at (routes .role))
-
-    pub lookup-onward : (alert : Alert) (size : ℕ) → task ≡ Forward alert size → LookupOf s (h .egress) (lookupBy own j)
-    lookup-onward alert size e = rw (rw e at (routes .role)) at x
-
-pub arrives-ends : {rfc7179 : Bool} {f : List ℕ} {h : Header} {local : Local} → Arrives rfc7179 f h local → Ends local
-arrives-ends x = x .ends
+      (rw (arrives .same (switchAt s) clock (rw (lookup-named own j x) at ours) (lookup-edition own j x (j .rfc7179) refl))
+      (local-lookup local ours clock r out out1 d))
 
 pub edition-by : (j : Validated) (known : Bool) → j .rfc7179 ≡ known → known ≡ j .rfc7179
 edition-by j known e = sym e
@@ -189,9 +179,13 @@ edition-by j known e = sym e
 pub lent-switch : (s s′ : List ℕ) → s′ ≡ s → switchAt s′ ≡ switchAt s
 lent-switch s s′ e = rw e
 
-pub copy-lookup : (s s′ : List ℕ) → s′ ≡ s → (h x : Header) → x ≡ h → (own y : Own) → y ≡ own → (j : Validated)
-    → LookupOf s (wantedBy (own .nickname) h) (lookupBy own j) → LookupOf s′ (wantedBy (y .nickname) x) (lookupBy y j)
-copy-lookup s s′ e h x same own y alike j k = rw (e, same, alike) k
+module _ (h x : Header) (same : x ≡ h) (own y : Own) (alike : y ≡ own) (egress : Bool) (e : egress ≡ weAreEgress (own .nickname) h) (f : egress ≡ false) where
+  pub copy-away : weAreEgress (y .nickname) x ≡ false
+  copy-away = rw (same, alike) (sym e ∙ f)
+
+  pub copy-lookup : (s s′ : List ℕ) → s′ ≡ s → (j : Validated) → LookupOf s (wantedBy (own .nickname) h) (lookupBy own j)
+      → LookupOf s′ (x .egress) (lookupBy y j)
+  copy-lookup s s′ lent j k = let away : weAreEgress (own .nickname) h ≡ false = sym e ∙ f in rw (lent, same, alike) (rw away at k)
 
 pub copy-ways : (own y : Own) → y ≡ own → (j : Validated) → waysBy (lookupBy y j) ≡ waysBy (lookupBy own j)
 copy-ways own y e j = rw e
@@ -199,9 +193,9 @@ copy-ways own y e j = rw e
 pub ruleset apart-by-laws = (needs, lent-clock, copy-ready, copy-done, copy-ways)
 
 pub ruleset handle-by-laws =
-    (needs, plain-lookup, lookup-arrived, arrives-ends, edition-by, lent-clock, copy-ready, copy-both, lent-switch, copy-lookup)
+    (needs, plain-lookup, lookup-arrived, arrives-ends, edition-by, lent-clock, copy-ready, copy-both, lent-switch, copy-away, copy-lookup)
 
-pub ruleset area-by-laws = (task-laws, lookup-named, lookup-edition, lookup-local, lookup-onward)
+pub ruleset route-by-laws = (task-laws, lookup-away, lookup-edition)
 
 -- a frame in transit, and what is replied to its alert, by what is looked up for the ingress
 pub quiet-only : (s f : List ℕ) (h : Header) (own : Own) (j : Validated) → LookupOf s (h .egress) (lookupBy own j) → (alert : Alert) (r : Answer)

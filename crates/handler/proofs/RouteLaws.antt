@@ -2,7 +2,7 @@
 use Rattle.handler.proofs
 use proofs.StageLaws.{frame-near, by-hop, ready, inner-held, area-held, area-few, area-words}
 use Rattle.rules.specs as rules
-use rules.Handling.{transit, untagged, toAllEgressRBridges, channelMessage, alertTo, alertOf, decapsulated, handledWith}
+use rules.Handling.{transit, untagged, toAllEgressRBridges, channelMessage, alertTo, alertOf, decapsulated, routed, handledWith}
 use mathlib.Core.Path.{_≡_, refl, sym, ap, _∙_}
 use mathlib.Core.List.{List}
 use mathlib.Core.Bool.{Bool, true, false, not, _&&_, _||_, cond}
@@ -15,7 +15,7 @@ use Rattle.rules.proofs as ruleLaws
 use ruleLaws.{TestLaws.by-test, TestLaws.apart, TestLaws.and-yes, TestLaws.and-no, OctetLaws.take-put, OptionLaws.area-number, FrameLaws.header-passed}
 use lib.Dec.{eqb}
 use lib.ListN.{length, length-drop}
-use rules.{Octets.be16, Octets.be32, Settings.Ways, Options.WellFormed, Channel.channelRead}
+use rules.{Octets.be16, Octets.be32, Settings.Ways, Options.WellFormed, Options.draftRead, Channel.channelRead}
 use rules.Header.{innerStart, areaOf, innerOf, readFrame, headerRefusal, weAreEgress}
 use rules.Extension.{flagsWord, criticalAlert, nonCriticalAlert, flagUnsummarized, summaryBare, extensionRead, extensionStops, areaRead, areaStops}
 use rules.declared.{Header.Header, FrameRead.FrameRead, ChannelRead.ChannelRead, Alert.Alert}
@@ -37,8 +37,8 @@ use specs.declared.options.{Cursor.Cursor, AreaRead.AreaRead}
 use specs.declared.options.AreaRead.the-variants.{Read, Faulty}
 use specs.declared.handling.{Local.Local, Task.Task, Received.Received}
 use specs.declared.handling.Local.the-variants.{Dropped, Answered, Message}
-use specs.declared.handling.Task.the-variants.{Ended, Forward}
-use specs.Tasks.{areaReadBy, PutAside, ReadBy, stopsBy, alertBy, transitAt, wantedBy, askedBy, Answerable, Comes, LocalRole, Sized, Aside, RoutesRead, Routes}
+use specs.declared.handling.Task.the-variants.{Stopped, Forward}
+use specs.Tasks.{areaReadBy, PutAside, ReadBy, stopsBy, alertBy, transitAt, wantedBy, askedBy, Answerable, Comes, Sized, Aside, RoutesRead, Routes}
 use specs.Tasks.{Arrives, Receives, Lent, Receiving}
 use Rattle.rules.specs.Options as O
 use Rattle.rules.specs.Answer as A
@@ -56,7 +56,7 @@ module _ (rfc7179 strip : Bool) (area kept : List ℕ) where
       rw (not-true rfc7179 e)
       (record {
         read = x .read;
-        aside = λ c is. rw (and-yes strip) (aside-put (sentOf strip area) kept kept′ (c .to) (x .wrote c is) (x .few c is) (x .wide));
+        aside = λ c is. rw (and-yes strip) (aside-put (sentOf strip area) kept kept′ (c .to) (x .wrote c is) (x .few c is) (x .wide c is));
       })
 
   module _ (two : not rfc7179 ≡ false) (w : ℕ) (word : w ≡ be32 area 0) (b : Bool)
@@ -77,6 +77,22 @@ module _ (rfc7179 strip : Bool) (area kept : List ℕ) where
         })
 
 pub ruleset read-area-laws = (needs, read-draft, read-refused, read-extension)
+
+module _ (rfc7179 : Bool) (area : List ℕ) where
+  pub check-draft : not rfc7179 ≡ true → (r : AreaRead) → areaReadOf r ≡ draftRead area → areaReadOf r ≡ areaReadBy rfc7179 area
+  check-draft e r is = rw (not-true rfc7179 e) is
+
+  module _ (two : not rfc7179 ≡ false) (w : ℕ) (word : w ≡ be32 area 0) (b : Bool)
+      (is : b ≡ (flagUnsummarized w || (eqb (length area) 4 && summaryBare w))) where
+    pub check-refused : b ≡ true → O.Faulty 38 0 ≡ areaReadBy rfc7179 area
+    unfolding extensionRead
+    check-refused t = cc (not-false rfc7179 two)
+
+    pub check-extension : b ≡ false → WellFormed ≡ areaReadBy rfc7179 area
+    unfolding extensionRead
+    check-extension t = cc (not-false rfc7179 two)
+
+pub ruleset check-area-laws = (needs, check-draft, check-refused, check-extension)
 
 -- an alert
 module _ (inner : List ℕ) where
@@ -178,59 +194,50 @@ area-near true area n p e = extended (flagUnsummarized (flagsWord area) || (eqb 
     extended true x = let z : 0 ≡ p = cc x in omega (arith, z)
     extended false x = let z : 0 ≡ suc (length area) = cc x in omega arith
 
-pub read-well : (rfc7179 : Bool) (area : List ℕ) (strip : Bool) (kept : List ℕ) (read : AreaRead) → ReadBy rfc7179 strip area kept read
-    → (c : Cursor) → read ≡ Read c → areaReadBy rfc7179 area ≡ WellFormed
-read-well rfc7179 area strip kept read a c e = sym (a .read) ∙ ap areaReadOf e
+pub read-well : (rfc7179 : Bool) (area : List ℕ) (read : AreaRead) → areaReadOf read ≡ areaReadBy rfc7179 area → (c : Cursor) → read ≡ Read c
+    → areaReadBy rfc7179 area ≡ WellFormed
+read-well rfc7179 area read is c e = sym is ∙ ap areaReadOf e
 
 pub area-made : {f : List ℕ} {h : Header} → Ready f h → (area : List ℕ) → area ≡ areaOf f h → AreaWords area
 area-made is area held = rw held (record { few = area-few is; whole = omega (arith, area-words is) })
 
-module _ (nickname : ℕ) (rfc7179 strip : Bool) (f : List ℕ) (h : Header) (area kept : List ℕ) (held : area ≡ areaOf f h) (read : AreaRead)
-    (a : ReadBy rfc7179 strip area kept read) where
-  pub route-faulty : Ready f h → (n p : ℕ) → read ≡ Faulty n p → Routes nickname rfc7179 strip f h kept (Ended (Answered n p 0))
-  unfolding areaRead
-  route-faulty is n p e =
-      let faulty : areaReadBy rfc7179 area ≡ O.Faulty n p = sym (a .read) ∙ ap areaReadOf e in
-      record {
-        same = λ S clock named two. routed-faulty S clock f h n p (cc);
-        left = (omega (arith, area-near rfc7179 area n p faulty, area-made is area held .few), omega arith);
-        role = Prim.tt;
-        aside = Prim.tt;
-      }
+-- a fault, whatever our role
+module _ (rfc7179 : Bool) (f : List ℕ) (h : Header) (area : List ℕ) (held : area ≡ areaOf f h) (read : AreaRead)
+    (a : areaReadOf read ≡ areaReadBy rfc7179 area) (n p : ℕ) (e : read ≡ Faulty n p) where
+  faulty : areaReadBy rfc7179 area ≡ O.Faulty n p
+  faulty = sym a ∙ ap areaReadOf e
 
-  pub route-on : (c : Cursor) → read ≡ Read c → (t : Task) → RoutesRead nickname rfc7179 (c .to) f h t → Routes nickname rfc7179 strip f h kept t
-  route-on c e t x = record { same = x .same; left = x .left; role = x .role; aside = put-aside t (x .sized) }
+  faulty-same : (S : Ways) (clock : List ℕ) → rfc7179 ≡ S .rfc7179 → routed S clock f h ≡ A.droppedAt n p
+  unfolding areaRead
+  faulty-same S clock two = routed-faulty S clock f h n p (cc faulty)
+
+  faulty-near : Ready f h → p ≤ 2048
+  faulty-near is = omega (arith, area-near rfc7179 area n p faulty, area-made is area held .few)
+
+  pub route-faulty : Ready f h → (strip : Bool) (kept : List ℕ) → Routes rfc7179 strip f h kept (Stopped n p)
+  route-faulty is strip kept = record { same = λ S clock away. faulty-same S clock; left = faulty-near is; aside = Prim.tt }
+
+  pub arrives-faulty : Ready f h → Arrives rfc7179 f h (Answered n p 0)
+  arrives-faulty is = record { same = λ S clock ours. faulty-same S clock; ends = (faulty-near is, omega arith) }
+
+module _ (rfc7179 strip : Bool) (f : List ℕ) (h : Header) (area kept : List ℕ) (held : area ≡ areaOf f h) (read : AreaRead)
+    (a : ReadBy rfc7179 strip area kept read) where
+  pub route-on : (c : Cursor) → read ≡ Read c → (t : Task) → RoutesRead rfc7179 (c .to) f h t → Routes rfc7179 strip f h kept t
+  route-on c e t x = record { same = x .same; left = x .left; aside = put-aside t (x .sized) }
     where
       put-aside : (t : Task) → Sized (c .to) t → Aside rfc7179 strip f h kept t
-      put-aside (Ended local) k = Prim.tt
+      put-aside (Stopped number place) k = Prim.tt
       put-aside (Forward alert n) k = rw (k, ← held) (a .aside c e)
 
 pub ruleset route-laws = (needs, ready, area-held, area-made, route-faulty, read-well, route-on)
 
 -- once the area is read
-module _ (nickname : ℕ) (rfc7179 : Bool) (size : ℕ) (f : List ℕ) (h : Header) (area : List ℕ) (held : area ≡ areaOf f h)
-    (well : areaReadBy rfc7179 area ≡ WellFormed) (egress : Bool) (e : egress ≡ weAreEgress nickname h) (stops : Bool)
-    (b : stops ≡ stopsBy rfc7179 egress area) where
-  pub route-stopped : stops ≡ true → RoutesRead nickname rfc7179 size f h (Ended (Dropped 20))
-  unfolding areaRead areaStops
-  route-stopped x =
-      record { same = λ S clock named two. routed-stopped S clock f h (cc) (cc); left = Prim.tt; role = Prim.tt; sized = Prim.tt }
-
-  module _ (x : stops ≡ false) where
-    pub route-egress : (t : Local) → egress ≡ true → Comes f h t → RoutesRead nickname rfc7179 size f h (Ended t)
+module _ (rfc7179 : Bool) (f : List ℕ) (h : Header) (area : List ℕ) (held : area ≡ areaOf f h) (well : areaReadBy rfc7179 area ≡ WellFormed)
+    (stops : Bool) where
+  module _ (size : ℕ) (b : stops ≡ stopsBy rfc7179 false area) where
+    pub route-stopped : stops ≡ true → RoutesRead rfc7179 size f h (Stopped 20 0)
     unfolding areaRead areaStops
-    route-egress t y d =
-        record {
-          same = λ S clock named two. routed-egress S clock f h (cc) (cc) (cc) ∙ d .same S clock;
-          left = d .ends;
-          role = ended t;
-          sized = Prim.tt;
-        }
-      where
-        ended : (t : Local) → LocalRole nickname h t
-        ended (Dropped n) = Prim.tt
-        ended (Answered n start size) = Prim.tt
-        ended Message = sym e ∙ y
+    route-stopped x = record { same = λ S clock away two. routed-stopped S clock f h (cc) (cc); left = omega arith; sized = Prim.tt }
 
     -- the alert as the rules find it
     alert-same : (S : Ways) → rfc7179 ≡ S .rfc7179 → (inner : List ℕ) → inner ≡ innerOf f h → alertOf S f h ≡ alertBy rfc7179 area inner
@@ -251,43 +258,31 @@ module _ (nickname : ℕ) (rfc7179 : Bool) (size : ℕ) (f : List ℕ) (h : Head
         to critical answered EchoHeard q = Prim.tt
         to critical answered EchoRequest q = elim answered [ true ↦ rw within at q | false ↦ Prim.tt ]
 
-    pub route-transit : Ready f h → egress ≡ false → (inner : List ℕ) → inner ≡ innerOf f h → (alert : Alert) → alert ≡ alertBy rfc7179 area inner
-        → RoutesRead nickname rfc7179 size f h (Forward alert size)
+    pub route-transit : stops ≡ false → Ready f h → (inner : List ℕ) → inner ≡ innerOf f h → (alert : Alert) → alert ≡ alertBy rfc7179 area inner
+        → RoutesRead rfc7179 size f h (Forward alert size)
     unfolding areaRead areaStops transitAt transit
-    route-transit ready y inner within alert is =
+    route-transit x ready inner within alert is =
         record {
-          same = λ S clock named two.
-              routed-transit S clock f h (cc) (cc) (cc)
+          same = λ S clock away two.
+              routed-transit S clock f h (cc) (cc) away
               ∙ by-hop (S .hop (h .egress)) (λ q. rw (transit, transitAt, q))
               (λ r q. rw (transit, transitAt, q, alert-same S two inner within ∙ sym is));
           left = record { is-ready = ready; answerable = rw is (answers-request inner within) };
-          role = sym e ∙ y;
           sized = refl;
         }
 
-pub ruleset route-read-laws = (needs, ready, inner-held, route-stopped, route-egress, route-transit)
-
--- a frame to us with an area
-module _ (rfc7179 : Bool) (f : List ℕ) (h : Header) (area : List ℕ) (held : area ≡ areaOf f h) where
-  pub arrives-faulty : Ready f h → (strip : Bool) (kept : List ℕ) (read : AreaRead) → ReadBy rfc7179 strip area kept read → (n p : ℕ) → read ≡ Faulty n p
-      → Arrives rfc7179 f h (Answered n p 0)
-  arrives-faulty is strip kept read a n p e =
-      record {
-        task = λ nickname t. record { same = faulty nickname .same; left = faulty nickname .left; role = Prim.tt; sized = Prim.tt };
-        ends = faulty 0 .left;
-      }
-    where
-      faulty : (nickname : ℕ) → Routes nickname rfc7179 strip f h kept (Ended (Answered n p 0))
-      faulty nickname = route-faulty nickname rfc7179 strip f h area kept held read a is n p e
-
-  module _ (well : areaReadBy rfc7179 area ≡ WellFormed) (stops : Bool) (b : stops ≡ stopsBy rfc7179 true area) where
+  -- a frame to us
+  module _ (b : stops ≡ stopsBy rfc7179 true area) where
     pub arrives-stopped : stops ≡ true → Arrives rfc7179 f h (Dropped 20)
-    arrives-stopped x =
-        record { task = λ nickname t. route-stopped nickname rfc7179 0 f h area held well true (sym t) stops b x; ends = Prim.tt }
+    unfolding areaRead areaStops
+    arrives-stopped x = record { same = λ S clock ours two. routed-stopped S clock f h (cc) (cc); ends = Prim.tt }
 
     pub arrives-read : stops ≡ false → (local : Local) → Comes f h local → Arrives rfc7179 f h local
+    unfolding areaRead areaStops
     arrives-read x local d =
-        record { task = λ nickname t. route-egress nickname rfc7179 0 f h area held well true (sym t) stops b x local refl d; ends = d .ends }
+        record { same = λ S clock ours two. routed-egress S clock f h (cc) (cc) ours ∙ d .same S clock; ends = d .ends }
+
+pub ruleset route-read-laws = (needs, ready, inner-held, route-stopped, route-transit)
 
 pub ruleset arrived-laws = (needs, arrives-stopped, arrives-read)
 

@@ -6,7 +6,7 @@ use Rattle.handler.specs
 use specs.Shapes.{Owns, ruledBy, noFlags, flaggedBy, FoldedFrom}
 use Rattle.handler.proofs
 use proofs.{ValidationLaws.cut-off, ValidationLaws.flag-stops, ValidationLaws.Validating, Stages.if-laws}
-use specs.Keys.{keysMet, hopTaken, withKey, Taking, Verdict, Scanned, ValidatedBy}
+use specs.Ranks.{ranksMet, hopTaken, withRank, Taking, Verdict, Scanned, ValidatedBy}
 use mathlib.Core.Path.{_≡_, refl, sym, ap, subst, _∙_}
 use mathlib.Core.List.{List, [], _∷_, foldl, foldl-append}
 use mathlib.Core.Bool.{true, not, Bool, false, false≢true}
@@ -182,13 +182,13 @@ module _ (s : List ℕ) (from d : ℕ) (seen : List ℕ) (n : ℕ) (best : Rulin
       v = part s (at + 3) (next - (at + 3))
 
       module _ (two : tag ≡ 2) (r : Record) (its : r ≡ recordOf v) (taken : Bool) (seen′ : List ℕ)
-          (k : Taking (hopTaken (keysMet s from n) n (length v) (hopBy r)) (withKey (keysMet s from n) (hopBy r)) taken seen′) where
+          (k : Taking (hopTaken (ranksMet s from n) n (length v) (hopBy r)) (withRank (ranksMet s from n) (hopBy r)) taken seen′) where
         hop-is : hopBy r ≡ hopOf v
         hop-is = rw its (hop-same v)
 
-        step : Taking (hopTaken (keysMet s from n) n (length v) (hopOf v)) (withKey (keysMet s from n) (hopOf v)) taken seen′
+        step : Taking (hopTaken (ranksMet s from n) n (length v) (hopOf v)) (withRank (ranksMet s from n) (hopOf v)) taken seen′
         step =
-            subst (λ (x : NextHop). Taking (hopTaken (keysMet s from n) n (length v) x) (withKey (keysMet s from n) x) taken seen′) hop-is k
+            subst (λ (x : NextHop). Taking (hopTaken (ranksMet s from n) n (length v) x) (withRank (ranksMet s from n) x) taken seen′) hop-is k
 
         pub scan-hop-bad : (r : Scan) → r .good ≡ false → not taken ≡ true → Scanned s from d r
         scan-hop-bad r b x = bad-scanned b (J.hop-stops (l .validating) h q t two (step .validated ∙ not-true taken x))

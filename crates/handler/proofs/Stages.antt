@@ -1,7 +1,7 @@
 -- A buffer written in stages: what fits is written, and writes to places side by side are one write. So a link header, a forwarded frame behind
 -- it (its header and the rest in one, or another area before the inner frame), and the two replies. By laws of parts and of `put`.
 use Rattle.rules.specs as rules
-use rules.{Link.outerTag, Link.link, Settings.Ways, Channel.echoBody}
+use rules.{Link.outerTag, Link.link, Link.ethertypeTag, Link.ethertypeTrill, Settings.Ways, Channel.echoBody, Channel.ethertypeChannel, Channel.allEgressRBridges}
 use rules.Header.{opLength, innerStart, readFrame, areaOf, innerOf}
 use Rattle.rules.proofs.{TestLaws.and-left, TestLaws.and-right, TestLaws.by-test}
 use borrow.Author.Tests.{eq-eqb, ne-eqb}
@@ -20,7 +20,7 @@ use Rattle.rules.proofs.FrameLaws.{frame-read, link-length}
 use mir.Syntax.{w8}
 use mir.Val as Val
 use Rattle.handler.specs
-use specs.Shapes.{linkSize, taggedOctets, Fits, sentBy, headerSent, restWith, replyHead, replyChannel, replyOctets, waysBy}
+use specs.Shapes.{linkSize, Fits, sentBy, headerSent, restWith, replyOctets, waysBy}
 use Rattle.octets.specs.Words.{octets64}
 use Rattle.octets.specs.Copy.{Wrote, fitting}
 use Rattle.octets.proofs.Ends.{copied, wrote-long, joined, copied-on}
@@ -54,6 +54,12 @@ over : (s t : List ℕ) {out mid out′ u : List ℕ} {at here from end : ℕ} �
 over s t {out} {u = u} {at = at} a e b short room =
     record { ends = rw length-append (omega arith); after = b .after ∙ rw (a .after, e) (put-tail out at s t u room short) }
 
+-- so a copy that has room
+onto : (s t : List ℕ) {u a out mid out′ : List ℕ} {at here from end : ℕ} → Wrote (s ++ t) at here out mid → from ≡ at + length s → a ≡ u
+    → Wrote (fitting mid from a) from end mid out′ → length t ≤ length u → from + length u ≤ length out → Wrote (s ++ u) at end out out′
+onto s t p there e q more room =
+    over s t p there (copied q e (omega (arith, wrote-long p (rw (p .ends, length-append s t) (omega arith))))) more (omega arith)
+
 -- a MAC above 16 bits more
 octets-above : (mac : ℕ) → octets48 (mac * 65536 % 18446744073709551616 / 65536) ≡ octets48 mac
 octets-above mac =
@@ -67,20 +73,19 @@ octets-above mac =
     rw (a, b, c, d, e, f)
 
 -- both MACs
-pub macs-written : (to : NextHop) (own : ℕ) (d d1 d2 a b : List ℕ) (m n : ℕ) → a ≡ octets64 (to .mac * 65536 % 18446744073709551616)
-    → b ≡ octets64 own → Wrote (fitting d 0 a) 0 m d d1 → Wrote (fitting d1 6 b) 6 n d1 d2 → 14 ≤ length d
-    → Wrote (octets48 (to .mac) ++ octets64 own) 0 14 d d2
-macs-written to own d d1 d2 a b m n ea eb p q room =
-    let w = to .mac * 65536 % 18446744073709551616 in
-    let first : Wrote (octets48 (w / 65536) ++ octets16 w) 0 m d d1 = copied p ea (omega arith) in
-    let rest = copied q eb (omega (arith, wrote-long first (omega (arith, first .ends)))) in
-    let both = over (octets48 (w / 65536)) (octets16 w) first refl rest (omega arith) (omega arith) in
-    record { ends = refl; after = both .after ∙ ap (λ (x : List ℕ). put d 0 (x ++ octets64 own)) (octets-above (to .mac)) }
+pub macs-written : (to own at m n : ℕ) (d d1 d2 a b : List ℕ) → a ≡ octets64 (to * 65536 % 18446744073709551616)
+    → b ≡ octets64 own → Wrote (fitting d at a) at m d d1 → Wrote (fitting d1 (at + 6) b) (at + 6) n d1 d2 → at + 14 ≤ length d
+    → Wrote (octets48 to ++ octets64 own) at (at + 14) d d2
+macs-written to own at m n d d1 d2 a b ea eb p q room =
+    let w = to * 65536 % 18446744073709551616 in
+    let first : Wrote (octets48 (w / 65536) ++ octets16 w) at m d d1 = copied p ea (omega arith) in
+    let both = onto (octets48 (w / 65536)) (octets16 w) first refl eb q (omega arith) (omega arith) in
+    record { ends = refl; after = both .after ∙ ap (λ (x : List ℕ). put d at (x ++ octets64 own)) (octets-above to) }
 
 pub ruleset write-macs-laws = (needs, macs-written)
 
 -- what stands behind them
-pub macs-room : (r : NextHop) (out : List ℕ) → linkSize (r .vlan) ≤ length out → 14 ≤ length out
+pub macs-room : (r : NextHop) (out : List ℕ) → linkSize (r .vlan) ≤ length out → 0 + 14 ≤ length out
 macs-room r out h = omega (arith, link-sized (r .vlan))
 
 module _ (S : Ways) (r : NextHop) (word : ℕ) (own : word / 65536 ≡ S .mac) (d d1 d2 end : List ℕ) (n : ℕ)
@@ -98,14 +103,18 @@ module _ (S : Ways) (r : NextHop) (word : ℕ) (own : word / 65536 ≡ S .mac) (
   unfolding link outerTag macs
   plain-written z e = rw (z, ← own) (behind e (rw z at room) (omega arith))
 
-  pub tagged-written : (r .vlan ≡ 0 → ⊥) → end ≡ taggedOctets (r .vlan) → Wrote (link S r) 0 n d d2
+  pub tagged-written : (r .vlan ≡ 0 → ⊥) → (s : List ℕ) → s ≡ octets16 ethertypeTag ++ octets16 (r .vlan) ++ octets16 ethertypeTrill ++ octets16 0
+      → end ≡ take 6 s → Wrote (link S r) 0 n d d2
   unfolding link outerTag macs
-  tagged-written z e = rw (ne-eqb (r .vlan) 0 z, ← own) (behind e (rw (ne-eqb (r .vlan) 0 z) at room) (omega arith))
+  tagged-written z s is e = rw (ne-eqb (r .vlan) 0 z, ← own) (behind (e ∙ ap (take 6) is) (rw (ne-eqb (r .vlan) 0 z) at room) (omega arith))
+
+pub six-of-eight : (a b c d : ℕ) (s : List ℕ) → s ≡ octets16 a ++ octets16 b ++ octets16 c ++ octets16 d → 6 ≡ length (take 6 s)
+six-of-eight a b c d s is = rw is
 
 pub lookup-mac : (t : Lookup) → t .own .word / 65536 ≡ waysBy t .mac
 lookup-mac t = refl
 
-pub ruleset write-link-laws = (needs, macs-room, plain-written, tagged-written, lookup-mac)
+pub ruleset write-link-laws = (needs, macs-room, plain-written, tagged-written, six-of-eight, lookup-mac)
 
 -- a forwarded frame behind its link header
 module _ (f : List ℕ) (h : Header) (area : List ℕ) where
@@ -142,14 +151,14 @@ module _ (f : List ℕ) (h : Header) (whole : h .place + 6 ≤ length f) where
   header-long words =
       length-append (octets16 (sentBy (h .word) words)) (part f (h .place + 2) 4) ∙ rw (length-part f (h .place + 2) 4 (omega arith))
 
-  pub header-written : (words : ℕ) (octets d d1 d2 : List ℕ) (at here end : ℕ) → octets ≡ octets16 (sentBy (h .word) words) → at + 6 ≤ length d
+  pub header-written : (words n : ℕ) (octets d d1 d2 : List ℕ) (at here end : ℕ) → n ≡ sentBy (h .word) words → octets ≡ octets16 n → at + 6 ≤ length d
       → Wrote (fitting d at octets) at here d d1
       → Wrote (fitting d1 here (take (h .place + 2 + 4 - (h .place + 2)) (drop (h .place + 2) f))) here end d1 d2
       → Wrote (headerSent f h words) at end d d2
-  header-written words octets d d1 d2 at here end eo room p q =
+  header-written words n octets d d1 d2 at here end en eo room p q =
       let size : h .place + 2 + 4 - (h .place + 2) ≡ 4 = omega arith in
       let held : take (h .place + 2 + 4 - (h .place + 2)) (drop (h .place + 2) f) ≡ part f (h .place + 2) 4 = rw size in
-      copied-on (copied p eo (omega arith)) q held (omega (arith, length-part f (h .place + 2) 4 (omega arith)))
+      copied-on (copied p (rw en at eo) (omega arith)) q held (omega (arith, length-part f (h .place + 2) 4 (omega arith)))
 
 -- another area than the one received, then the inner frame
 module _ (area f : List ℕ) (h : Header) (d : List ℕ) (at : ℕ) (fits : Fits area f h d at) (small : (i : ℕ) → Val.Fits w8 (getD f i 0)) where
@@ -169,10 +178,10 @@ module _ (f : List ℕ) (h : Header) (d : List ℕ) (at : ℕ) (fits : Fits (are
   area-long : length (areaOf f h) ≡ 4 * opLength (h .word)
   area-long = length-part f (h .place + 6) (4 * opLength (h .word)) (fits .area-whole)
 
-  pub whole-written : (octets d1 d2 : List ℕ) (here words end : ℕ) → words ≡ opLength (h .word) → octets ≡ octets16 (sentBy (h .word) words)
+  pub whole-written : (octets d1 d2 : List ℕ) (here words n end : ℕ) → words ≡ opLength (h .word) → n ≡ sentBy (h .word) words → octets ≡ octets16 n
       → Wrote (fitting d at octets) at here d d1
       → Wrote (fitting d1 here (take (length f - (h .place + 2)) (drop (h .place + 2) f))) here end d1 d2 → Wrote (restWith (areaOf f h) f h) at end d d2
-  whole-written octets d1 d2 here words end ew eo p q =
+  whole-written octets d1 d2 here words n end ew en eo p q =
       let area = areaOf f h in
       let four = part f (h .place + 2) 4 in
       let word = octets16 (sentBy (h .word) (length area / 4)) in
@@ -180,14 +189,9 @@ module _ (f : List ℕ) (h : Header) (d : List ℕ) (at : ℕ) (fits : Fits (are
       let next : h .place + 2 + 4 ≡ h .place + 6 = omega arith in
       let behind : four ++ (area ++ innerOf f h) ≡ drop (h .place + 2) f =
       rw (drop-part f (h .place + 6) (4 * opLength (h .word))) (rw next at (drop-part f (h .place + 2) 4)) in
-      let first : Wrote word at here d d1 = copied p (rw quarter at eo) (omega (arith, fits .room, rest-long f h area)) in
+      let first : Wrote word at here d d1 = copied p (rw (en, quarter) at eo) (omega (arith, fits .room, rest-long f h area)) in
       rw (rest-is f h (fits .read) small area, append-assoc (word ++ four) area (innerOf f h), append-assoc word four (area ++ innerOf f h), behind)
       (copied-on first q (lent-rest f (h .place + 2)) (omega (arith, fits .room, length-drop (h .place + 2) f, rest-long f h area, area-long)))
-
-pub word-written : (n w words a b : ℕ) → n ≡ sentBy w words → a ≡ n / 256 % 256 → b ≡ n % 256 → (a ∷ b ∷ []) ≡ octets16 (sentBy w words)
-word-written n w words a b e ea eb = rw (← e, ea, eb)
-
-pub ruleset word-laws = (needs, word-written)
 
 module _ {area f : List ℕ} {h : Header} {d : List ℕ} {at : ℕ} (fits : Fits area f h d at) where
   pub fits-near : h .place ≤ 18
@@ -203,42 +207,28 @@ pub ruleset forward-laws = (needs, fits-near, fits-whole, fits-header, with-writ
 
 pub ruleset header-laws = (needs, header-written)
 
--- the 28 octets of a reply: its two parts, and our own MAC between them
-pub head-made : (nickname ingress a b c d : ℕ) → a ≡ ingress / 256 % 256 → b ≡ ingress % 256 → c ≡ nickname / 256 % 256 → d ≡ nickname % 256
-    → (0x00 ∷ 0x3F ∷ a ∷ b ∷ c ∷ d ∷ 0x01 ∷ 0x80 ∷ 0xC2 ∷ 0x00 ∷ 0x00 ∷ 0x42 ∷ []) ≡ replyHead nickname ingress
-head-made nickname ingress a b c d ea eb ec ed = rw (ea, eb, ec, ed)
-
-pub channel-made : (number code e f : ℕ) → e ≡ number / 256 % 256 → f ≡ number % 256 → code < 256
-    → (0x81 ∷ 0x00 ∷ 0x00 ∷ 0x01 ∷ 0x89 ∷ 0x46 ∷ e ∷ f ∷ 0xC0 ∷ code ∷ []) ≡ replyChannel number code
-channel-made number code e f ee ef small =
-    let e1 : (0xC000 + code) / 256 % 256 ≡ 0xC0 = omega arith in
-    let e2 : (0xC000 + code) % 256 ≡ code = omega arith in
-    rw (ee, ef, e1, e2)
-
-pub ruleset head-octets-laws = (needs, head-made)
-
-pub ruleset channel-octets-laws = (needs, channel-made)
-
 module _ (own : Own) (ingress number code : ℕ) where
   abbrev reply : List ℕ
   reply = replyOctets own ingress number code
 
-  module _ (at here x : ℕ) (d d1 d2 a b : List ℕ) (room : at + 28 ≤ length d)
-      (ea : a ≡ replyHead (own .nickname) ingress) (p : Wrote (fitting d at a) at here d d1)
-      (eb : b ≡ octets64 (own .word)) (q : Wrote (fitting d1 here b) here x d1 d2) where
-    abbrev first : List ℕ
-    first = replyHead (own .nickname) ingress ++ octets48 (own .word / 65536)
+  -- the 28 octets: both MACs go over the end of the TRILL header, and the tag over theirs
+  pub reply-written : (at i j end : ℕ) (d d1 d2 d3 d4 a b c : List ℕ) → at + 28 ≤ length d
+      → a ≡ octets16 0x003F ++ octets16 ingress ++ octets16 (own .nickname) ++ octets16 0 → Wrote (fitting d at a) at i d d1
+      → Wrote (octets48 allEgressRBridges ++ octets64 (own .word)) (at + 6) (at + 6 + 14) d1 d2
+      → b ≡ octets16 ethertypeTag ++ octets16 0x0001 ++ octets16 ethertypeChannel ++ octets16 number → Wrote (fitting d2 (at + 18) b) (at + 18) j d2 d3
+      → c ≡ octets16 (0xC000 + code) → Wrote (fitting d3 (at + 26) c) (at + 26) end d3 d4 → Wrote reply at end d d4
+  reply-written at i j end d d1 d2 d3 d4 a b c room ea p q eb r ec s =
+      let header = octets16 0x003F ++ octets16 ingress ++ octets16 (own .nickname) in
+      let channel = octets16 ethertypeTag ++ octets16 0x0001 ++ octets16 ethertypeChannel ++ octets16 number in
+      let macs = octets48 allEgressRBridges ++ octets48 (own .word / 65536) in
+      let one : Wrote (header ++ octets16 0) at i d d1 = copied p ea (omega arith) in
+      let two : Wrote (header ++ macs ++ octets16 (own .word)) at (at + 6 + 14) d d2 = over header (octets16 0) one refl q (omega arith) (omega arith) in
+      let three : Wrote (header ++ macs ++ channel ++ []) at j d d3 =
+      onto (header ++ macs) (octets16 (own .word)) two refl eb r (omega arith) (omega arith) in
+      onto (header ++ macs ++ channel) [] three refl ec s (omega arith) (omega arith)
 
-    two : Wrote (first ++ octets16 (own .word)) at x d d2
-    two = copied-on (copied p ea (omega arith)) q eb (omega arith)
-
-    pub reply-from : 2 ≤ x
-    reply-from = omega (arith, two .ends)
-
-    pub reply-written : (end : ℕ) (d3 c : List ℕ) → c ≡ replyChannel number code → Wrote (fitting d2 (x - 2) c) (x - 2) end d2 d3 → Wrote reply at end d d3
-    reply-written end d3 c ec r =
-        let same = wrote-long two (omega (arith, two .ends)) in
-        over first (octets16 (own .word)) two (omega (arith, two .ends)) (copied r ec (omega (arith, two .ends, same))) (omega arith) (omega arith)
+  pub head-room : (at : ℕ) (d d1 : List ℕ) → at + 28 ≤ length d → length d1 ≡ length d → at + 6 + 14 ≤ length d1
+  head-room at d d1 h same = omega arith
 
   -- with what is written behind them
   module _ (at here end : ℕ) (d d1 d2 : List ℕ) (p : Wrote reply at here d d1) where
@@ -253,7 +243,7 @@ module _ (own : Own) (ingress number code : ℕ) where
       pub echo-written : (clock : List ℕ) → Wrote (echoBody body clock) here end d1 d2 → Wrote (reply ++ echoBody body clock) at end d d2
       echo-written clock = joined p
 
-pub ruleset write-head-laws = (needs, reply-from, reply-written)
+pub ruleset write-head-laws = (needs, head-room, reply-written)
 
 pub error-head : (at : ℕ) (d : List ℕ) → at + 156 ≤ length d → at + 28 ≤ length d
 error-head at d h = omega arith

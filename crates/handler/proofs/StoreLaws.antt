@@ -11,7 +11,7 @@ use borrow.Author.Tests.{lt-ltb, le-ltb, le-leb, lt-leb, eq-eqb, ne-eqb, not-tru
 use lib.Dec.{leb, eqb}
 use lib.ListN.{length, getD}
 use Rattle.rules.specs as rules
-use rules.{Settings.nicknameValid, Handling.routed}
+use rules.{Settings.nicknameValid, Header.weAreEgress, Handling.routed}
 use rules.declared.{Header.Header, NextHop.NextHop, Ruling.Ruling}
 use rules.declared.Ruling.the-variants.{Found, Absent}
 use Rattle.rules.proofs.TestLaws.{and-no}
@@ -21,9 +21,9 @@ use specs.declared.way.Own.{Own}
 use specs.declared.handling.Received.{Received}
 use specs.declared.handling.Received.the-variants.{Refused, Trill}
 use specs.{Shapes.droppedBy, Shapes.Owns, Shapes.onlyFor, Shapes.waysBy, Tasks.receivedBy, Tasks.Receiving, Tasks.Both}
-use proofs.TaskLaws.{both-of, finds, back-message, both-plain, copies, front-count, front-done, front-room}
-use Rattle.stores.proofs.PlaceLaws.{good-whole, step-past, step-up, step-stay, place-hinted, place-searched, for-past, for-other}
-use Rattle.stores.specs.Store.{nicknameIn, countIn, destAt, hopOf, hopAt, lastAt, hintAt, placeIn, hopFor, waysIn, storeGood, handledIn, Whole}
+use proofs.TaskLaws.{both-of, finds, back-message, both-plain, copies, front-count, front-done, front-room, task-laws}
+use Rattle.stores.proofs.IndexLaws.{good-whole, step-past, step-up, step-stay, index-hinted, index-searched, for-past, for-other}
+use Rattle.stores.specs.Store.{nicknameIn, countIn, destAt, hopOf, hopAt, lastAt, hintAt, indexIn, hopFor, waysIn, storeGood, handledIn, Whole}
 use Rattle.rules.specs.Answer as A
 
 -- which words are good
@@ -64,19 +64,19 @@ module _ (w : List ℕ) (n d i : ℕ) where
   unfolding lastAt
   last-past h = rw (le-ltb i n h)
 
-  module _ (a : i < n) (key : ℕ) (is : key ≡ destAt w i) where
-    pub last-other : (key ≡ d → ⊥) → false ≡ lastAt w n d i
+  module _ (a : i < n) (dest : ℕ) (is : dest ≡ destAt w i) where
+    pub last-other : (dest ≡ d → ⊥) → false ≡ lastAt w n d i
     unfolding lastAt
-    last-other h = cc (lt-ltb i n a, ne-eqb key d h)
+    last-other h = cc (lt-ltb i n a, ne-eqb dest d h)
 
-    module _ (b : key ≡ d) where
+    module _ (b : dest ≡ d) where
       pub last-end : n ≤ i + 1 → true ≡ lastAt w n d i
       unfolding lastAt
-      last-end h = cc (lt-ltb i n a, eq-eqb key d b, le-ltb (i + 1) n h)
+      last-end h = cc (lt-ltb i n a, eq-eqb dest d b, le-ltb (i + 1) n h)
 
       pub last-next : i + 1 < n → (next : ℕ) → next ≡ destAt w (i + 1) → not (eqb next d) ≡ lastAt w n d i
       unfolding lastAt
-      last-next h next e = cc (lt-ltb i n a, eq-eqb key d b, lt-ltb (i + 1) n h)
+      last-next h next e = cc (lt-ltb i n a, eq-eqb dest d b, lt-ltb (i + 1) n h)
 
 pub ruleset last-at-laws = (needs, last-past, last-other, last-end, last-next)
 
@@ -93,21 +93,21 @@ module _ (w : List ℕ) (d : ℕ) where
 pub ruleset hint-at-laws = (needs, hint-none, hint-so)
 
 -- the record there
-module _ (w : List ℕ) (n d i : ℕ) (a : i < n) (key : ℕ) (is : key ≡ destAt w i) (b : key ≡ d)
+module _ (w : List ℕ) (n d i : ℕ) (a : i < n) (dest : ℕ) (is : dest ≡ destAt w i) (b : dest ≡ d)
     (r : NextHop) (e : r ≡ hopOf (getD w (4 + 2 * i) 0) (getD w (5 + 2 * i) 0)) where
   pub for-withdrawn : r .neighbour ≡ 0 → Absent ≡ hopFor w n d i
   unfolding hopFor
-  for-withdrawn h = cc (lt-ltb i n a, eq-eqb key d b)
+  for-withdrawn h = cc (lt-ltb i n a, eq-eqb dest d b)
 
   pub for-found : (r .neighbour ≡ 0 → ⊥) → Found r ≡ hopFor w n d i
   unfolding hopFor hopAt
-  for-found h = cc (lt-ltb i n a, eq-eqb key d b, ne-eqb (r .neighbour) 0 h)
+  for-found h = cc (lt-ltb i n a, eq-eqb dest d b, ne-eqb (r .neighbour) 0 h)
 
 pub ruleset hop-for-laws = (needs, for-past, for-other, for-withdrawn, for-found)
 
-pub ruleset place-in-laws = (needs, place-hinted, place-searched)
+pub ruleset index-in-laws = (needs, index-hinted, index-searched)
 
-pub lookup-at : (w : List ℕ) (d i n : ℕ) (own : Own) (strip rfc7179 : Bool) (hop : Ruling) → hop ≡ hopFor w n d i → n ≡ countIn w → i ≡ placeIn w (countIn w) d
+pub lookup-at : (w : List ℕ) (d i n : ℕ) (own : Own) (strip rfc7179 : Bool) (hop : Ruling) → hop ≡ hopFor w n d i → n ≡ countIn w → i ≡ indexIn w (countIn w) d
     → Owns own (waysIn w) → strip ≡ waysIn w .strip → rfc7179 ≡ waysIn w .rfc7179
     → waysBy (record { own = own; strip = strip; rfc7179 = rfc7179; hop = hop }) ≡ onlyFor d (waysIn w)
 lookup-at w d i n own strip rfc7179 hop e c p o s t = finds (waysIn w) d own strip rfc7179 hop o s t (e ∙ rw (c, p))
@@ -149,12 +149,18 @@ module _ (w w′ : List ℕ) (same : w′ ≡ w) where
   pub lent-ways : waysIn w′ ≡ waysIn w
   lent-ways = rw same
 
-  pub lent-place : (d place : ℕ) → place ≡ placeIn w′ (countIn w′) d → place ≡ placeIn w (countIn w) d
-  lent-place d place e = rw same at e
+  pub lent-index : (d index : ℕ) → index ≡ indexIn w′ (countIn w′) d → index ≡ indexIn w (countIn w) d
+  lent-index d index e = rw same at e
 
-pub ruleset message-in-laws = (needs, lent-whole, lent-place, back-message, front-count, front-done, front-room)
+pub ruleset message-in-laws = (needs, lent-whole, lent-index, back-message, front-count, front-done, front-room)
 
 pub ruleset apart-in-laws = (needs, lent-whole, lent-ways, copies)
+
+pub away-in : (w : List ℕ) (h : Header) (own : Own) → Owns own (waysIn w) → (egress : Bool) → egress ≡ weAreEgress (own .nickname) h → egress ≡ false
+    → weAreEgress (nicknameIn w) h ≡ false
+away-in w h own x egress e f = rw (← x .named) (sym e ∙ f)
+
+pub ruleset area-in-laws = (task-laws, away-in)
 
 pub edition-in : (w : List ℕ) (b known : Bool) → b ≡ waysIn w .rfc7179 → b ≡ known → known ≡ waysIn w .rfc7179
 edition-in w b known e k = sym k ∙ e

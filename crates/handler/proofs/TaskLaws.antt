@@ -32,10 +32,10 @@ use specs.declared.answers.Refusal.the-variants.{Refused, Passed}
 use specs.declared.way.{Own.Own, Lookup.Lookup}
 use specs.declared.handling.{Local.Local, Task.Task}
 use specs.declared.handling.Local.the-variants.{Dropped, Answered, Message}
-use specs.declared.handling.Task.the-variants.{Ended, Forward}
+use specs.declared.handling.Task.the-variants.{Stopped, Forward}
 use specs.Tasks.{PutAside, alertRefusal, alertQuiet, transitQuiet, transitAt, messaged, localAt, asksBack, Answerable}
-use specs.Tasks.{Forwardable, Ends, Comes, LocalRole, Routes, Arrives, Replies, RepliesBy, Both}
-use specs.Shapes.{sentOf, answerOf, repliedBy, besideBy, viaOf, neighbourOf, Owns, Sends, onlyFor, waysBy, Ready, Replied, Done}
+use specs.Tasks.{Forwardable, Ends, Comes, Routes, Arrives, Replies, RepliesBy, Both}
+use specs.Shapes.{sentOf, answerOf, wroteBy, repliedBy, besideBy, viaOf, neighbourOf, Owns, Sends, onlyFor, waysBy, Ready, Replied, Done}
 use Rattle.rules.specs.Answer as A
 
 -- a reply has octets, and goes to the next hop that is lookup
@@ -271,22 +271,11 @@ pub arrives-plain : (rfc7179 : Bool) (f : List ℕ) (h : Header) (n : ℕ) → n
     → Arrives rfc7179 f h local
 arrives-plain rfc7179 f h n is z local x =
     record {
-      task = λ nickname t.
-          record {
-            same = λ S clock named two.
-                routed-egress S clock f h (none-read S clock f h (sym is ∙ z)) (none-stops S clock f h (sym is ∙ z) (weAreEgress (S .nickname) h)) (cc)
-                ∙ x .same S clock;
-            left = x .ends;
-            role = ended nickname t local;
-            sized = Prim.tt;
-          };
+      same = λ S clock ours two.
+          routed-egress S clock f h (none-read S clock f h (sym is ∙ z)) (none-stops S clock f h (sym is ∙ z) (weAreEgress (S .nickname) h)) ours
+          ∙ x .same S clock;
       ends = x .ends;
     }
-  where
-    ended : (nickname : ℕ) → weAreEgress nickname h ≡ true → (local : Local) → LocalRole nickname h local
-    ended nickname t (Dropped number) = Prim.tt
-    ended nickname t (Answered number start size) = Prim.tt
-    ended nickname t Message = t
 
 pub ruleset at-egress-laws = (needs, ready, area-held, area-made, read-well, arrives-plain, arrives-faulty)
 
@@ -431,20 +420,29 @@ pub finds : (S : Ways) (d : ℕ) (own : Own) (strip rfc7179 : Bool) (hop : Rulin
     → waysBy (record { own = own; strip = strip; rfc7179 = rfc7179; hop = hop }) ≡ onlyFor d S
 finds S d own strip rfc7179 hop o s t p = rw (o .named, o .addressed, s, t, p)
 
--- a frame with an area, by its task
-module _ (S : Ways) (clock f : List ℕ) (h : Header) {nickname : ℕ} {rfc7179 strip : Bool} {kept : List ℕ} (named : nickname ≡ S .nickname)
-    (two : rfc7179 ≡ S .rfc7179) {task : Task} (x : Routes nickname rfc7179 strip f h kept task) (r : Answer) (out out1 beside : List ℕ) where
-  pub task-ended : (local : Local) → task ≡ Ended local → Done (localAt S clock f h local) r out out1 → Both (routed S clock f h) r out out1 beside beside
-  task-ended local e d = rw (x .same S clock named two, e) (both-of beside d)
+-- a frame in transit with an area, by its task
+module _ (S : Ways) (clock f : List ℕ) (h : Header) {rfc7179 strip : Bool} {kept : List ℕ} {task : Task} (x : Routes rfc7179 strip f h kept task)
+    (away : weAreEgress (S .nickname) h ≡ false) (two : rfc7179 ≡ S .rfc7179) (r : Answer) (out beside : List ℕ) where
+  pub task-stopped : (number place : ℕ) → task ≡ Stopped number place → r ≡ answerOf (A.droppedAt number place) → Both (routed S clock f h) r out out beside beside
+  task-stopped number place e is = rw (x .same S clock away two, e) (both-of beside (done-unwritten number place 0 refl is))
 
-  pub task-forward : (alert : Alert) (size : ℕ) → task ≡ Forward alert size → (beside1 : List ℕ) → Both (transitAt S clock f h alert) r out out1 beside beside1
-      → Both (routed S clock f h) r out out1 beside beside1
-  task-forward alert size e beside1 d = rw (x .same S clock named two, e) d
+  pub task-forward : (alert : Alert) (size : ℕ) → task ≡ Forward alert size → (out1 beside1 : List ℕ)
+      → Both (transitAt S clock f h alert) r out out1 beside beside1 → Both (routed S clock f h) r out out1 beside beside1
+  task-forward alert size e out1 beside1 d = rw (x .same S clock away two, e) d
 
-module _ {nickname : ℕ} {rfc7179 strip : Bool} {f : List ℕ} {h : Header} {kept : List ℕ} {task : Task}
-    (x : Routes nickname rfc7179 strip f h kept task) where
-  pub left-ended : (local : Local) → task ≡ Ended local → Ends local
-  left-ended local e = rw e at (x .left)
+-- and one to us
+pub task-arrived : (S : Ways) (clock f : List ℕ) (h : Header) {rfc7179 : Bool} {local : Local} → Arrives rfc7179 f h local → rfc7179 ≡ S .rfc7179
+    → (nickname : ℕ) → nickname ≡ S .nickname → (egress : Bool) → egress ≡ weAreEgress nickname h → egress ≡ true
+    → (r : Answer) (out out1 beside : List ℕ) → Done (localAt S clock f h local) r out out1 → Both (routed S clock f h) r out out1 beside beside
+task-arrived S clock f h x two nickname named egress e t r out out1 beside d =
+    both-of beside (rw (x .same S clock (rw (e, named) at t) two) d)
+
+pub arrives-ends : {rfc7179 : Bool} {f : List ℕ} {h : Header} {local : Local} → Arrives rfc7179 f h local → Ends local
+arrives-ends x = x .ends
+
+module _ {rfc7179 strip : Bool} {f : List ℕ} {h : Header} {kept : List ℕ} {task : Task} (x : Routes rfc7179 strip f h kept task) where
+  pub left-stopped : (number place : ℕ) → task ≡ Stopped number place → place ≤ 2048
+  left-stopped number place e = rw e at (x .left)
 
   module _ (alert : Alert) (size : ℕ) (e : task ≡ Forward alert size) where
     pub left-onward : Forwardable f h alert
@@ -464,7 +462,7 @@ module _ {nickname : ℕ} {rfc7179 strip : Bool} {f : List ℕ} {h : Header} {ke
     aside-sent S s two =
         record { goes = rw (← s, ← two) (put-aside .stands); few = omega (arith, length-take size kept, put-aside .few) }
 
-pub ruleset task-laws = (needs, owns-named, task-ended, task-forward, left-ended, left-onward, aside-within, aside-count, aside-sent)
+pub ruleset task-laws = (needs, owns-named, task-arrived, arrives-ends, task-stopped, task-forward, left-stopped, left-onward, aside-within, aside-count, aside-sent)
 
 pub both-plain : (S : Ways) (clock f : List ℕ) (h : Header) (r : Answer) (out out1 beside : List ℕ) → Done (routed S clock f h) r out out1
     → Both (routed S clock f h) r out out1 beside beside
@@ -494,6 +492,22 @@ front-done a r out out1 d same =
       alone = d .alone;
     }
 
+-- a message is answered by a number, what was written and its neighbour
+abbrev Bare : A.Handled → Type 0
+Bare a = answerOf a ≡ wroteBy (a .number) (length (a .octets)) (a .via)
+
+message-bare : (S : Ways) (clock f : List ℕ) (h : Header) (c : ChannelRead) → Bare (channelled S clock f h c)
+unfolding channelled faulted echoed
+message-bare S clock f h (Fault code) =
+    by-test (silenced code (innerOf f h)) (λ t. rw t refl) (λ t. by-hop (returnPath S (h .ingress)) (λ q. rw (t, q) refl) (λ r q. rw (t, q) refl))
+message-bare S clock f h BadErr = refl
+message-bare S clock f h ErrorHeard = refl
+message-bare S clock f h BadEcho = refl
+message-bare S clock f h EchoHeard = refl
+message-bare S clock f h EchoRequest =
+    by-test (not (eqb (replyMode (bodyOf (innerOf f h))) 2)) (λ t. rw t refl)
+    (λ t. by-hop (returnPath S (h .ingress)) (λ q. rw (t, q) refl) (λ r q. rw (t, q) refl))
+
 -- what is lent in a copy, or lent on
 pub lent-clock : (clock clock′ : List ℕ) → clock′ ≡ clock → length clock ≡ 6 → length clock′ ≡ 6
 lent-clock clock clock′ e long = rw e long
@@ -506,8 +520,15 @@ module _ (f f′ : List ℕ) (lent : f′ ≡ f) (h x : Header) (same : x ≡ h)
     pub copy-both : (beside beside1 : List ℕ) → Both (routed S′ clock′ f′ x) a out out1 beside beside1 → Both (routed S clock f h) r out out1 beside beside1
     copy-both beside beside1 d = rw (made, ← same, ← lent, ← ways, ← timed) d
 
-    pub copy-done : Done (messaged S′ clock′ f′ x) a out out1 → Done (messaged S clock f h) r out out1
-    copy-done d = rw (made, ← same, ← lent, ← ways, ← timed) d
+  pub copy-done : (r a : Answer) → r ≡ wroteBy (a .number) (a .written) (a .neighbour) → (S S′ : Ways) → S′ ≡ S → (clock clock′ : List ℕ) → clock′ ≡ clock
+      → (out out1 : List ℕ) → Done (messaged S′ clock′ f′ x) a out out1 → Done (messaged S clock f h) r out out1
+  copy-done r a made S S′ ways clock clock′ timed out out1 d =
+      rw (← same, ← lent, ← ways, ← timed)
+      (record {
+        answer = made ∙ rw (d .answer) (sym (message-bare S′ clock′ f′ x (channelRead (innerOf f′ x))));
+        after = d .after;
+        alone = d .alone;
+      })
 
 pub copy-owns : (own x : Own) → x ≡ own → (S S′ : Ways) → S′ ≡ S → Owns own S → Owns x S′
 copy-owns own x same S S′ ways o = rw (same, ways) o

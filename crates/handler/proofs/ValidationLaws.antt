@@ -1,5 +1,5 @@
--- The keys met, the filter that stands for them, and what the loop over the settings fields keeps, from the first field to the verdict: the records
--- read so far and the keys met agree, and the rest of the fields decides as the whole does. By induction on the keys, by cases on tests, and by one
+-- The ranks met, the filter that stands for them, and what the loop over the settings fields keeps, from the first field to the verdict: the records
+-- read so far and the ranks met agree, and the rest of the fields decides as the whole does. By induction on the ranks, by cases on tests, and by one
 -- law of fields and of settings for each step.
 use mathlib.Core.Path.{_≡_, refl, sym, _∙_}
 use mathlib.Core.List.{List, [], _∷_, _++_, append-assoc}
@@ -21,18 +21,18 @@ use ruleLaws.TestLaws.{and-no, or-no, or-yes, by-test, by-equal, by-order}
 use Rattle.octets.specs.Flags.{flagBy}
 use Rattle.octets.proofs.FlagLaws.{flag-continues}
 use Rattle.handler.specs
-use specs.Keys.{keyOf, mixOf, slotBy, markBy, markedBy, coversBy, keyMet, keysIn, keysMet, Kept, hopTaken, fieldTaken, withKey, keysWith, Taking, Verdict}
+use specs.Ranks.{rankOf, mixOf, slotBy, markBy, markedBy, coversBy, rankMet, ranksIn, ranksMet, Kept, hopTaken, fieldTaken, withRank, ranksWith, Taking, Verdict}
 use ruleLaws.FieldLaws.{field-read, fields-at-end, fields-at-cut, fields-at-on}
 use rules.declared.{NextHop.NextHop, FieldRead.FieldRead}
 use rules.declared.FieldRead.the-variants.{Taken, Cut}
 use ruleLaws.{SettingsLaws.from-on, SettingsLaws.from-bad, Taken.taken}
 use ruleLaws.FirstLaws.{continues-cut, first, settings-open}
 
--- the keys among the fields from a place on, by the field there
+-- the ranks among the fields from a place on, by the field there
 module _ (s : List ℕ) (at : ℕ) where
-  keys-none : at < length s → fieldAt s at ≡ Cut → keysIn (fieldsAt s at) ≡ []
-  unfolding keysIn
-  keys-none h c = rw (fields-at-cut s at h c)
+  ranks-none : at < length s → fieldAt s at ≡ Cut → ranksIn (fieldsAt s at) ≡ []
+  unfolding ranksIn
+  ranks-none h c = rw (fields-at-cut s at h c)
 
   module _ (tag size next : ℕ) (t : fieldAt s at ≡ Taken tag size next) where
     abbrev value : List ℕ
@@ -44,49 +44,49 @@ module _ (s : List ℕ) (at : ℕ) where
         let the-size : next - (at + 3) ≡ size = omega (arith, i) in
         rw the-size (fields-at-on s at tag size next (omega (arith, i)) t)
 
-    keys-hop : tag ≡ 2 → keysIn (fieldsAt s at) ≡ keyOf (hopOf value) ∷ keysIn (fieldsAt s next)
-    unfolding keysIn
-    keys-hop two = rw (fields-next, two)
+    ranks-hop : tag ≡ 2 → ranksIn (fieldsAt s at) ≡ rankOf (hopOf value) ∷ ranksIn (fieldsAt s next)
+    unfolding ranksIn
+    ranks-hop two = rw (fields-next, two)
 
-    keys-flag : (tag ≡ 2 → ⊥) → keysIn (fieldsAt s at) ≡ keysIn (fieldsAt s next)
-    unfolding keysIn
-    keys-flag other = rw (fields-next, ne-eqb tag 2 other)
+    ranks-flag : (tag ≡ 2 → ⊥) → ranksIn (fieldsAt s at) ≡ ranksIn (fieldsAt s next)
+    unfolding ranksIn
+    ranks-flag other = rw (fields-next, ne-eqb tag 2 other)
 
--- the look at the first n records: whether the key is among those left is whether it is met
-pub record Looking (s : List ℕ) (from n key left at : ℕ) : Type 0 where
-  pub same : keyMet key (take left (keysIn (fieldsAt s at))) ≡ keyMet key (keysMet s from n)
+-- the look at the first n records: whether the rank is among those left is whether it is met
+pub record Looking (s : List ℕ) (from n rank left at : ℕ) : Type 0 where
+  pub same : rankMet rank (take left (ranksIn (fieldsAt s at))) ≡ rankMet rank (ranksMet s from n)
 
-pub look-begins : (s : List ℕ) (from n key : ℕ) → Looking s from n key n from
-look-begins s from n key = record { same = refl }
+pub look-begins : (s : List ℕ) (from n rank : ℕ) → Looking s from n rank n from
+look-begins s from n rank = record { same = refl }
 
-module _ (s : List ℕ) (from n key left at : ℕ) (l : Looking s from n key left at) where
-  pub look-done : left ≡ 0 → false ≡ keyMet key (keysMet s from n)
-  unfolding keyMet
+module _ (s : List ℕ) (from n rank left at : ℕ) (l : Looking s from n rank left at) where
+  pub look-done : left ≡ 0 → false ≡ rankMet rank (ranksMet s from n)
+  unfolding rankMet
   look-done none = rw none at (l .same)
 
-  pub look-end : length s ≤ at → false ≡ keyMet key (keysMet s from n)
-  unfolding keyMet keysIn
+  pub look-end : length s ≤ at → false ≡ rankMet rank (ranksMet s from n)
+  unfolding rankMet ranksIn
   look-end h = rw (fields-at-end s at h, take-nil) at (l .same)
 
   module _ (read : FieldRead) (q : read ≡ fieldAt s at) where
-    pub look-cut : at < length s → read ≡ Cut → false ≡ keyMet key (keysMet s from n)
-    unfolding keyMet
-    look-cut h c = rw (keys-none s at h (sym q ∙ c), take-nil) at (l .same)
+    pub look-cut : at < length s → read ≡ Cut → false ≡ rankMet rank (ranksMet s from n)
+    unfolding rankMet
+    look-cut h c = rw (ranks-none s at h (sym q ∙ c), take-nil) at (l .same)
 
     module _ (tag size next : ℕ) (t : read ≡ Taken tag size next) where
-      pub look-past : (tag ≡ 2 → ⊥) → Looking s from n key left next
-      look-past other = record { same = rw (keys-flag s at tag size next (sym q ∙ t) other) at (l .same) }
+      pub look-past : (tag ≡ 2 → ⊥) → Looking s from n rank left next
+      look-past other = record { same = rw (ranks-flag s at tag size next (sym q ∙ t) other) at (l .same) }
 
-      module _ (two : tag ≡ 2) (some : left ≡ 0 → ⊥) (k : ℕ) (is : k ≡ keyOf (hopOf (part s (at + 3) (next - (at + 3))))) where
-        split : (fewer : ℕ) → left ≡ suc fewer → (eqb k key || keyMet key (take fewer (keysIn (fieldsAt s next)))) ≡ keyMet key (keysMet s from n)
-        unfolding keyMet
-        split fewer more = rw is (rw (keys-hop s at tag size next (sym q ∙ t) two, more) at (l .same))
+      module _ (two : tag ≡ 2) (some : left ≡ 0 → ⊥) (k : ℕ) (is : k ≡ rankOf (hopOf (part s (at + 3) (next - (at + 3))))) where
+        split : (fewer : ℕ) → left ≡ suc fewer → (eqb k rank || rankMet rank (take fewer (ranksIn (fieldsAt s next)))) ≡ rankMet rank (ranksMet s from n)
+        unfolding rankMet
+        split fewer more = rw is (rw (ranks-hop s at tag size next (sym q ∙ t) two, more) at (l .same))
 
-        pub look-found : k ≡ key → true ≡ keyMet key (keysMet s from n)
-        look-found e = rw (eq-eqb k key e) at (split (left - 1) (omega (arith, some)))
+        pub look-found : k ≡ rank → true ≡ rankMet rank (ranksMet s from n)
+        look-found e = rw (eq-eqb k rank e) at (split (left - 1) (omega (arith, some)))
 
-        pub look-on : (k ≡ key → ⊥) → (fewer : ℕ) → fewer ≡ left - 1 → Looking s from n key fewer next
-        look-on e fewer less = record { same = rw (ne-eqb k key e) at (split fewer (omega (arith, some))) }
+        pub look-on : (k ≡ rank → ⊥) → (fewer : ℕ) → fewer ≡ left - 1 → Looking s from n rank fewer next
+        look-on e fewer less = record { same = rw (ne-eqb k rank e) at (split fewer (omega (arith, some))) }
 
 pub ruleset met-laws = (needs, taken, look-begins, look-done, look-end, look-cut, look-past, look-found, look-on)
 
@@ -94,15 +94,15 @@ pub uncovered : (old mark : ℕ) → (old ≡ mark → ⊥) → (old ≡ 255 →
 unfolding coversBy
 uncovered old mark h k = rw (ne-eqb old mark h, ne-eqb old 255 k)
 
--- one more key
-pub met-snoc : (key k : ℕ) (keys : List ℕ) → keyMet key (keys ++ (k ∷ [])) ≡ (keyMet key keys || eqb k key)
-unfolding keyMet
-met-snoc key k [] = or-no (eqb k key)
-met-snoc key k (q ∷ keys) = rw (met-snoc key k keys, or-assoc)
+-- one more rank
+pub met-snoc : (rank k : ℕ) (ranks : List ℕ) → rankMet rank (ranks ++ (k ∷ [])) ≡ (rankMet rank ranks || eqb k rank)
+unfolding rankMet
+met-snoc rank k [] = or-no (eqb k rank)
+met-snoc rank k (q ∷ ranks) = rw (met-snoc rank k ranks, or-assoc)
 
--- keys are equal exactly where destinations and serials are
-pub key-same : (a b c d : ℕ) → b < 4294967296 → d < 4294967296 → eqb (a * 4294967296 + b) (c * 4294967296 + d) ≡ (eqb a c && eqb b d)
-key-same a b c d hb hd =
+-- ranks are equal exactly where destinations and serials are
+pub rank-same : (a b c d : ℕ) → b < 4294967296 → d < 4294967296 → eqb (a * 4294967296 + b) (c * 4294967296 + d) ≡ (eqb a c && eqb b d)
+rank-same a b c d hb hd =
     let left = a * 4294967296 + b in
     let right = c * 4294967296 + d in
     by-equal a c
@@ -111,7 +111,7 @@ key-same a b c d hb hd =
     (λ y. rw (ne-eqb b d y, and-no) (ne-eqb left right (λ h. y (omega arith)))))
     (λ x. rw (ne-eqb a c x) (ne-eqb left right (λ h. x (omega arith))))
 
--- once one more key is there, a place has that key and those it had
+-- once one more rank is there, a slot has that rank and those it had
 cover-new : (old mark : ℕ) → coversBy (markedBy old mark) mark ≡ true
 unfolding coversBy markedBy
 cover-new old mark = by-equal old 0 (λ e. rw (e, eq-eqb mark mark refl)) (λ o. rw (ne-eqb old 0 o, or-yes))
@@ -129,27 +129,27 @@ still-covered seen slot mark j mixed h c =
     (λ same. rw (same, getD-set-same seen slot new 0 h) (cover-kept (getD seen slot 0) mark mixed (rw same at c)))
     (λ other. rw (getD-set-other seen slot j new 0 other) c)
 
--- a key and its mark in its place
-module _ (met seen : List ℕ) (key slot mark : ℕ) (k : Kept met seen) (is : slot ≡ slotBy (mixOf key)) (h : slot < 256) (made : mark ≡ markBy (mixOf key)) where
+-- a rank and its mark in its slot
+module _ (met seen : List ℕ) (rank slot mark : ℕ) (k : Kept met seen) (is : slot ≡ slotBy (mixOf rank)) (h : slot < 256) (made : mark ≡ markBy (mixOf rank)) where
   abbrev seen′ : List ℕ
   seen′ = set seen slot (markedBy (getD seen slot 0) mark)
 
-  -- a place that shows no such key
-  unshown : coversBy (getD seen slot 0) mark ≡ false → keyMet key met ≡ false
+  -- a slot that shows no such rank
+  unshown : coversBy (getD seen slot 0) mark ≡ false → rankMet rank met ≡ false
   unshown e =
-      by-test (keyMet key met) (λ yes. absurd (true≢false (sym (k .marked key yes) ∙ (rw (is, made) at e)))) (λ unmet. unmet)
+      by-test (rankMet rank met) (λ yes. absurd (true≢false (sym (k .marked rank yes) ∙ (rw (is, made) at e)))) (λ unmet. unmet)
 
-  more-kept : Kept (met ++ (key ∷ [])) seen′
+  more-kept : Kept (met ++ (rank ∷ [])) seen′
   more-kept =
       let in-seen : slot < length seen = omega (arith, k .seen-long) in
       record {
         seen-long = rw length-set (k .seen-long);
         marked = λ other e.
-            by-equal key other
+            by-equal rank other
             (λ same. rw (← same, ← is, ← made, getD-set-same seen slot (markedBy (getD seen slot 0) mark) 0 in-seen) (cover-new (getD seen slot 0) mark))
             (λ apart.
             still-covered seen slot mark (slotBy (mixOf other)) (mixOf other) in-seen
-            (k .marked other (sym (or-no (keyMet other met)) ∙ (rw (met-snoc other key met, ne-eqb key other apart) at e))));
+            (k .marked other (sym (or-no (rankMet other met)) ∙ (rw (met-snoc other rank met, ne-eqb rank other apart) at e))));
       }
 
 refused : {good : Bool} {met seen : List ℕ} → good ≡ false → Taking good met false seen
@@ -158,7 +158,7 @@ refused e = record { validated = e; kept = λ h. absurd (true≢false (sym h)) }
 -- the ways out of one more record, over what the code tests
 module _ (met seen : List ℕ) (n size : ℕ) (r : NextHop) where
   abbrev pub AdmitTo : Bool → List ℕ → Type 0
-  AdmitTo taken = Taking (hopTaken met n size r) (withKey met r) taken
+  AdmitTo taken = Taking (hopTaken met n size r) (withRank met r) taken
 
   pub admit-short : (sized : Bool) → sized ≡ hopSize size → not sized ≡ true → AdmitTo false seen
   unfolding hopTaken
@@ -172,24 +172,24 @@ module _ (met seen : List ℕ) (n size : ℕ) (r : NextHop) where
   unfolding hopTaken
   admit-full h = refused (rw (le-ltb n 64 h, and-no, and-no))
 
-  module _ (key mixed slot mark : ℕ) (its-key : key ≡ keyOf r) (its-mix : mixed ≡ mixOf key) (its-slot : slot ≡ slotBy mixed)
+  module _ (rank mixed slot mark : ℕ) (its-rank : rank ≡ rankOf r) (its-mix : mixed ≡ mixOf rank) (its-slot : slot ≡ slotBy mixed)
       (its-mark : mark ≡ markBy mixed) (h : slot < 256) (k : Kept met seen) where
-    -- a place that shows no such key
-    pub admit-shows : coversBy (getD seen slot 0) mark ≡ false → keyMet key met ≡ false
-    admit-shows = unshown met seen key slot mark k (rw its-mix at its-slot) h (rw its-mix at its-mark)
+    -- a slot that shows no such rank
+    pub admit-shows : coversBy (getD seen slot 0) mark ≡ false → rankMet rank met ≡ false
+    admit-shows = unshown met seen rank slot mark k (rw its-mix at its-slot) h (rw its-mix at its-mark)
 
-    pub admit-met : (new : Bool) → new ≡ not (keyMet key met) → not new ≡ true → AdmitTo false seen
+    pub admit-met : (new : Bool) → new ≡ not (rankMet rank met) → not new ≡ true → AdmitTo false seen
     unfolding hopTaken
-    admit-met new is t = refused (rw (← its-key, ← is, not-true new t, and-no, and-no))
+    admit-met new is t = refused (rw (← its-rank, ← is, not-true new t, and-no, and-no))
 
     module _ (sized : Bool) (e-s : sized ≡ hopSize size) (s : not sized ≡ false) (good : Bool) (e-g : good ≡ hopGood r) (g : not good ≡ false)
         (room : n < 64) where
-      admitted : keyMet key met ≡ false → AdmitTo true (set seen slot (markedBy (getD seen slot 0) mark))
+      admitted : rankMet rank met ≡ false → AdmitTo true (set seen slot (markedBy (getD seen slot 0) mark))
       unfolding hopTaken
       admitted unmet =
           record {
-            validated = rw (← its-key, unmet, ← e-s, ← e-g, not-false sized s, not-false good g, lt-ltb n 64 room);
-            kept = λ _. rw (← its-key) (more-kept met seen key slot mark k (rw its-mix at its-slot) h (rw its-mix at its-mark));
+            validated = rw (← its-rank, unmet, ← e-s, ← e-g, not-false sized s, not-false good g, lt-ltb n 64 room);
+            kept = λ _. rw (← its-rank) (more-kept met seen rank slot mark k (rw its-mix at its-slot) h (rw its-mix at its-mark));
           }
 
       pub admit-first : getD seen slot 0 ≡ 0 → AdmitTo true (set seen slot mark)
@@ -198,10 +198,10 @@ module _ (met seen : List ℕ) (n size : ℕ) (r : NextHop) where
           let shown : coversBy (getD seen slot 0) mark ≡ false = rw (free, ne-eqb 0 mark (omega arith)) in
           rw (eq-eqb (getD seen slot 0) 0 free) at (admitted (admit-shows shown))
 
-      pub admit-new : (getD seen slot 0 ≡ 0 → ⊥) → (new : Bool) → new ≡ not (keyMet key met) → not new ≡ false → AdmitTo true (set seen slot 255)
+      pub admit-new : (getD seen slot 0 ≡ 0 → ⊥) → (new : Bool) → new ≡ not (rankMet rank met) → not new ≡ false → AdmitTo true (set seen slot 255)
       unfolding markedBy
       admit-new other new is t =
-          rw (ne-eqb (getD seen slot 0) 0 other) at (admitted (not-true (keyMet key met) (sym is ∙ not-false new t)))
+          rw (ne-eqb (getD seen slot 0) 0 other) at (admitted (not-true (rankMet rank met) (sym is ∙ not-false new t)))
 
 pub ruleset admit-laws = (needs, admit-short, admit-bad, admit-full, admit-shows, admit-met, admit-first, admit-new)
 
@@ -211,33 +211,33 @@ unfolding serialMet
 serial-snoc r q [] = or-no (eqb (q .destination) (r .destination) && eqb (q .serial) (r .serial))
 serial-snoc r q (p ∷ hops) = rw (serial-snoc r q hops, or-assoc)
 
--- as many keys as records, and a key met where a serial is
+-- as many ranks as records, and a rank met where a serial is
 pub record Agree (hops : List NextHop) (met : List ℕ) : Type 0 where
   pub count : length hops ≡ length met
-  pub alike : (r : NextHop) → r .serial < 4294967296 → serialMet r hops ≡ keyMet (keyOf r) met
+  pub alike : (r : NextHop) → r .serial < 4294967296 → serialMet r hops ≡ rankMet (rankOf r) met
 
-agree-more : (hops : List NextHop) (met v : List ℕ) → Agree hops met → Agree (hops ++ (hopOf v ∷ [])) (withKey met (hopOf v))
+agree-more : (hops : List NextHop) (met v : List ℕ) → Agree hops met → Agree (hops ++ (hopOf v ∷ [])) (withRank met (hopOf v))
 agree-more hops met v a =
     record {
       count = rw (length-append, length-append, a .count);
       alike = λ r h.
           rw (
             serial-snoc r (hopOf v) hops,
-            met-snoc (keyOf r) (keyOf (hopOf v)) met,
+            met-snoc (rankOf r) (rankOf (hopOf v)) met,
             a .alike r h,
-            key-same (hopOf v .destination) (hopOf v .serial) (r .destination) (r .serial) (omega arith) h,
+            rank-same (hopOf v .destination) (hopOf v .serial) (r .destination) (r .serial) (omega arith) h,
           );
     }
 
-agree-with : (T : Settings) (tag : ℕ) (v met : List ℕ) → Agree (T .hops) met → Agree (withField T (field tag v) .hops) (keysWith met tag v)
-unfolding withField keysWith
+agree-with : (T : Settings) (tag : ℕ) (v met : List ℕ) → Agree (T .hops) met → Agree (withField T (field tag v) .hops) (ranksWith met tag v)
+unfolding withField ranksWith
 agree-with T tag v met a =
     by-test (eqb tag 2)
     (λ e. rw e (agree-more (T .hops) met v a))
     (λ e. by-test (eqb tag 3) (λ f. rw (e, f) a) (λ f. by-test (eqb tag 6) (λ g. rw (e, f, g) a) (λ g. rw (e, f, g) a)))
 
 module _ (T : Settings) (v met : List ℕ) (n : ℕ) where
-  continues-hop : length (T .hops) ≡ n → serialMet (hopOf v) (T .hops) ≡ keyMet (keyOf (hopOf v)) met → continues T (field 2 v) ≡ fieldTaken met n 2 v
+  continues-hop : length (T .hops) ≡ n → serialMet (hopOf v) (T .hops) ≡ rankMet (rankOf (hopOf v)) met → continues T (field 2 v) ≡ fieldTaken met n 2 v
   unfolding continues lengthGood fieldTaken hopTaken
   continues-hop c e = rw (c, e)
 
@@ -248,7 +248,7 @@ module _ (T : Settings) (v met : List ℕ) (n : ℕ) where
       (λ two. rw two (continues-hop (a .count ∙ c) (a .alike (hopOf v) (omega arith))))
       (λ other. rw (ne-eqb tag 2 other) (sym (flag-continues T tag v other)))
 
--- some settings with these keys, from which the fields from `at` on decide as the whole does
+-- some settings with these ranks, from which the fields from `at` on decide as the whole does
 pub record Rest (s : List ℕ) (whole : Option Settings) (met : List ℕ) (at : ℕ) : Type 0 where
   pub read : Settings
   pub decides : settingsFrom read (fieldsAt s at) ≡ whole
@@ -256,30 +256,30 @@ pub record Rest (s : List ℕ) (whole : Option Settings) (met : List ℕ) (at : 
 
 -- what the loop keeps
 pub record Validating (s : List ℕ) (from : ℕ) (seen : List ℕ) (n at : ℕ) : Type 0 where
-  pub kept : Kept (keysMet s from n) seen
+  pub kept : Kept (ranksMet s from n) seen
   pub few : n ≤ 64
-  pub many : length (keysMet s from n) ≡ n
-  pub split : keysIn (fieldsAt s from) ≡ keysMet s from n ++ keysIn (fieldsAt s at)
-  pub rest : (T : Settings) → T .hops ≡ [] → Rest s (settingsFrom T (fieldsAt s from)) (keysMet s from n) at
+  pub many : length (ranksMet s from n) ≡ n
+  pub split : ranksIn (fieldsAt s from) ≡ ranksMet s from n ++ ranksIn (fieldsAt s at)
+  pub rest : (T : Settings) → T .hops ≡ [] → Rest s (settingsFrom T (fieldsAt s from)) (ranksMet s from n) at
 
 pub begins : (s : List ℕ) (from : ℕ) → Validating s from (replicate 256 0) 0 from
-unfolding serialMet keyMet
+unfolding serialMet rankMet
 begins s from =
     record {
-      kept = record { seen-long = refl; marked = λ key e. absurd (false≢true e) };
+      kept = record { seen-long = refl; marked = λ rank e. absurd (false≢true e) };
       few = omega arith;
       many = refl;
       split = refl;
       rest = λ T e. record { read = T; decides = refl; agree = rw e (record { count = refl; alike = λ r h. refl }) };
     }
 
--- one more key behind those met
-grown : (keys met rest : List ℕ) (k n : ℕ) → keys ≡ met ++ (k ∷ rest) → length met ≡ n → take (n + 1) keys ≡ met ++ (k ∷ [])
-grown keys met rest k n e c = rw (e, ← c) (take-append-add met (k ∷ rest) 1)
+-- one more rank behind those met
+grown : (ranks met rest : List ℕ) (k n : ℕ) → ranks ≡ met ++ (k ∷ rest) → length met ≡ n → take (n + 1) ranks ≡ met ++ (k ∷ [])
+grown ranks met rest k n e c = rw (e, ← c) (take-append-add met (k ∷ rest) 1)
 
 module _ {s : List ℕ} {from : ℕ} {seen : List ℕ} {n at : ℕ} (j : Validating s from seen n at) where
   abbrev met : List ℕ
-  met = keysMet s from n
+  met = ranksMet s from n
 
   pub ends : length s ≤ at → Verdict s from true
   unfolding settingsFrom
@@ -306,7 +306,7 @@ module _ {s : List ℕ} {from : ℕ} {seen : List ℕ} {n at : ℕ} (j : Validat
           let w = j .rest T e in
           rw (← w .decides, on, from-bad (w .read) (field tag v) (fieldsAt s next) (validated-so T e g))
 
-      rest-on : fieldTaken met n tag v ≡ true → (T : Settings) → T .hops ≡ [] → Rest s (settingsFrom T (fieldsAt s from)) (keysWith met tag v) next
+      rest-on : fieldTaken met n tag v ≡ true → (T : Settings) → T .hops ≡ [] → Rest s (settingsFrom T (fieldsAt s from)) (ranksWith met tag v) next
       rest-on g T e =
           let w = j .rest T e in
           record {
@@ -321,13 +321,13 @@ module _ {s : List ℕ} {from : ℕ} {seen : List ℕ} {n at : ℕ} (j : Validat
         unfolding fieldTaken
         hop-stops g = stops (rw two g)
 
-        pub hop-on : {seen′ : List ℕ} → hopTaken met n (length v) (hopOf v) ≡ true → Kept (withKey met (hopOf v)) seen′ → Validating s from seen′ (n + 1) next
-        unfolding fieldTaken keysWith hopTaken
+        pub hop-on : {seen′ : List ℕ} → hopTaken met n (length v) (hopOf v) ≡ true → Kept (withRank met (hopOf v)) seen′ → Validating s from seen′ (n + 1) next
+        unfolding fieldTaken ranksWith hopTaken
         hop-on g k =
-            let keys = keysIn (fieldsAt s from) in
-            let rest = keysIn (fieldsAt s next) in
-            let parts : keys ≡ met ++ (keyOf (hopOf v) ∷ rest) = rw (keys-hop s at tag size next (sym q ∙ taken) two) at (j .split) in
-            let more = grown keys met rest (keyOf (hopOf v)) n parts (j .many) in
+            let ranks = ranksIn (fieldsAt s from) in
+            let rest = ranksIn (fieldsAt s next) in
+            let parts : ranks ≡ met ++ (rankOf (hopOf v) ∷ rest) = rw (ranks-hop s at tag size next (sym q ∙ taken) two) at (j .split) in
+            let more = grown ranks met rest (rankOf (hopOf v)) n parts (j .many) in
             record {
               kept = rw more k;
               few = by-order n 64 (λ h. omega arith) (λ h. absurd (false≢true (rw (le-ltb n 64 h, and-no, and-no) at g)));
@@ -343,13 +343,13 @@ module _ {s : List ℕ} {from : ℕ} {seen : List ℕ} {n at : ℕ} (j : Validat
         flag-stops z = stops (rw (ne-eqb tag 2 other, ← is) (ne-eqb code 0 z))
 
         pub flag-on : code ≡ 0 → Validating s from seen n next
-        unfolding fieldTaken keysWith
+        unfolding fieldTaken ranksWith
         flag-on z =
             record {
               kept = j .kept;
               few = j .few;
               many = j .many;
-              split = rw (keys-flag s at tag size next (sym q ∙ taken) other) at (j .split);
+              split = rw (ranks-flag s at tag size next (sym q ∙ taken) other) at (j .split);
               rest = rw (ne-eqb tag 2 other) at (rest-on (rw (ne-eqb tag 2 other, ← is) (eq-eqb code 0 z)));
             }
 

@@ -5,8 +5,8 @@ use mathlib.Core.Bool.{Bool, true, false, not, _&&_, _||_}
 use Prim.Native.Nat.{ℕ, suc, _+_, _-_, _%_, _≤_, _<_}
 use native.Mathlib.Omega.{arith}
 use borrow.Author.Needs.{needs}
-use borrow.Author.Tests.{eqb-true, ne-eqb}
-use lib.ListN.{length, take, drop, getD, take-append-drop, drop-of-length-le}
+use borrow.Author.Tests.{eqb-true, ne-eqb, not-true, not-false}
+use lib.ListN.{length, take, drop, getD, replicate, take-append-drop, drop-of-length-le}
 use lib.Seq.{drop-cons, take-all, length-take-le}
 use Rattle.rules.specs as rules
 use rules.Octets.{if_then_else_, be16, part, put}
@@ -22,8 +22,8 @@ use Rattle.octets.proofs.Ends.{wrote-none, wrote-long, parts, copied, joined}
 use Rattle.handler.specs
 use specs.declared.options.{Cursor.Cursor, AreaRead.AreaRead}
 use specs.declared.options.AreaRead.the-variants.{Read, Faulty}
-use specs.Shapes.{AreaWords, Place, WholeOption, cursorBy, readBy, sentOf, optionsSent, ended, foundBy, walkOf}
-use specs.Shapes.{AreaWalked, summarizedBy, areaReadOf, AreaKept, AllKept}
+use specs.Shapes.{AreaWords, CursorIn, WholeOption, cursorBy, readBy, sentOf, optionsSent, ended, foundBy, walkOf}
+use specs.Shapes.{AreaWalked, OptionsChecked, summarizedBy, areaReadOf, AreaKept, AllKept}
 use specs.Treatment.{entryIn, Treats, transitDiscards, egressDiscards, strippedBy}
 use Rattle.rules.specs.Options as O
 
@@ -53,7 +53,7 @@ module _ {c : Cursor} {key n : ℕ} (b : WholeOption c key n) (table : List ℕ)
 pub ruleset behind-laws = (needs, behind-is)
 
 -- one option, by its ways out
-module _ {area : List ℕ} {c : Cursor} (o : Place area c) (more : c .at < length area) where
+module _ {area : List ℕ} {c : Cursor} (o : CursorIn area c) (more : c .at < length area) where
   pub option-there : c .at + 4 ≤ length area
   option-there = omega arith
 
@@ -135,7 +135,7 @@ adds false area at to size h =
 pub record Walking (strip : Bool) (area kept₀ kept : List ℕ) (c : Cursor) : Type 0 where
   pub fuel : ℕ
   pub enough : length area < c .at + suc fuel
-  pub place : Place area c
+  pub place : CursorIn area c
   pub written : List ℕ
   pub wrote : Wrote written 4 (c .to) kept₀ kept
   pub rest : walkOf strip (c .hop) (c .egress) written (optionsFrom (suc fuel) area (c .floor) (c .at)) ≡ walkOf strip false false [] (optionsOf area)
@@ -283,6 +283,37 @@ module _ {strip : Bool} {area kept₀ kept : List ℕ} {c : Cursor} (w : Walking
 
 pub ruleset walk-area-laws = (needs, walk-begin, walk-end, walk-stop, walk-back, walk-within, walk-add, walk-room, walk-words, walk-less, walk-on)
 
+-- a walk that writes nothing is one that writes all options, to octets that nobody has
+pub record Checking (area : List ℕ) (c : Cursor) : Type 0 where
+  pub kept₀ : List ℕ
+  pub kept : List ℕ
+  pub entry : length kept₀ ≡ 124
+  pub walking : Walking false area kept₀ kept c
+
+pub check-begin : (area : List ℕ) → AreaWords area → 4 < length area → Checking area (record { at = 4; to = 4; floor = 0; hop = false; egress = false })
+check-begin area words h =
+    let kept = replicate {A = ℕ} 124 0 in
+    record { kept₀ = kept; kept = kept; entry = refl; walking = walk-begin false area kept words h }
+
+module _ {area : List ℕ} {c : Cursor} (w : Checking area c) where
+  pub check-end : length area ≤ c .at → OptionsChecked area (Read c)
+  check-end h = let x = walk-end (w .walking) (w .entry) h in record { written = x .written; found = x .found }
+
+  module _ (h : c .at < length area) (read : AreaRead) (r : read ≡ readBy false c (optionAt area (c .floor) (c .at))) where
+    pub check-stop : (number place : ℕ) → read ≡ Faulty number place → OptionsChecked area read
+    check-stop number place e = let x = walk-stop (w .walking) (w .entry) h read r number place e in record { written = x .written; found = x .found }
+
+    module _ (d : Cursor) (e : read ≡ Read d) where
+      pub check-less : length area - d .at < length area - c .at
+      check-less = walk-less (w .walking) (w .entry) h read r d e
+
+      pub check-on : Checking area d
+      check-on =
+          let kept = put (w .kept) (c .to) (lentTo area c d) in
+          record { kept₀ = w .kept₀; kept = kept; entry = w .entry; walking = walk-on (w .walking) (w .entry) h read r d e kept refl }
+
+pub ruleset check-options-laws = (needs, check-begin, check-end, check-stop, check-less, check-on)
+
 -- 34 and 35, by the two summary tests
 module _ (area : List ℕ) (read : AreaRead) (c : Cursor) (e : read ≡ Read c) {there lacks : Bool} (s : there ≡ chbh area)
     (m : lacks ≡ (c .hop && not there)) where
@@ -332,7 +363,7 @@ module _ (strip : Bool) (area : List ℕ) (h : length area ≤ 4) where
         read = x .read ∙ area-short area h;
         wrote = λ c e. rw short-sent (x .wrote c e);
         few = λ c e. omega (arith, x .wrote c e .ends);
-        wide = x .wide;
+        wide = λ c e. x .wide;
       }
 
 -- all of an area
@@ -346,6 +377,29 @@ all-kept area kept kept′ is words wide =
     }
 
 pub ruleset keep-all-laws = (needs, all-kept)
+
+pub area-checked : (area : List ℕ) (read r : AreaRead) → OptionsChecked area read → r ≡ summarizedBy area read → areaReadOf r ≡ draftRead area
+unfolding draftRead
+area-checked area read r x is = rw is (summed-is false area (x .written) read (optionsOf area) (x .found))
+
+pub ruleset check-area-laws = (needs, area-short, area-checked)
+
+-- all of an area without a fault is kept
+module _ (area : List ℕ) (read : AreaRead) (is : areaReadOf read ≡ draftRead area) where
+  pub checked-fault : (number place : ℕ) → read ≡ Faulty number place → (kept : List ℕ) → AreaKept false area kept kept read
+  checked-fault number place e kept = record { read = is; wrote = λ c f. apart cc; few = λ c f. apart cc; wide = λ c f. apart cc }
+
+  pub checked-kept : (c : Cursor) → read ≡ Read c → AreaWords area → (kept kept′ : List ℕ) (r : AreaRead) → AllKept area kept kept′ r
+      → AreaKept false area kept kept′ r
+  checked-kept c e words kept kept′ r x =
+      record {
+        read = x .read ∙ (rw e at is);
+        wrote = x .wrote;
+        few = λ d f. omega (arith, x .wrote d f .ends, words .few);
+        wide = λ d f. x .wide;
+      }
+
+pub ruleset keep-checked-laws = (needs, checked-fault, checked-kept)
 
 -- another is its first word and its options
 module _ (strip : Bool) (area : List ℕ) (h : 4 < length area) where
@@ -380,10 +434,18 @@ module _ (strip : Bool) (area : List ℕ) (h : 4 < length area) where
             let written : w .written ≡ octetsOf (optionsSent strip os) = cc in
             rw (area-sent os f, ← written) (joined word (w .wrote c before)));
         few = λ c e. w .few c (summed-read area read c (sym is ∙ e));
-        wide = w .wide;
+        wide = λ c e. w .wide;
       }
 
-pub ruleset read-area-laws = (needs, short-kept, word-long, word-lent, word-wide, area-kept)
+-- by the strip flag
+module _ (strip : Bool) (area kept kept′ : List ℕ) (r : AreaRead) where
+  pub kept-plain : not strip ≡ true → AreaKept false area kept kept′ r → AreaKept strip area kept kept′ r
+  kept-plain n x = rw (not-true strip n) x
+
+  pub kept-stripped : not strip ≡ false → AreaKept true area kept kept′ r → AreaKept strip area kept kept′ r
+  kept-stripped n x = rw (not-false strip n) x
+
+pub ruleset read-area-laws = (needs, kept-plain, kept-stripped, short-kept, word-long, word-lent, word-wide, area-kept)
 
 -- 20, as the code finds it
 module _ (egress : Bool) (area : List ℕ) (b : Bool) (is : b ≡ chbh area) where

@@ -19,9 +19,9 @@ use Rattle.octets.specs.Copy.{Wrote}
 use Rattle.handler.specs
 use specs.declared.validation.Validated.{Validated}
 use specs.declared.way.{Own.Own, Lookup.Lookup, WayOut.WayOut}
-use specs.{Shapes.linkSize, Shapes.waysBy, Shapes.onlyFor, Shapes.Owns, Shapes.WayDone, Keys.lookupBy, Keys.ValidatedBy}
+use specs.{Shapes.linkSize, Shapes.waysBy, Shapes.onlyFor, Shapes.Owns, Shapes.WayDone, Ranks.lookupBy, Ranks.ValidatedBy}
 use Rattle.stores.specs.Store.{storeGood, waysIn, wayOutIn, Whole}
-use Rattle.stores.proofs.PlaceLaws.{good-whole}
+use Rattle.stores.proofs.IndexLaws.{good-whole}
 use Rattle.handler.proofs.CallLaws.{settings-none, settings-some, validated-lookup}
 use Rattle.rules.specs.WayOut as W
 

@@ -1,6 +1,6 @@
 -- What the contracts of `handler` cite beside the rules.
 pub mod Shapes
 pub mod Tasks
-pub mod Keys
+pub mod Ranks
 pub mod Treatment
 pub mod Calls

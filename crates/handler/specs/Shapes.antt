@@ -127,7 +127,7 @@ pub record AreaWords (area : List ℕ) : Type 0 where
   pub whole : length area % 4 ≡ 0
 
 -- a place in an area, behind its first word; what is kept never ends further on than what is read
-pub record Place (area : List ℕ) (c : Cursor) : Type 0 where
+pub record CursorIn (area : List ℕ) (c : Cursor) : Type 0 where
   pub words : AreaWords area
   pub from : 4 ≤ c .at
   pub aligned : c .at % 4 ≡ 0
@@ -186,6 +186,11 @@ pub record AreaWalked (strip : Bool) (area kept kept′ : List ℕ) (r : AreaRea
   pub few : (c : Cursor) → r ≡ Read c → c .to ≤ 124
   pub wide : length kept′ ≡ 124
 
+-- the same with nothing written
+pub record OptionsChecked (area : List ℕ) (r : AreaRead) : Type 0 where
+  pub written : List ℕ
+  pub found : foundBy written r ≡ walkOf false false false [] (O.optionsOf area)
+
 -- 34 and 35
 abbrev pub summarizedBy : List ℕ → AreaRead → AreaRead
 summarizedBy area (Faulty number place) = Faulty number place
@@ -203,24 +208,25 @@ pub record AreaKept (strip : Bool) (area kept kept′ : List ℕ) (r : AreaRead)
   pub read : areaReadOf r ≡ O.draftRead area
   pub wrote : (c : Cursor) → r ≡ Read c → Wrote (sentOf strip area) 0 (c .to) kept kept′
   pub few : (c : Cursor) → r ≡ Read c → c .to ≤ 124
-  pub wide : length kept′ ≡ 124
+  pub wide : (c : Cursor) → r ≡ Read c → length kept′ ≡ 124
 
--- a link header's outer tag and Ethertype, how long the header is, and the octets of a TRILL header
-abbrev pub taggedOctets : ℕ → List ℕ
-taggedOctets vlan = octets16 ethertypeTag ++ octets16 vlan ++ octets16 ethertypeTrill
-
+-- how long a link header is
 abbrev pub linkSize : ℕ → ℕ
 linkSize vlan = if eqb vlan 0 then 14 else 18
 
--- the 28 octets of a reply between its link header and its body: before our own MAC and behind it, and all
-abbrev pub replyHead : ℕ → ℕ → List ℕ
-replyHead nickname ingress = octets16 0x003F ++ octets16 ingress ++ octets16 nickname ++ octets48 allEgressRBridges
-
-abbrev pub replyChannel : ℕ → ℕ → List ℕ
-replyChannel number code = octets16 ethertypeTag ++ octets16 0x0001 ++ octets16 ethertypeChannel ++ octets16 number ++ octets16 (0xC000 + code)
-
+-- the 28 octets of a reply between its link header and its body
 abbrev pub replyOctets : Own → ℕ → ℕ → ℕ → List ℕ
-replyOctets own ingress number code = replyHead (own .nickname) ingress ++ octets48 (own .word / 65536) ++ replyChannel number code
+replyOctets own ingress number code =
+    octets16 0x003F
+    ++ octets16 ingress
+    ++ octets16 (own .nickname)
+    ++ octets48 allEgressRBridges
+    ++ octets48 (own .word / 65536)
+    ++ octets16 ethertypeTag
+    ++ octets16 0x0001
+    ++ octets16 ethertypeChannel
+    ++ octets16 number
+    ++ octets16 (0xC000 + code)
 
 -- a forwarded frame behind its link header, with the area as it is sent
 abbrev pub sentBy : ℕ → ℕ → ℕ

@@ -29,7 +29,7 @@ use Rattle.handler.specs.declared.options.AreaRead.the-variants.{Read}
 use Rattle.handler.specs.declared.handling.Local.{Local}
 use Rattle.handler.specs.declared.handling.Local.the-variants.{Dropped, Answered, Message}
 use Rattle.handler.specs.declared.handling.Task.{Task}
-use Rattle.handler.specs.declared.handling.Task.the-variants.{Ended, Forward}
+use Rattle.handler.specs.declared.handling.Task.the-variants.{Stopped, Forward}
 use Rattle.handler.specs.declared.handling.Received.{Received}
 use Rattle.handler.specs.declared.handling.Received.the-variants as R
 use Rattle.handler.specs.Shapes.{answerOf, Owns, areaReadOf, sentOf, Ready, Done}
@@ -72,7 +72,7 @@ localAt S clock f h (Answered number start size) = A.delivered number start size
 localAt S clock f h Message = messaged S clock f h
 
 abbrev pub doneAt : Ways → List ℕ → List ℕ → Header → Task → A.Handled
-doneAt S clock f h (Ended local) = localAt S clock f h local
+doneAt S clock f h (Stopped number place) = A.droppedAt number place
 doneAt S clock f h (Forward alert size) = transitAt S clock f h alert
 
 -- transit without what is replied to an alert: a fault is dropped while no reply is made
@@ -130,45 +130,34 @@ pub record Comes (f : List ℕ) (h : Header) (local : Local) : Type 0 where
   pub same : (S : Ways) (clock : List ℕ) → decapsulated S clock f h ≡ localAt S clock f h local
   pub ends : Ends local
 
--- a task: what is known of it, and that it is that of our role
+-- what is known of a task
 abbrev pub Left : List ℕ → Header → Task → Type 0
-Left f h (Ended local) = Ends local
+Left f h (Stopped number place) = place ≤ 2048
 Left f h (Forward alert size) = Forwardable f h alert
-
-abbrev pub LocalRole : ℕ → Header → Local → Type 0
-LocalRole nickname h (Dropped number) = Unit {0}
-LocalRole nickname h (Answered number start size) = Unit {0}
-LocalRole nickname h Message = weAreEgress nickname h ≡ true
-
-abbrev pub Role : ℕ → Header → Task → Type 0
-Role nickname h (Ended local) = LocalRole nickname h local
-Role nickname h (Forward alert size) = weAreEgress nickname h ≡ false
 
 -- how many octets it sends of its area, and that they are put aside
 abbrev pub Sized : ℕ → Task → Type 0
-Sized size (Ended local) = Unit {0}
+Sized size (Stopped number place) = Unit {0}
 Sized size (Forward alert n) = n ≡ size
 
 abbrev pub Aside : Bool → Bool → List ℕ → Header → List ℕ → Task → Type 0
-Aside rfc7179 strip f h kept (Ended local) = Unit {0}
+Aside rfc7179 strip f h kept (Stopped number place) = Unit {0}
 Aside rfc7179 strip f h kept (Forward alert size) = PutAside (sentOf (strip && not rfc7179) (areaOf f h)) kept size
 
--- a frame that was received comes to a task, at every switch of a nickname and an edition: once its area is read, and as a whole
-pub record RoutesRead (nickname : ℕ) (rfc7179 : Bool) (size : ℕ) (f : List ℕ) (h : Header) (t : Task) : Type 0 where
-  pub same : (S : Ways) (clock : List ℕ) → nickname ≡ S .nickname → rfc7179 ≡ S .rfc7179 → routed S clock f h ≡ doneAt S clock f h t
+-- a frame with an area comes to a task, at every switch of an edition that is not its egress: once the area is read, and as a whole
+pub record RoutesRead (rfc7179 : Bool) (size : ℕ) (f : List ℕ) (h : Header) (t : Task) : Type 0 where
+  pub same : (S : Ways) (clock : List ℕ) → weAreEgress (S .nickname) h ≡ false → rfc7179 ≡ S .rfc7179 → routed S clock f h ≡ doneAt S clock f h t
   pub left : Left f h t
-  pub role : Role nickname h t
   pub sized : Sized size t
 
-pub record Routes (nickname : ℕ) (rfc7179 strip : Bool) (f : List ℕ) (h : Header) (kept : List ℕ) (t : Task) : Type 0 where
-  pub same : (S : Ways) (clock : List ℕ) → nickname ≡ S .nickname → rfc7179 ≡ S .rfc7179 → routed S clock f h ≡ doneAt S clock f h t
+pub record Routes (rfc7179 strip : Bool) (f : List ℕ) (h : Header) (kept : List ℕ) (t : Task) : Type 0 where
+  pub same : (S : Ways) (clock : List ℕ) → weAreEgress (S .nickname) h ≡ false → rfc7179 ≡ S .rfc7179 → routed S clock f h ≡ doneAt S clock f h t
   pub left : Left f h t
-  pub role : Role nickname h t
   pub aside : Aside rfc7179 strip f h kept t
 
--- a frame to us comes to an answer with nothing to forward, at every switch of an edition that is its egress
+-- and at one that is its egress, to an answer with nothing to forward
 pub record Arrives (rfc7179 : Bool) (f : List ℕ) (h : Header) (local : Local) : Type 0 where
-  pub task : (nickname : ℕ) → weAreEgress nickname h ≡ true → RoutesRead nickname rfc7179 0 f h (Ended local)
+  pub same : (S : Ways) (clock : List ℕ) → weAreEgress (S .nickname) h ≡ true → rfc7179 ≡ S .rfc7179 → routed S clock f h ≡ localAt S clock f h local
   pub ends : Ends local
 
 -- a frame as received, at every switch of a nickname and MAC

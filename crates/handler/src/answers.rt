@@ -85,6 +85,21 @@ pub fn copy_of(a: Answer) -> Answer
     }
 }
 
+// The same of an answer to a message, which delivers nothing and has no reply beside it: the fewer fields are read where they were just stored.
+pub fn copy_of_reply(a: Answer) -> Answer
+    ensures { λ r. ⌜ r ≡ wroteBy (a .number) (a .written) (a .neighbour) ⌝ }
+{
+    Answer {
+        number: a.number,
+        written: a.written,
+        start: 0,
+        length: 0,
+        neighbour: a.neighbour,
+        beside: 0,
+        beside_neighbour: 0,
+    }
+}
+
 // With a reply beside it.
 pub fn with_beside(a: Answer, reply: Answer) -> Answer
     ensures { λ r. ⌜ r ≡ besideBy a reply ⌝ }

@@ -4,7 +4,6 @@ use rules::Header;
 ghost use mathlib.Core.Path.{_≡_};
 ghost use Prim.Native.Nat.{_+_, _≤_, _<_};
 ghost use lib.ListN.{length};
-ghost use Rattle.rules.specs.Octets.{octets16};
 ghost use Rattle.rules.specs.Header.{hopCount, areaOf};
 ghost use Rattle.octets.specs.Copy.{Wrote};
 ghost use Rattle.handler.specs.Shapes.{sentBy, headerSent, Fits, restWith};
@@ -23,20 +22,12 @@ fn sent_word(w: u16, words: u16) -> u16
     )
 }
 
-fn word_octets(w: u16, words: u16) -> [u8; 2]
-    requires { ⌜ (words < 32) × (0 < hopCount w) ⌝ }
-    ensures { λ r. ⌜ r ≡ octets16 (sentBy w words) ⌝ }
-{
-    let sent = sent_word(w, words);
-    [octets::high(sent), octets::low(sent)]
-}
-
 // The header from `at` on, the nicknames as they were received; says where it ends.
 fn write_header(f: &[u8], h: Header, words: u16, out: &mut [u8], at: usize) -> usize
     requires { ⌜ (h .place + 6 ≤ length (now f)) × (words < 32) × (0 < hopCount (h .word)) × (at + 6 ≤ length (now out)) ⌝ }
     ensures { λ r. ⌜ Wrote (headerSent (now (f .entry)) h words) at r (now (out .entry)) (now (out .exit)) ⌝ }
 {
-    let word = word_octets(h.word, words);
+    let word = octets::two(sent_word(h.word, words));
     let at = octets::copy(out, at, &word);
     let egress = h.place + 2;
     octets::copy(out, at, &f[egress..egress + 4])
@@ -58,7 +49,7 @@ pub fn forward_whole(f: &[u8], h: Header, out: &mut [u8], at: usize) -> usize
     requires { ⌜ Fits (areaOf (now f) h) (now f) h (now out) at ⌝ }
     ensures { λ r. ⌜ Wrote (restWith (areaOf (now (f .entry)) h) (now (f .entry)) h) at r (now (out .entry)) (now (out .exit)) ⌝ }
 {
-    let word = word_octets(h.word, header::op_length(h.word));
+    let word = octets::two(sent_word(h.word, header::op_length(h.word)));
     let at = octets::copy(out, at, &word);
     let egress = h.place + 2;
     octets::copy(out, at, &f[egress..])

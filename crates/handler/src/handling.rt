@@ -28,7 +28,7 @@ ghost use Rattle.rules.specs.Extension.{areaSent};
 ghost use Rattle.rules.specs.Handling as Rules;
 ghost use Rattle.rules.specs.declared.FrameRead.the-variants.{Trill};
 ghost use Rattle.rules.specs.declared.Alert.the-variants.{NoAlert};
-ghost use Rattle.handler.specs.Shapes.{AreaWords, Ready, Replied, Sends, Done, waysBy};
+ghost use Rattle.handler.specs.Shapes.{AreaWords, areaReadOf, Ready, Replied, Sends, Done, waysBy};
 ghost use Rattle.handler.specs.Tasks.{areaReadBy, ReadBy, stopsBy, alertBy, alertRefusal, wantedBy, askedBy, asksBack, transitQuiet, messaged};
 ghost use Rattle.handler.specs.Tasks.{EchoIn, Comes, RoutesRead, Routes, Arrives, Receives, Receiving};
 
@@ -52,9 +52,10 @@ pub enum Local {
     Message,
 }
 
-// That, or a frame to forward: its alert, and how many octets are sent of its area.
+// What a transit frame with an area comes to: the number that drops it, with the place of an option at fault; or its alert, and how many octets are
+// sent of its area.
 pub enum Task {
-    Ended(Local),
+    Stopped { number: u8, place: usize },
     Forward { alert: Alert, size: usize },
 }
 
@@ -126,6 +127,23 @@ fn read_area(rfc7179: bool, strip: bool, area: &[u8], kept: &mut [u8; 124]) -> A
         };
     }
     options::keep_all(area, kept)
+}
+
+// The same at the egress, where nothing is sent.
+fn check_area(rfc7179: bool, area: &[u8]) -> AreaRead
+    requires { ⌜ AreaWords (now area) ⌝ }
+    ensures { λ r. ⌜ areaReadOf r ≡ areaReadBy rfc7179 (now (area .entry)) ⌝ }
+{
+    if !rfc7179 {
+        return options::check_area(area);
+    }
+    if extension::refused(octets::be32(area, 0), area.len() == 4) {
+        return AreaRead::Faulty {
+            number: 38,
+            place: 0,
+        };
+    }
+    AreaRead::Read(options::START)
 }
 
 // 20, by the edition.
@@ -204,17 +222,16 @@ fn alert_of(rfc7179: bool, area: &[u8], inner: &[u8]) -> Alert
     )
 }
 
-// 20, then by our role, once the area is read; `size` octets are sent of it.
-fn route_read(nickname: u16, rfc7179: bool, area: &[u8], size: usize, f: &[u8], h: Header) -> Task
+// 20, once the area is read; `size` octets are sent of it.
+fn route_read(rfc7179: bool, area: &[u8], size: usize, f: &[u8], h: Header) -> Task
     requires { ⌜ Ready (now f) h × (now area ≡ areaOf (now f) h) × (areaReadBy rfc7179 (now area) ≡ WellFormed) ⌝ }
-    ensures { λ r. ⌜ RoutesRead nickname rfc7179 size (now (f .entry)) h r ⌝ }
+    ensures { λ r. ⌜ RoutesRead rfc7179 size (now (f .entry)) h r ⌝ }
 {
-    let egress = header::we_are_egress(nickname, h);
-    if area_stops(rfc7179, egress, area) {
-        return Task::Ended(Local::Dropped { number: 20 });
-    }
-    if egress {
-        return Task::Ended(decapsulated(f, h));
+    if area_stops(rfc7179, false, area) {
+        return Task::Stopped {
+            number: 20,
+            place: 0,
+        };
     }
     let inner = header::inner_start(h);
     Task::Forward {
@@ -223,29 +240,21 @@ fn route_read(nickname: u16, rfc7179: bool, area: &[u8], size: usize, f: &[u8], 
     }
 }
 
-// 30 to 35 or 38 of a frame with an area, then the rest. What is sent of the area is put into `kept`.
-pub fn route(
-    nickname: u16,
-    rfc7179: bool,
-    strip: bool,
-    f: &[u8],
-    h: Header,
-    kept: &mut [u8; 124],
-) -> Task
+// A transit frame with an area: 30 to 35 or 38, then the rest. What is sent of the area is put into `kept`.
+pub fn route(rfc7179: bool, strip: bool, f: &[u8], h: Header, kept: &mut [u8; 124]) -> Task
     requires { ⌜ Ready (now f) h ⌝ }
-    ensures { λ r. ⌜ Routes nickname rfc7179 strip (now (f .entry)) h (now (kept .exit)) r ⌝ }
+    ensures { λ r. ⌜ Routes rfc7179 strip (now (f .entry)) h (now (kept .exit)) r ⌝ }
 {
     let start = h.place + 6;
     let inner = header::inner_start(h);
     let area = &f[start..inner];
     let read = read_area(rfc7179, strip, area, kept);
     match read {
-        AreaRead::Faulty { number, place } => Task::Ended(Local::Answered {
+        AreaRead::Faulty { number, place } => Task::Stopped {
             number: number,
-            start: place,
-            length: 0,
-        }),
-        AreaRead::Read(c) => route_read(nickname, rfc7179, area, c.to, f, h),
+            place: place,
+        },
+        AreaRead::Read(c) => route_read(rfc7179, area, c.to, f, h),
     }
 }
 
@@ -260,8 +269,7 @@ pub fn at_egress(rfc7179: bool, f: &[u8], h: Header) -> Local
     let start = h.place + 6;
     let inner = header::inner_start(h);
     let area = &f[start..inner];
-    let mut kept = [0u8; 124];
-    let read = read_area(rfc7179, false, area, &mut kept);
+    let read = check_area(rfc7179, area);
     match read {
         AreaRead::Faulty { number, place } => Local::Answered {
             number: number,

@@ -23,19 +23,19 @@ use rules::Alert;
 use rules::Header;
 pub use way::WayOut;
 ghost use mathlib.Core.Path.{_≡_};
-ghost use mathlib.Core.Bool.{true};
+ghost use mathlib.Core.Bool.{true, false};
 ghost use Prim.Native.Nat.{_≤_};
 ghost use lib.ListN.{length};
 ghost use Rattle.rules.specs.WayOut.{wayOut};
 ghost use Rattle.rules.specs.Settings.{settingsOf, settingsRead, waysOf};
 ghost use Rattle.rules.specs.Campus.{known};
-ghost use Rattle.rules.specs.Header.{opLength};
+ghost use Rattle.rules.specs.Header.{opLength, weAreEgress};
 ghost use Rattle.rules.specs.Handling.{routed, handled};
 ghost use Rattle.rules.specs.declared.Alert.the-variants.{NoAlert};
 ghost use Rattle.stores.specs.Store.{handledIn, wayOutIn, waysIn, Whole};
 ghost use Rattle.handler.specs.Shapes.{Owns, waysBy, Ready, Sends, Done, WayDone};
 ghost use Rattle.handler.specs.Tasks.{wantedBy, asksBack, transitQuiet, transitAt, messaged, localAt, Ends, Forwardable, Replies, RepliesBy, Both};
-ghost use Rattle.handler.specs.Keys.{lookupBy};
+ghost use Rattle.handler.specs.Ranks.{lookupBy};
 ghost use Rattle.handler.specs.Calls.{LookupOf};
 
 // The same octets, or words, lent on: where they lie is then stored where they are handed to a function that stays apart, and not for every frame.
@@ -106,10 +106,10 @@ fn handle_by(
     let clock = reborrow(clock);
     let frame = reborrow(frame);
     if j.rfc7179 {
-        let a = area_by(settings, own, j, true, clock, frame, h, out, beside);
+        let a = route_by(settings, own, j, true, clock, frame, h, out, beside);
         return answers::copy_of(a);
     }
-    let a = area_by(settings, own, j, false, clock, frame, h, out, beside);
+    let a = route_by(settings, own, j, false, clock, frame, h, out, beside);
     answers::copy_of(a)
 }
 
@@ -159,7 +159,7 @@ fn apart_by(own: Own, j: Validated, clock: &[u8], frame: &[u8], h: Header, out: 
         header::copy_of(h),
         out,
     );
-    answers::copy_of(a)
+    answers::copy_of_reply(a)
 }
 
 // A channel message. As long as a reply can be the buffer's length is known when this is compiled.
@@ -178,8 +178,8 @@ fn message_by(
     handling::message(t, clock, frame, h, &mut out[..576])
 }
 
-// With an area.
-fn area_by(
+// In transit, with an area.
+fn route_by(
     settings: &[u8],
     own: Own,
     j: Validated,
@@ -190,15 +190,15 @@ fn area_by(
     out: &mut [u8],
     beside: &mut [u8],
 ) -> Answer
-    requires { ⌜ LookupOf (now settings) (wantedBy (own .nickname) h) (lookupBy own j) × (rfc7179 ≡ j .rfc7179) × Ready (now frame) h
-        × (length (now clock) ≡ 6) × (2048 ≤ length (now out)) × (576 ≤ length (now beside)) ⌝ }
+    requires { ⌜ LookupOf (now settings) (h .egress) (lookupBy own j) × (weAreEgress (own .nickname) h ≡ false) × (rfc7179 ≡ j .rfc7179)
+        × Ready (now frame) h × (length (now clock) ≡ 6) × (2048 ≤ length (now out)) × (576 ≤ length (now beside)) ⌝ }
     ensures { λ r. ⌜ Both (routed (waysOf (settingsRead (now (settings .entry)))) (now (clock .entry)) (now (frame .entry)) h) r
         (now (out .entry)) (now (out .exit)) (now (beside .entry)) (now (beside .exit)) ⌝ }
 {
     let mut kept = [0u8; 124];
-    let task = handling::route(own.nickname, rfc7179, j.strip, frame, h, &mut kept);
+    let task = handling::route(rfc7179, j.strip, frame, h, &mut kept);
     match task {
-        Task::Ended(local) => local_by(own, j, clock, frame, h, local, out),
+        Task::Stopped { number, place } => answers::unwritten(number, place, 0),
         Task::Forward { alert, size } => forward_by(
             settings,
             own,
@@ -375,8 +375,8 @@ fn plain_in(
         let local = handling::decapsulated(frame, h);
         return local_in(store, own, clock, frame, h, local, out);
     }
-    let place = store::place_inlined(store, h.egress);
-    let t = store::lookup(store, own, h.egress, place);
+    let index = store::index_inlined(store, h.egress);
+    let t = store::lookup(store, own, h.egress, index);
     handling::forward(t, frame, h, out)
 }
 
@@ -424,7 +424,7 @@ fn apart_in(
         header::copy_of(h),
         out,
     );
-    answers::copy_of(a)
+    answers::copy_of_reply(a)
 }
 
 // A channel message.
@@ -439,8 +439,8 @@ fn message_in(
     requires { ⌜ Whole (now store) × Owns own (waysIn (now store)) × Ready (now frame) h × (length (now clock) ≡ 6) × (576 ≤ length (now out)) ⌝ }
     ensures { λ r. ⌜ Done (messaged (waysIn (now (store .entry))) (now (clock .entry)) (now (frame .entry)) h) r (now (out .entry)) (now (out .exit)) ⌝ }
 {
-    let place = store::place_in(reborrow_words(store), h.ingress);
-    let t = store::lookup(store, own, h.ingress, place);
+    let index = store::index_in(reborrow_words(store), h.ingress);
+    let t = store::lookup(store, own, h.ingress, index);
     handling::message(t, clock, frame, h, &mut out[..576])
 }
 
@@ -460,17 +460,33 @@ fn area_in(
     ensures { λ r. ⌜ Both (routed (waysIn (now (store .entry))) (now (clock .entry)) (now (frame .entry)) h) r
         (now (out .entry)) (now (out .exit)) (now (beside .entry)) (now (beside .exit)) ⌝ }
 {
+    if header::we_are_egress(own.nickname, h) {
+        let local = handling::at_egress(rfc7179, frame, h);
+        return local_in(store, own, clock, frame, h, local, out);
+    }
+    route_in(store, own, rfc7179, clock, frame, h, out, beside)
+}
+
+// In transit, with an area.
+fn route_in(
+    store: &[u64],
+    own: Own,
+    rfc7179: bool,
+    clock: &[u8],
+    frame: &[u8],
+    h: Header,
+    out: &mut [u8],
+    beside: &mut [u8],
+) -> Answer
+    requires { ⌜ Whole (now store) × Owns own (waysIn (now store)) × (weAreEgress (waysIn (now store) .nickname) h ≡ false)
+        × (rfc7179 ≡ waysIn (now store) .rfc7179) × Ready (now frame) h × (length (now clock) ≡ 6) × (2048 ≤ length (now out)) × (576 ≤ length (now beside)) ⌝ }
+    ensures { λ r. ⌜ Both (routed (waysIn (now (store .entry))) (now (clock .entry)) (now (frame .entry)) h) r
+        (now (out .entry)) (now (out .exit)) (now (beside .entry)) (now (beside .exit)) ⌝ }
+{
     let mut kept = [0u8; 124];
-    let task = handling::route(
-        own.nickname,
-        rfc7179,
-        store::strip(store),
-        frame,
-        h,
-        &mut kept,
-    );
+    let task = handling::route(rfc7179, store::strip(store), frame, h, &mut kept);
     match task {
-        Task::Ended(local) => local_in(store, own, clock, frame, h, local, out),
+        Task::Stopped { number, place } => answers::unwritten(number, place, 0),
         Task::Forward { alert, size } => forward_in(
             store,
             own,
@@ -520,8 +536,8 @@ fn transit_in(
         × (2048 ≤ length (now out)) ⌝ }
     ensures { λ r. ⌜ Done (transitQuiet (waysIn (now (store .entry))) (now (frame .entry)) h alert) r (now (out .entry)) (now (out .exit)) ⌝ }
 {
-    let place = store::place_in(store, h.egress);
-    let t = store::lookup(store, own, h.egress, place);
+    let index = store::index_in(store, h.egress);
+    let t = store::lookup(store, own, h.egress, index);
     handling::transit(t, frame, h, alert, area, out)
 }
 
@@ -594,7 +610,7 @@ pub fn way_out_prepared(store: &[u64], destination: u16, out: &mut [u8]) -> WayO
         return way::no_way(1);
     }
     let own = store::own_of(store);
-    let place = store::place_in(store, destination);
-    let t = store::lookup(store, own, destination, place);
+    let index = store::index_in(store, destination);
+    let t = store::lookup(store, own, destination, index);
     way::way_out(t, out)
 }

@@ -1,12 +1,12 @@
 // The options area (source document 001): one option, and the walk over all, which puts aside what is sent of the area.
 use crate::treatment;
 ghost use mathlib.Core.Path.{_≡_};
-ghost use mathlib.Core.Bool.{_||_, _&&_, not};
+ghost use mathlib.Core.Bool.{true, false, _||_, _&&_, not};
 ghost use Prim.Native.Nat.{_+_, _%_, _<_, _≤_};
 ghost use lib.ListN.{length};
 ghost use Rattle.rules.specs.Octets.{if_then_else_, put};
 ghost use Rattle.rules.specs.Options as O;
-ghost use Rattle.handler.specs.Shapes.{AreaWords, Place, WholeOption, cursorBy, readBy, summarizedBy, AreaWalked, AreaKept, AllKept};
+ghost use Rattle.handler.specs.Shapes.{AreaWords, CursorIn, WholeOption, cursorBy, readBy, areaReadOf, summarizedBy, AreaWalked, OptionsChecked, AreaKept, AllKept};
 ghost use Rattle.handler.specs.Treatment.{Treats};
 
 const LENGTH_RESERVED: u8 = 119;
@@ -91,7 +91,7 @@ fn behind(table: &[u64; 32], strip: bool, c: Cursor, key: u16, n: u8) -> Cursor
 // One option: the cursor behind it, or a fault. An option of a reserved Length is past any area, and a key that is not above the one before is
 // below it or equal, so that one test finds 30 and 31, and one 32 and 33.
 fn option_at(area: &[u8], table: &[u64; 32], strip: bool, c: Cursor) -> AreaRead
-    requires { ⌜ Place (now area) c × (c .at < length (now area)) × Treats (now table) ⌝ }
+    requires { ⌜ CursorIn (now area) c × (c .at < length (now area)) × Treats (now table) ⌝ }
     ensures { λ r. ⌜ r ≡ readBy strip c (O.optionAt (now (area .entry)) (c .floor) (c .at)) ⌝ }
 {
     let at = c.at;
@@ -126,14 +126,14 @@ fn option_at(area: &[u8], table: &[u64; 32], strip: bool, c: Cursor) -> AreaRead
     AreaRead::Read(behind(table, strip, c, key, n))
 }
 
-// All options, or the first fault; those that are kept are written behind the first word.
-fn walk_area(area: &[u8], table: &[u64; 32], strip: bool, kept: &mut [u8; 124]) -> AreaRead
+// All options, or the first fault; those that are not stripped are written behind the first word.
+fn walk_area(area: &[u8], table: &[u64; 32], kept: &mut [u8; 124]) -> AreaRead
     requires { ⌜ AreaWords (now area) × (4 < length (now area)) × (length (now kept) ≡ 124) × Treats (now table) ⌝ }
-    ensures { λ r. ⌜ AreaWalked strip (now (area .entry)) (now (kept .entry)) (now (kept .exit)) r ⌝ }
+    ensures { λ r. ⌜ AreaWalked true (now (area .entry)) (now (kept .entry)) (now (kept .exit)) r ⌝ }
 {
     let mut c = START;
     while c.at < area.len() {
-        let read = option_at(area, table, strip, c);
+        let read = option_at(area, table, true, c);
         let AreaRead::Read(next) = read else {
             return read;
         };
@@ -141,6 +141,22 @@ fn walk_area(area: &[u8], table: &[u64; 32], strip: bool, kept: &mut [u8; 124]) 
         // Where it began, if it is stripped.
         let end = at + (next.to - c.to);
         put_words(kept, c.to, &area[at..end]);
+        c = next;
+    }
+    AreaRead::Read(c)
+}
+
+// All options, or the first fault, with nothing written.
+fn check_options(area: &[u8], table: &[u64; 32]) -> AreaRead
+    requires { ⌜ AreaWords (now area) × (4 < length (now area)) × Treats (now table) ⌝ }
+    ensures { λ r. ⌜ OptionsChecked (now (area .entry)) r ⌝ }
+{
+    let mut c = START;
+    while c.at < area.len() {
+        let read = option_at(area, table, false, c);
+        let AreaRead::Read(next) = read else {
+            return read;
+        };
         c = next;
     }
     AreaRead::Read(c)
@@ -186,17 +202,44 @@ fn summarized(area: &[u8], read: AreaRead) -> AreaRead
     read
 }
 
-// The whole area, or the first fault. What is sent of it, which is all of it unless options are stripped, is put into `kept`.
+// The whole area, or the first fault.
+pub fn check_area(area: &[u8]) -> AreaRead
+    requires { ⌜ AreaWords (now area) ⌝ }
+    ensures { λ r. ⌜ areaReadOf r ≡ O.draftRead (now (area .entry)) ⌝ }
+{
+    if area.len() <= 4 {
+        return AreaRead::Read(START);
+    }
+    let table = treatment::treatments();
+    summarized(area, check_options(area, &table))
+}
+
+// The same, and what is sent of the area is put into `kept`: all of it, or what is not stripped.
 pub fn read_area(area: &[u8], strip: bool, kept: &mut [u8; 124]) -> AreaRead
     requires { ⌜ AreaWords (now area) ⌝ }
     ensures { λ r. ⌜ AreaKept strip (now (area .entry)) (now (kept .entry)) (now (kept .exit)) r ⌝ }
 {
+    if !strip {
+        return keep_checked(area, kept);
+    }
     if area.len() <= 4 {
         return keep_all(area, kept);
     }
     let table = treatment::treatments();
     put_word(kept, 0, &area[..4]);
-    summarized(area, walk_area(area, &table, strip, kept))
+    summarized(area, walk_area(area, &table, kept))
+}
+
+// All of the area is sent, if it has no fault.
+fn keep_checked(area: &[u8], kept: &mut [u8; 124]) -> AreaRead
+    requires { ⌜ AreaWords (now area) ⌝ }
+    ensures { λ r. ⌜ AreaKept false (now (area .entry)) (now (kept .entry)) (now (kept .exit)) r ⌝ }
+{
+    let read = check_area(area);
+    let AreaRead::Read(_) = read else {
+        return read;
+    };
+    keep_all(area, kept)
 }
 
 // All of the area is sent.

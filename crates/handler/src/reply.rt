@@ -10,57 +10,32 @@ ghost use mathlib.Core.List.{_++_};
 ghost use lib.ListN.{length};
 ghost use Rattle.rules.specs.Channel.{errorBody, echoBody, errorReply, echoReply};
 ghost use Rattle.octets.specs.Copy.{Wrote};
-ghost use Rattle.handler.specs.Shapes.{replyHead, replyChannel, replyOctets, waysBy, Ready, Replied};
+ghost use Rattle.handler.specs.Shapes.{replyOctets, waysBy, Ready, Replied};
 
-// Before our own MAC: the first TRILL word, the nicknames, All-Egress-RBridges.
-fn head_octets(nickname: u16, ingress: u16) -> [u8; 12]
-    ensures { λ r. ⌜ r ≡ replyHead nickname ingress ⌝ }
-{
-    [
-        0x00,
-        0x3F,
-        octets::high(ingress),
-        octets::low(ingress),
-        octets::high(nickname),
-        octets::low(nickname),
-        0x01,
-        0x80,
-        0xC2,
-        0x00,
-        0x00,
-        0x42,
-    ]
-}
+// "first TRILL word 0x003F .. 0x8100, 0x0001, 0x8946, protocol word, flags and ERR word 0xC000 plus the code"
+const FIRST_WORD: u16 = 0x003F;
 
-// Behind it: the tag, and the channel's Ethertype and header.
-fn channel_octets(protocol: u16, code: u8) -> [u8; 10]
-    ensures { λ r. ⌜ r ≡ replyChannel protocol code ⌝ }
-{
-    [
-        0x81,
-        0x00,
-        0x00,
-        0x01,
-        0x89,
-        0x46,
-        octets::high(protocol),
-        octets::low(protocol),
-        0xC0,
-        code,
-    ]
-}
+const INNER_VLAN: u16 = 0x0001;
+
+const FLAGS: u16 = 0xC000;
 
 // From the first TRILL word to the flags and ERR word, from `at` on; says where it ends.
 fn write_head(own: Own, ingress: u16, protocol: u16, code: u8, out: &mut [u8], at: usize) -> usize
     requires { ⌜ at + 28 ≤ length (now out) ⌝ }
     ensures { λ r. ⌜ Wrote (replyOctets own ingress protocol code) at r (now (out .entry)) (now (out .exit)) ⌝ }
 {
-    let head = head_octets(own.nickname, ingress);
-    let at = octets::copy(out, at, &head);
-    let mac = octets::eight(own.word);
-    let end = octets::copy(out, at, &mac);
-    let channel = channel_octets(protocol, code);
-    octets::copy(out, end - 2, &channel)
+    let header = octets::four(FIRST_WORD, ingress, own.nickname, 0);
+    octets::copy(out, at, &header);
+    way::write_macs(rules::ALL_EGRESS_RBRIDGES, own.word, out, at + 6);
+    let channel = octets::four(
+        rules::ETHERTYPE_TAG,
+        INNER_VLAN,
+        rules::ETHERTYPE_CHANNEL,
+        protocol,
+    );
+    octets::copy(out, at + 18, &channel);
+    let flags = octets::two(FLAGS + code as u16);
+    octets::copy(out, at + 26, &flags)
 }
 
 // The received frame from its TRILL Ethertype on, at most 128 octets.

@@ -11,12 +11,7 @@ ghost use Rattle.handler.specs.Shapes.{Owns};
 pub fn own_of(s: &[u8]) -> Own
     ensures { λ r. ⌜ Owns r (S.waysOf (S.settingsRead (now (s .entry)))) ⌝ }
 {
-    let FieldRead::Taken {
-        tag: _,
-        length: _,
-        next,
-    } = octets::field_at(s, 0)
-    else {
+    let FieldRead::Taken { next, .. } = octets::field_at(s, 0) else {
         return Own {
             nickname: 0,
             word: 0,

@@ -9,7 +9,7 @@ ghost use mathlib.Core.Path.{_≡_};
 ghost use Prim.Native.Nat.{_+_, _*_, _/_, _%_, _^_, _≤_, _<_};
 ghost use lib.ListN.{length};
 ghost use Rattle.handler.specs.Shapes.{Owns, waysBy, onlyFor};
-ghost use Rattle.stores.specs.Store.{destOf, destAt, hopOf, stepped, searched, lastAt, hintAt, countIn, placeIn, hopFor, waysIn, storeGood, Whole};
+ghost use Rattle.stores.specs.Store.{destOf, destAt, hopOf, stepped, searched, lastAt, hintAt, countIn, indexIn, hopFor, waysIn, storeGood, Whole};
 
 // Words of any kind: a valid nickname, and no more records than 64 and than there are words for.
 pub fn good(w: &[u64]) -> bool
@@ -21,7 +21,7 @@ pub fn good(w: &[u64]) -> bool
     if w[0] == 0 {
         return false;
     }
-    if 0xFFBF < w[0] {
+    if (rules::NICKNAME_MOST as u64) < w[0] {
         return false;
     }
     if 64 < w[3] {
@@ -40,10 +40,10 @@ pub fn own_of(w: &[u64]) -> Own
     }
 }
 
-fn dest_of(key: u64) -> u16
-    ensures { λ r. ⌜ r ≡ destOf key ⌝ }
+fn dest_of(first: u64) -> u16
+    ensures { λ r. ⌜ r ≡ destOf first ⌝ }
 {
-    (key >> 48) as u16
+    (first >> 48) as u16
 }
 
 fn dest_at(w: &[u64], i: usize) -> u16
@@ -111,9 +111,9 @@ fn hint_at(w: &[u64], d: u16) -> usize
 }
 
 // Where the record that rules for `d` is, if there is one. A hint only spares the search.
-pub fn place_in(w: &[u64], d: u16) -> usize
+pub fn index_in(w: &[u64], d: u16) -> usize
     requires { ⌜ Whole (now w) ⌝ }
-    ensures { λ r. ⌜ r ≡ placeIn (now (w .entry)) (countIn (now (w .entry))) d ⌝ }
+    ensures { λ r. ⌜ r ≡ indexIn (now (w .entry)) (countIn (now (w .entry))) d ⌝ }
 {
     let n = w[3] as usize;
     let i = hint_at(w, d);
@@ -124,9 +124,9 @@ pub fn place_in(w: &[u64], d: u16) -> usize
 }
 
 // The same for a frame without an area, which is most: a function with one caller is put where it is called, and one with more is not.
-pub fn place_inlined(w: &[u64], d: u16) -> usize
+pub fn index_inlined(w: &[u64], d: u16) -> usize
     requires { ⌜ Whole (now w) ⌝ }
-    ensures { λ r. ⌜ r ≡ placeIn (now (w .entry)) (countIn (now (w .entry))) d ⌝ }
+    ensures { λ r. ⌜ r ≡ indexIn (now (w .entry)) (countIn (now (w .entry))) d ⌝ }
 {
     let n = w[3] as usize;
     let hint = hint_at(w, d);
@@ -136,15 +136,15 @@ pub fn place_inlined(w: &[u64], d: u16) -> usize
     search(w, n, d)
 }
 
-fn hop_of(key: u64, value: u64) -> NextHop
-    ensures { λ r. ⌜ r ≡ hopOf key value ⌝ }
+fn hop_of(first: u64, second: u64) -> NextHop
+    ensures { λ r. ⌜ r ≡ hopOf first second ⌝ }
 {
     NextHop {
-        destination: dest_of(key),
-        neighbour: (value % 65536) as u16,
-        mac: value >> 16,
-        serial: ((key >> 16) % 4294967296) as u32,
-        vlan: (key % 65536) as u16,
+        destination: dest_of(first),
+        neighbour: (second % 65536) as u16,
+        mac: second >> 16,
+        serial: ((first >> 16) % 4294967296) as u32,
+        vlan: (first % 65536) as u16,
     }
 }
 
@@ -179,16 +179,16 @@ pub fn strip(w: &[u64]) -> bool
     w[2] % 2 == 1
 }
 
-// What a handling looks up that asks for the next hop of `d`, by its place. Places are searched in one function and the rest is made where it
+// What a handling looks up that asks for the next hop of `d`, by its index. An index is searched in one function and the rest is made where it
 // is used, in registers.
-pub fn lookup(w: &[u64], own: Own, d: u16, place: usize) -> Lookup
-    requires { ⌜ Whole (now w) × Owns own (waysIn (now w)) × (place ≡ placeIn (now w) (countIn (now w)) d) ⌝ }
+pub fn lookup(w: &[u64], own: Own, d: u16, index: usize) -> Lookup
+    requires { ⌜ Whole (now w) × Owns own (waysIn (now w)) × (index ≡ indexIn (now w) (countIn (now w)) d) ⌝ }
     ensures { λ r. ⌜ waysBy r ≡ onlyFor d (waysIn (now (w .entry))) ⌝ }
 {
     Lookup {
         own: own,
         strip: strip(w),
         rfc7179: rfc7179(w),
-        hop: hop_for(w, w[3] as usize, d, place),
+        hop: hop_for(w, w[3] as usize, d, index),
     }
 }

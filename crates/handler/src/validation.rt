@@ -11,52 +11,52 @@ ghost use Prim.Native.Nat.{_<_, _≤_};
 ghost use lib.ListN.{length};
 ghost use Rattle.rules.specs.Fields.{field};
 ghost use Rattle.rules.specs.Settings.{hopOf};
-ghost use Rattle.handler.specs.Keys.{keyOf, mixOf, slotBy, markBy, coversBy, keyMet, keysMet, Kept, hopTaken, withKey, Taking, Scanned};
-ghost use Rattle.handler.specs.Keys.{lookupBy, ValidatedBy};
+ghost use Rattle.handler.specs.Ranks.{rankOf, mixOf, slotBy, markBy, coversBy, rankMet, ranksMet, Kept, hopTaken, withRank, Taking, Scanned};
+ghost use Rattle.handler.specs.Ranks.{lookupBy, ValidatedBy};
 ghost use Rattle.octets.specs.Flags.{flagTag};
 ghost use Rattle.octets.specs.Records.{hopBy};
 ghost use Rattle.stores.specs.Store.{unlessWithdrawn};
 ghost use Rattle.handler.specs.Shapes.{flaggedBy};
 
 // Destination above serial.
-fn key_of(r: Record) -> u64
-    ensures { λ k. ⌜ k ≡ keyOf (hopBy r) ⌝ }
+fn rank_of(r: Record) -> u64
+    ensures { λ k. ⌜ k ≡ rankOf (hopBy r) ⌝ }
 {
     (r.head >> 48 << 32) + r.tail % 4294967296
 }
 
-// The multipliers spread keys whose destinations, serials or both go up by one.
-fn mix(key: u64) -> u64
-    requires { ⌜ key < 281474976710656 ⌝ }
-    ensures { λ r. ⌜ r ≡ mixOf key ⌝ }
+// The multipliers spread ranks whose destinations, serials or both go up by one.
+fn mix(rank: u64) -> u64
+    requires { ⌜ rank < 281474976710656 ⌝ }
+    ensures { λ r. ⌜ r ≡ mixOf rank ⌝ }
 {
-    (key >> 32) * 0x85EBCA6B + (key & 0xFFFFFFFF) * 0x9E3779B1
+    (rank >> 32) * 0x85EBCA6B + (rank & 0xFFFFFFFF) * 0x9E3779B1
 }
 
-// A place for a key among 256.
+// A slot for a rank among 256.
 fn slot_of(mixed: u64) -> usize
     ensures { λ r. ⌜ (r ≡ slotBy mixed) × (r < 256) ⌝ }
 {
     (mixed >> 24) as usize % 256
 }
 
-// What a key leaves in its slot if it is the first there, 1 to 128.
+// What a rank leaves in its slot if it is the first there, 1 to 128.
 fn mark_of(mixed: u64) -> u8
     ensures { λ r. ⌜ r ≡ markBy mixed ⌝ }
 {
     (mixed >> 16 & 127) as u8 + 1
 }
 
-// The key of a record as it stands among the settings.
-fn key_at(v: &[u8]) -> u64
-    ensures { λ r. ⌜ r ≡ keyOf (hopOf (now (v .entry))) ⌝ }
+// The rank of a record as it stands among the settings.
+fn rank_at(v: &[u8]) -> u64
+    ensures { λ r. ⌜ r ≡ rankOf (hopOf (now (v .entry))) ⌝ }
 {
     octets::be16(v, 0) as u64 * 4294967296 + octets::be32(v, 10) as u64
 }
 
-// Whether a key is that of one of the first n records. Few are looked for, so that the keys are read anew and not kept.
-fn met(s: &[u8], from: usize, n: usize, key: u64) -> bool
-    ensures { λ r. ⌜ r ≡ keyMet key (keysMet (now (s .entry)) from n) ⌝ }
+// Whether a rank is that of one of the first n records. Few are looked for, so that the ranks are read anew and not kept.
+fn met(s: &[u8], from: usize, n: usize, rank: u64) -> bool
+    ensures { λ r. ⌜ r ≡ rankMet rank (ranksMet (now (s .entry)) from n) ⌝ }
 {
     let mut left = n;
     let mut at = from;
@@ -64,16 +64,11 @@ fn met(s: &[u8], from: usize, n: usize, key: u64) -> bool
         if left == 0 {
             return false;
         }
-        let FieldRead::Taken {
-            tag,
-            length: _,
-            next,
-        } = octets::field_at(s, at)
-        else {
+        let FieldRead::Taken { tag, next, .. } = octets::field_at(s, at) else {
             return false;
         };
         if tag == 2 {
-            if key_at(&s[at + 3..next]) == key {
+            if rank_at(&s[at + 3..next]) == rank {
                 return true;
             }
             left -= 1;
@@ -83,23 +78,23 @@ fn met(s: &[u8], from: usize, n: usize, key: u64) -> bool
     false
 }
 
-// Another key's mark alone in the slot shows that no earlier record has this key; only else is there a look at them all.
-fn fresh(s: &[u8], from: usize, n: usize, key: u64, old: u8, mark: u8) -> bool
-    requires { ⌜ (coversBy old mark ≡ false → keyMet key (keysMet (now s) from n) ≡ false) ⌝ }
-    ensures { λ r. ⌜ r ≡ not (keyMet key (keysMet (now (s .entry)) from n)) ⌝ }
+// Another rank's mark alone in the slot shows that no earlier record has this rank; only else is there a look at them all.
+fn fresh(s: &[u8], from: usize, n: usize, rank: u64, old: u8, mark: u8) -> bool
+    requires { ⌜ (coversBy old mark ≡ false → rankMet rank (ranksMet (now s) from n) ≡ false) ⌝ }
+    ensures { λ r. ⌜ r ≡ not (rankMet rank (ranksMet (now (s .entry)) from n)) ⌝ }
 {
     if old != mark {
         if old != 255 {
             return true;
         }
     }
-    !met(s, from, n, key)
+    !met(s, from, n, rank)
 }
 
-// Whether a record of a size goes with the n before it; then its key is marked. Most are the first in their slot.
+// Whether a record of a size goes with the n before it; then its rank is marked. Most are the first in their slot.
 fn admit(s: &[u8], from: usize, seen: &mut [u8], n: usize, size: usize, r: Record) -> bool
-    requires { ⌜ Kept (keysMet (now s) from n) (now seen) ⌝ }
-    ensures { λ b. ⌜ Taking (hopTaken (keysMet (now (s .entry)) from n) n size (hopBy r)) (withKey (keysMet (now (s .entry)) from n) (hopBy r))
+    requires { ⌜ Kept (ranksMet (now s) from n) (now seen) ⌝ }
+    ensures { λ b. ⌜ Taking (hopTaken (ranksMet (now (s .entry)) from n) n size (hopBy r)) (withRank (ranksMet (now (s .entry)) from n) (hopBy r))
         b (now (seen .exit)) ⌝ }
 {
     if !octets::hop_size(size) {
@@ -111,8 +106,8 @@ fn admit(s: &[u8], from: usize, seen: &mut [u8], n: usize, size: usize, r: Recor
     if 64 <= n {
         return false;
     }
-    let key = key_of(r);
-    let mixed = mix(key);
+    let rank = rank_of(r);
+    let mixed = mix(rank);
     let slot = slot_of(mixed);
     let mark = mark_of(mixed);
     let old = seen[slot];
@@ -120,7 +115,7 @@ fn admit(s: &[u8], from: usize, seen: &mut [u8], n: usize, size: usize, r: Recor
         seen[slot] = mark;
         return true;
     }
-    if !fresh(s, from, n, key, old, mark) {
+    if !fresh(s, from, n, rank, old, mark) {
         return false;
     }
     seen[slot] = 255;
@@ -172,12 +167,7 @@ fn scan_from(s: &[u8], from: usize, d: u16) -> Scan
     let mut flags = NO_FLAGS;
     let mut at = from;
     while at < s.len() {
-        let FieldRead::Taken {
-            tag,
-            length: _,
-            next,
-        } = octets::field_at(s, at)
-        else {
+        let FieldRead::Taken { tag, next, .. } = octets::field_at(s, at) else {
             return bad_scan();
         };
         let v = &s[at + 3..next];
@@ -262,12 +252,7 @@ pub fn lookup(own: Own, j: Validated) -> Lookup
 pub fn validate(s: &[u8], d: u16) -> Validated
     ensures { λ r. ⌜ ValidatedBy (now (s .entry)) d r ⌝ }
 {
-    let FieldRead::Taken {
-        tag,
-        length: _,
-        next,
-    } = octets::field_at(s, 0)
-    else {
+    let FieldRead::Taken { tag, next, .. } = octets::field_at(s, 0) else {
         return bad();
     };
     if !octets::opens(tag, &s[3..next]) {

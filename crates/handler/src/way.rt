@@ -3,7 +3,7 @@ use rules::NextHop;
 use rules::Ruling;
 ghost use mathlib.Core.Path.{_≡_};
 ghost use mathlib.Core.List.{_++_};
-ghost use Prim.Native.Nat.{_≤_};
+ghost use Prim.Native.Nat.{_+_, _≤_};
 ghost use lib.ListN.{length};
 ghost use Rattle.rules.specs.Octets.{octets48};
 ghost use Rattle.rules.specs.Link.{link};
@@ -11,7 +11,7 @@ ghost use Rattle.rules.specs.Channel.{returnPath};
 ghost use Rattle.rules.specs.WayOut.{wayOutBy};
 ghost use Rattle.octets.specs.Words.{octets64};
 ghost use Rattle.octets.specs.Copy.{Wrote};
-ghost use Rattle.handler.specs.Shapes.{taggedOctets, linkSize, waysBy, neighbourOf, WayDone};
+ghost use Rattle.handler.specs.Shapes.{linkSize, waysBy, neighbourOf, WayDone};
 
 // Own nickname, and own MAC above 16 bits that say nothing: so a store has it, and so its octets are written, eight in one.
 pub struct Own {
@@ -44,29 +44,15 @@ pub fn link_length(vlan: u16) -> usize
     if vlan == 0 { 14 } else { 18 }
 }
 
-// T-01: outer tag and Ethertype.
-fn tagged_octets(vlan: u16) -> [u8; 6]
-    ensures { λ r. ⌜ r ≡ taggedOctets vlan ⌝ }
+// A MAC and our own from `at` on, and behind them two octets of anything, over which the Ethertype or the tag is written.
+pub fn write_macs(to: u64, own: u64, out: &mut [u8], at: usize)
+    requires { ⌜ at + 14 ≤ length (now out) ⌝ }
+    ensures { λ _. ⌜ Wrote (octets48 to ++ octets64 own) at (at + 14) (now (out .entry)) (now (out .exit)) ⌝ }
 {
-    [
-        0x81,
-        0x00,
-        octets::high(vlan),
-        octets::low(vlan),
-        0x22,
-        0xF3,
-    ]
-}
-
-// Both MACs, and behind them two octets of anything, over which the Ethertype or the tag is written.
-fn write_macs(to: NextHop, own: u64, out: &mut [u8])
-    requires { ⌜ 14 ≤ length (now out) ⌝ }
-    ensures { λ _. ⌜ Wrote (octets48 (to .mac) ++ octets64 own) 0 14 (now (out .entry)) (now (out .exit)) ⌝ }
-{
-    let destination = octets::eight(to.mac << 16);
-    octets::copy(out, 0, &destination);
+    let destination = octets::eight(to << 16);
+    octets::copy(out, at, &destination);
     let source = octets::eight(own);
-    octets::copy(out, 6, &source);
+    octets::copy(out, at + 6, &source);
 }
 
 // Writes the link header towards a next hop and says how long it is.
@@ -74,12 +60,14 @@ pub fn write_link(t: Lookup, r: NextHop, out: &mut [u8]) -> usize
     requires { ⌜ linkSize (r .vlan) ≤ length (now out) ⌝ }
     ensures { λ n. ⌜ Wrote (link (waysBy t) r) 0 n (now (out .entry)) (now (out .exit)) ⌝ }
 {
-    write_macs(r, t.own.word, out);
+    write_macs(r.mac, t.own.word, out, 0);
     if r.vlan == 0 {
-        return octets::copy(out, 12, &[0x22, 0xF3]);
+        let ethertype = octets::two(rules::ETHERTYPE_TRILL);
+        return octets::copy(out, 12, &ethertype);
     }
-    let tagged = tagged_octets(r.vlan);
-    octets::copy(out, 12, &tagged)
+    // T-01: outer tag and Ethertype.
+    let tagged = octets::four(rules::ETHERTYPE_TAG, r.vlan, rules::ETHERTYPE_TRILL, 0);
+    octets::copy(out, 12, &tagged[..6])
 }
 
 // The next hop back: "No return path: the ingress is our own nickname or has no next hop."

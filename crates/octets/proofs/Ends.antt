@@ -11,7 +11,7 @@ use mir.Val.{Fits}
 use lib.Seq.{paste, paste-zero, paste-suc, take-length, take-all, take-add, length-take-le}
 use lib.ListN.{length, getD, set, take, drop, replicate, length-append, length-take, length-drop, take-append-drop, List·getD-eq-default}
 use Rattle.rules.proofs.{TestLaws.tests, OctetLaws.put-none, OctetLaws.put-put, OctetLaws.put-tail, OctetLaws.put-front, OctetLaws.length-put}
-use Rattle.rules.specs.Octets.{octet, be16, be32, be48, octets48, put}
+use Rattle.rules.specs.Octets.{octet, be16, be32, be48, octets16, octets48, put}
 use Rattle.octets.specs.Copy.{Wrote, fitting}
 use Rattle.octets.proofs.Bits.{swapped-octets}
 use Rattle.octets.specs.Words.{be64, octets64, lowFirst, le64, swapped}
@@ -115,6 +115,22 @@ eight-octets n a b c d e f g h ea eb ec ed ee ef eg eh =
     rw (first, second, third, fourth, fifth, ef, eg, eh)
 
 pub ruleset eight-laws = (needs, eight-octets)
+
+-- of four numbers
+pub four-octets : (a b c d n h l : ℕ) (r : List ℕ) → a < 65536 → b < 65536 → c < 65536 → d < 65536 → r ≡ octets64 n → n ≡ h * 4294967296 + l
+    → h ≡ a * 65536 + b → l ≡ c * 65536 + d → r ≡ octets16 a ++ octets16 b ++ octets16 c ++ octets16 d
+four-octets a b c d n h l r sa sb sc sd er en eh el =
+    let a1 : n / 65536 / 4294967296 / 256 % 256 ≡ a / 256 % 256 = omega arith in
+    let a2 : n / 65536 / 4294967296 % 256 ≡ a % 256 = omega arith in
+    let b1 : n / 65536 / 65536 / 256 % 256 ≡ b / 256 % 256 = omega arith in
+    let b2 : n / 65536 / 65536 % 256 ≡ b % 256 = omega arith in
+    let c1 : n / 65536 / 256 % 256 ≡ c / 256 % 256 = omega arith in
+    let c2 : n / 65536 % 256 ≡ c % 256 = omega arith in
+    let d1 : n / 256 % 256 ≡ d / 256 % 256 = omega arith in
+    let d2 : n % 256 ≡ d % 256 = omega arith in
+    er ∙ rw (a1, a2, b1, b2, c1, c2, d1, d2)
+
+pub ruleset four-laws = (needs, four-octets)
 
 -- and in the other order
 pub swapped-made : (n a b c d e f g h r : ℕ) → r ≡ lowFirst a b c d e f g h → a ≡ n / 72057594037927936 % 256 → b ≡ n / 281474976710656 % 256

@@ -13,9 +13,10 @@ pub use values::opens;
 pub use values::record_good;
 pub use values::record_of;
 ghost use mathlib.Core.Path.{_≡_};
+ghost use mathlib.Core.List.{_++_};
 ghost use Prim.Native.Nat.{_*_, _+_, _/_, _%_, _≤_};
 ghost use lib.ListN.{length};
-ghost use Rattle.rules.specs.Octets.{octet as octetOf, be16 as be16Of, be32 as be32Of, be48 as be48Of, octets48, put};
+ghost use Rattle.rules.specs.Octets.{octet as octetOf, be16 as be16Of, be32 as be32Of, be48 as be48Of, octets16, octets48, put};
 ghost use Rattle.rules.specs.Fields.{fieldAt};
 ghost use Rattle.octets.specs.Copy.{Wrote, fitting};
 ghost use Rattle.octets.specs.Words.{be64 as be64Of, octets64, lowFirst, le64 as le64Of, swapped};
@@ -180,6 +181,13 @@ fn low64(n: u64) -> u8
     (n & 255) as u8
 }
 
+// Both of them.
+pub fn two(n: u16) -> [u8; 2]
+    ensures { λ r. ⌜ r ≡ octets16 n ⌝ }
+{
+    [high(n), low(n)]
+}
+
 // The six octets of a number below 2^48.
 pub fn six(n: u64) -> [u8; 6]
     ensures { λ r. ⌜ r ≡ octets48 n ⌝ }
@@ -208,6 +216,13 @@ pub fn eight(word: u64) -> [u8; 8]
         low64(word >> 8),
         low64(word),
     ]
+}
+
+// The eight octets of four numbers below 65,536.
+pub fn four(a: u16, b: u16, c: u16, d: u16) -> [u8; 8]
+    ensures { λ r. ⌜ r ≡ octets16 a ++ octets16 b ++ octets16 c ++ octets16 d ⌝ }
+{
+    eight(join64(join32(a, b), join32(c, d)))
 }
 
 // Tag 2 and length 14, the low octet first: how a next-hop record without a VLAN begins.

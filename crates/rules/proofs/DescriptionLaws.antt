@@ -13,7 +13,7 @@ use lib.ListN.{length, drop, length-append, length-drop}
 use specs.{Octets.be16, Handling.frameMost}
 use specs.Fields.{Field, field, cut, fields, lengthGood}
 use specs.Settings.{Settings, hopGood, switchGood, switchOf, hopOf, hopsMost, withField, withHop}
-use specs.Campus.{Described, nothingYet, switchNamed, known, placeGood, valueGood, switchesMost, latestHops, roomGood, fieldRefusal, onLatest, withNext}
+use specs.Campus.{Described, nothingYet, switchNamed, known, orderGood, valueGood, switchesMost, latestHops, roomGood, fieldRefusal, onLatest, withNext}
 use specs.Campus.{Description, refused, accepted, describedFrom, described, clockOf}
 use specs.declared.NextHop.{NextHop}
 use proofs.TestLaws.{tests, apart, by-test, either, IfNone, by-option, and-left, and-right, each-of}
@@ -24,7 +24,7 @@ use Rattle.rules.proofs
 -- a field that is not refused, as far as the invariant needs it
 record Admitted (d : Described) (tag : ℕ) (v : List ℕ) : Type 0 where
   pub its-length : lengthGood tag (length v) ≡ true
-  pub in-place : placeGood d tag ≡ true
+  pub in-order : orderGood d tag ≡ true
   pub its-value : valueGood tag v ≡ true
   pub has-room : roomGood d tag ≡ true
 
@@ -95,8 +95,8 @@ nothing-sound =
 module _ (d : Described) (s : Sound d) (tag : ℕ) (v : List ℕ) (a : Admitted d tag v) where
   -- no field comes after the entry switch
   unnamed : (l : List Settings) → Named l (d .entry)
-  unfolding placeGood Named
-  unnamed l = λ S e. let none-yet : known (d .entry) ≡ false = search (not-true, and-left, a .in-place) in apart cc
+  unfolding orderGood Named
+  unnamed l = λ S e. let none-yet : known (d .entry) ≡ false = search (not-true, and-left, a .in-order) in apart cc
 
   new-entry : Named (d .switches) (switchNamed (d .switches) (be16 v 0))
   unfolding Named

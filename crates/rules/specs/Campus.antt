@@ -32,8 +32,8 @@ known none = false
 known (some a) = true
 
 -- 43: "tag out of place (2 or 3 before any tag 1, a second tag 4, anything after tag 5)"; T-09: tag 6 is "placed and counted as tag 3"
-unfoldable pub placeGood : Described → ℕ → Bool
-placeGood d tag =
+unfoldable pub orderGood : Described → ℕ → Bool
+orderGood d tag =
     not (known (d .entry))
     && not ((eqb tag 2 || eqb tag 3 || eqb tag 6) && eqb (length (d .switches)) 0)
     && not (eqb tag 4 && known (d .clock))
@@ -77,7 +77,7 @@ unfoldable pub fieldRefusal : Described → Field → ℕ
 fieldRefusal d cut = 41
 fieldRefusal d (field tag v) =
     if not (lengthGood tag (length v)) then 42 else
-    if not (placeGood d tag) then 43 else
+    if not (orderGood d tag) then 43 else
     if not (valueGood tag v) then 44 else
     if not (nicknameNew d tag v) then 45 else
     if not (roomGood d tag) then 46 else

@@ -19,7 +19,7 @@ use Rattle.rules.specs.Answer.{Handled}
 use Rattle.rules.specs.Handling.{forwardedRest, forwarded, onward, channelMessage, alertTo, alertOf}
 use Rattle.rules.specs.Handling.{alerted, transit, faulted, echoed, channelled, decapsulated}
 use Rattle.rules.specs.Handling.{routed, handling, handledWith, handled, partOf}
-use Rattle.rules.specs.Campus.{switchNamed, placeGood, valueGood, nicknameNew, roomGood, serialNew, entryKnown, fieldRefusal}
+use Rattle.rules.specs.Campus.{switchNamed, orderGood, valueGood, nicknameNew, roomGood, serialNew, entryKnown, fieldRefusal}
 use Rattle.rules.specs.Campus.{withNext, describedFrom, described, clockOf, repliesMade, staying, sentOn, firstWaiting, nextAfter, runFrom, plainRun}
 use Rattle.rules.specs.Campus.{Outcome, hopReceived, egressReceived, entryOctets, traceOctets, someEdition2, traceNeeded, campus}
 use Rattle.rules.specs.Text.{ascii, hexDigit, decimalFrom, entryText, entriesText, printed}
@@ -485,7 +485,7 @@ unfolding digits pairs hex numbers ending sizes sizesIn ascii hexDigit decimalFr
     keptOptions octetsOf stripped flagUnsummarized summaryBare extensionRead extensionStops areaRead areaStops areaSent
     echoRead channelRead silenced returnPath replyInner replyRest echoBody errorReply echoReply
     forwardedRest forwarded onward channelMessage alertTo alertOf alerted transit faulted echoed channelled decapsulated routed
-    handling handledWith handled partOf switchNamed placeGood
+    handling handledWith handled partOf switchNamed orderGood
     valueGood nicknameNew roomGood serialNew entryKnown fieldRefusal withNext describedFrom described clockOf
     repliesMade staying sentOn firstWaiting nextAfter runFrom plainRun
     hopReceived egressReceived entryOctets traceOctets someEdition2 traceNeeded campus

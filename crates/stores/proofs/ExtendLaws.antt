@@ -16,8 +16,8 @@ use rules.Settings.{Settings, hopGood, hopOf, serialMet, withHop, withField, con
 use Rattle.rules.proofs.TestLaws.{and-true, and-yes, by-order, by-equal, tests}
 use Rattle.rules.proofs.{OctetLaws.length-put, FrameLaws.none-given}
 use Rattle.stores.specs
-use specs.Store.{countIn, hopsFrom, placeIn, hopFor, waysIn, storeGood, StandsFor, Stands}
-use specs.Insert.{storeKey, storeValue, placeFor, insertedIn, Shifted}
+use specs.Store.{countIn, hopsFrom, indexIn, hopFor, waysIn, storeGood, StandsFor, Stands}
+use specs.Insert.{firstWord, secondWord, indexFor, insertedIn, Shifted}
 use specs.Extend.{withSwitch, roomIn, recordCode, flagCode, metBy, extending, withRecord, withFlag, extended}
 use Rattle.octets.specs.Flags.{flagTag, flagValue, flagBy}
 use Rattle.octets.proofs.{FlagLaws.flag-continues, Cases.coded}
@@ -88,10 +88,10 @@ same-first u s same r =
 -- one more record
 module _ {w : List ℕ} {r : NextHop} (ok : Admitted w r) where
   abbrev u : List ℕ
-  u = insertedIn w (countIn w) (storeKey r) (storeValue r)
+  u = insertedIn w (countIn w) (firstWord r) (secondWord r)
 
-  shifted : Shifted w (4 + 2 * placeFor w (storeKey r / 65536) (countIn w)) (4 + 2 * countIn w) u
-  shifted = inserted-so w (countIn w) (storeKey r) (storeValue r) (ok .new) (ok .room) .shifted
+  shifted : Shifted w (4 + 2 * indexFor w (firstWord r / 65536) (countIn w)) (4 + 2 * countIn w) u
+  shifted = inserted-so w (countIn w) (firstWord r) (secondWord r) (ok .new) (ok .room) .shifted
 
   other : (j : ℕ) → (j ≡ 3 → ⊥) → getD (withRecord w r) j 0 ≡ getD u j 0
   other j ne = rw getD-set-other
@@ -248,7 +248,7 @@ module _ (w v : List ℕ) (long : 4 ≤ length w) where
 module _ (w : List ℕ) (T : Settings) (s : Stands w T) where
   pub says : waysIn w ≡ waysOf T
   says =
-      let hops : (λ (d : ℕ). hopFor w (countIn w) d (placeIn w (countIn w) d)) ≡ S.nextHop T = fun-ext (serves w (countIn w) T (s .records)) in
+      let hops : (λ (d : ℕ). hopFor w (countIn w) d (indexIn w (countIn w) d)) ≡ S.nextHop T = fun-ext (serves w (countIn w) T (s .records)) in
       λ i. record { nickname = s .nickname i; mac = s .mac i; strip = s .strip i; rfc7179 = s .rfc7179 i; hop = hops i }
 
   pub is-good : nicknameValid (T .nickname) ≡ true → 4 + 2 * countIn w ≤ length w → storeGood w ≡ true

@@ -1,5 +1,5 @@
--- What a search by halving comes to: a place at which the test holds, unless it is 0, and behind which it holds nowhere, if it holds nowhere behind a
--- place at which it fails. By what each step keeps.
+-- What a search by halving comes to: an index at which the test holds, unless it is 0, and behind which it holds nowhere, if it holds nowhere behind a
+-- index at which it fails. By what each step keeps.
 use Prim.Native.Nat.{ℕ, _+_, _<_, _≤_}
 use mathlib.Core.Path.{_≡_}
 use mathlib.Core.Bool.{Bool, true, false}

@@ -1,5 +1,5 @@
 -- A record put in its place among records that stand for settings' records: they then stand for those with the record behind them.
--- Its place by what a search by halving comes to, the rest by position, and by `row-slide`, which takes the record from its place to the end.
+-- Its index by what a search by halving comes to, the rest by position, and by `row-slide`, which takes the record from its index to the end.
 use Prim.Native.Nat.{ℕ, zero, suc, _+_, _-_, _*_, _/_, _%_, _≤_, _<_}
 use mathlib.Core.Path.{_≡_, refl, sym, ap, _∙_}
 use mathlib.Core.List.{List, [], _∷_, _++_}
@@ -15,9 +15,9 @@ use Rattle.rules.proofs.OctetLaws.{length-put, length-part}
 use Rattle.rules.proofs.TestLaws.{by-test, and-true, or-yes, or-no, or-assoc, by-order, by-equal, tests}
 use Rattle.rules.specs.declared.NextHop.{NextHop}
 use Rattle.stores.specs
-use specs.Store.{keyAt, valueAt, rankAt, hopOf, hopAt, hopsFrom, Ordered, StandsFor}
+use specs.Store.{firstAt, secondAt, rankAt, hopOf, hopAt, hopsFrom, Ordered, StandsFor}
 use specs.Halving.{sixTimes}
-use specs.Insert.{storeKey, storeValue, belowAt, placeFor, metAt, metIn, putIn, insertedIn, PlaceFor, Shifted, PutIn, With}
+use specs.Insert.{firstWord, secondWord, belowAt, indexFor, metAt, metIn, putIn, insertedIn, IndexFor, Shifted, PutIn, With}
 use Rattle.stores.proofs.HalvingLaws.{reached, beyond}
 use Rattle.stores.proofs.RulingLaws.{rank-rises, row-slide, hops-split, hops-at, fold-append}
 use Rattle.rules.specs.Settings as S
@@ -31,7 +31,7 @@ pub record Fitting (r : NextHop) : Type 0 where
 pub fitting : (v : List ℕ) → Fitting (S.hopOf v)
 fitting v = omega arith
 
--- the place for a rank
+-- the index for a rank
 module _ (w : List ℕ) (rank n : ℕ) where
   below-is : (j : ℕ) → belowAt w n rank (suc j) ≡ (leb (suc j) n && ltb (rankAt w j) rank)
   unfolding belowAt
@@ -62,9 +62,9 @@ module _ (w : List ℕ) (rank n : ℕ) where
   found-below : (j : ℕ) → suc j ≡ found → (found ≤ n) × (rankAt w j < rank)
   found-below j e = below-true j found e (reached (belowAt w n rank) (omega arith))
 
-  pub place-most : placeFor w rank n ≤ n
-  unfolding placeFor
-  place-most =
+  pub index-most : indexFor w rank n ≤ n
+  unfolding indexFor
+  index-most =
       by-test (belowAt w n rank n) (λ t. rw t (omega arith)) (λ f. rw f
       (by-order 0 found (λ z. found-below (found - 1) (omega arith) .0) (λ z. omega arith)))
 
@@ -85,14 +85,14 @@ module _ (w : List ℕ) (rank n : ℕ) where
         let e : j ≡ n = omega (arith, o .few) in
         rw e f)
 
-    placed : PlaceFor w n rank (placeFor w rank n)
-    unfolding placeFor
+    placed : IndexFor w n rank (indexFor w rank n)
+    unfolding indexFor
     placed =
         by-test (belowAt w n rank n)
         (λ t. rw t (record { within = omega arith; above = λ j a b. absurd (omega arith); below = λ j e. below-true j n e t .1 }))
         (λ f. rw f
         (record {
-          within = rw f at place-most;
+          within = rw f at index-most;
           above = λ j a. below-false j (beyond (belowAt w n rank) falls (ends f) (suc j) (omega arith));
           below = λ j e. found-below j e .1;
         }))
@@ -123,12 +123,12 @@ module _ (d : List ℕ) (at : ℕ) (s : List ℕ) (room : at + length s ≤ leng
   put-beyond j k e = rw e ((rw head-long at (getD-append-add (take at d ++ s) (drop (at + length s) d) k 0)) ∙ getD-drop (at + length s) d k 0)
 
 -- the words with a record put in, word by word
-module _ (w : List ℕ) (n key value p : ℕ) (within : p ≤ n) (room : 6 + 2 * n ≤ length w) where
+module _ (w : List ℕ) (n first second p : ℕ) (within : p ≤ n) (room : 6 + 2 * n ≤ length w) where
   abbrev at : ℕ
   at = 4 + 2 * p
 
   abbrev new : List ℕ
-  new = key ∷ value ∷ part w at (2 * (n - p))
+  new = first ∷ second ∷ part w at (2 * (n - p))
 
   up-long : length (part w at (2 * (n - p))) ≡ 2 * (n - p)
   up-long = length-part w at (2 * (n - p)) (omega arith)
@@ -136,7 +136,7 @@ module _ (w : List ℕ) (n key value p : ℕ) (within : p ≤ n) (room : 6 + 2 *
   new-room : at + length new ≤ length w
   new-room = omega (arith, up-long)
 
-  pub put-in : PutIn w n key value p (putIn w n key value p)
+  pub put-in : PutIn w n first second p (putIn w n first second p)
   unfolding putIn
   put-in =
       record {
@@ -147,8 +147,8 @@ module _ (w : List ℕ) (n key value p : ℕ) (within : p ≤ n) (room : 6 + 2 *
               moved = up;
               beyond = λ j h. put-beyond w at new new-room j (j - (6 + 2 * n)) (omega (arith, up-long));
             };
-        here-key = put-inside w at new new-room at 0 (omega arith) (omega arith);
-        here-value = put-inside w at new new-room (5 + 2 * p) 1 (omega arith) (omega arith);
+        here-first = put-inside w at new new-room at 0 (omega arith) (omega arith);
+        here-second = put-inside w at new new-room (5 + 2 * p) 1 (omega arith) (omega arith);
       }
     where
       up : (j : ℕ) → at ≤ j → j < 4 + 2 * n → getD (put w at new) (j + 2) 0 ≡ getD w j 0
@@ -159,71 +159,71 @@ module _ (w : List ℕ) (n key value p : ℕ) (within : p ≤ n) (room : 6 + 2 *
           ∙ (rw e at (getD-drop at w (j - at) 0))
 
   -- words moved up and two written are these
-  pub put-at-is : (v : List ℕ) → Shifted w (4 + 2 * p) (4 + 2 * n) v → set (set v (4 + 2 * p) key) (5 + 2 * p) value ≡ putIn w n key value p
+  pub put-at-is : (v : List ℕ) → Shifted w (4 + 2 * p) (4 + 2 * n) v → set (set v (4 + 2 * p) first) (5 + 2 * p) second ≡ putIn w n first second p
   put-at-is v s =
-      ext-getD 0 u (putIn w n key value p) (simp length-set (s .size) ∙ sym (q .size)) (λ j h.
+      ext-getD 0 u (putIn w n first second p) (simp length-set (s .size) ∙ sym (q .size)) (λ j h.
       by-order j at (λ l. other j (omega arith) (omega arith) ∙ s .before j l ∙ sym (q .before j l)) (λ l.
-      by-equal j at (λ e. rw e (key-there ∙ sym (put-in .here-key))) (λ a.
-      by-equal j (5 + 2 * p) (λ e. rw e (value-there ∙ sym (put-in .here-value))) (λ b.
+      by-equal j at (λ e. rw e (first-there ∙ sym (put-in .here-first))) (λ a.
+      by-equal j (5 + 2 * p) (λ e. rw e (second-there ∙ sym (put-in .here-second))) (λ b.
       other j a b ∙ by-order j (6 + 2 * n) (λ m. behind j (omega (arith, a, b)) m) (λ m. s .beyond j (omega arith) ∙ sym (q .beyond j (omega arith)))))))
     where
       u : List ℕ
-      u = set (set v at key) (5 + 2 * p) value
+      u = set (set v at first) (5 + 2 * p) second
 
-      q : Shifted w at (4 + 2 * n) (putIn w n key value p)
+      q : Shifted w at (4 + 2 * n) (putIn w n first second p)
       q = put-in .shifted
 
       other : (j : ℕ) → (j ≡ at → ⊥) → (j ≡ 5 + 2 * p → ⊥) → getD u j 0 ≡ getD v j 0
       other j a b = rw (getD-set-other, getD-set-other)
 
-      key-there : getD u at 0 ≡ key
-      key-there = getD-set-other (set v at key) (5 + 2 * p) at value 0 (omega arith) ∙ getD-set-same v at key 0 (omega (arith, s .size))
+      first-there : getD u at 0 ≡ first
+      first-there = getD-set-other (set v at first) (5 + 2 * p) at second 0 (omega arith) ∙ getD-set-same v at first 0 (omega (arith, s .size))
 
-      value-there : getD u (5 + 2 * p) 0 ≡ value
-      value-there = getD-set-same (set v at key) (5 + 2 * p) value 0 (rw length-set (omega (arith, s .size)))
+      second-there : getD u (5 + 2 * p) 0 ≡ second
+      second-there = getD-set-same (set v at first) (5 + 2 * p) second 0 (rw length-set (omega (arith, s .size)))
 
-      behind : (j : ℕ) → 6 + 2 * p ≤ j → j < 6 + 2 * n → getD v j 0 ≡ getD (putIn w n key value p) j 0
+      behind : (j : ℕ) → 6 + 2 * p ≤ j → j < 6 + 2 * n → getD v j 0 ≡ getD (putIn w n first second p) j 0
       behind j l m =
           let e : j - 2 + 2 ≡ j = omega arith in
           rw e at (s .moved (j - 2) (omega arith) (omega arith) ∙ sym (q .moved (j - 2) (omega arith) (omega arith)))
 
 -- a record in its place
-module _ (w : List ℕ) (n key value : ℕ) where
+module _ (w : List ℕ) (n first second : ℕ) where
   abbrev rank : ℕ
-  rank = key / 65536
+  rank = first / 65536
 
-  abbrev place : ℕ
-  place = placeFor w rank n
+  abbrev index : ℕ
+  index = indexFor w rank n
 
-  pub inserted-met : metIn w n rank ≡ true → insertedIn w n key value ≡ w
+  pub inserted-met : metIn w n rank ≡ true → insertedIn w n first second ≡ w
   unfolding insertedIn
   inserted-met m = rw m
 
   module _ (m : metIn w n rank ≡ false) where
-    pub inserted-new : insertedIn w n key value ≡ putIn w n key value place
+    pub inserted-new : insertedIn w n first second ≡ putIn w n first second index
     unfolding insertedIn
     inserted-new = rw m
 
-    pub inserted-so : 6 + 2 * n ≤ length w → PutIn w n key value place (insertedIn w n key value)
-    inserted-so room = rw inserted-new (put-in w n key value place (place-most w rank n) room)
+    pub inserted-so : 6 + 2 * n ≤ length w → PutIn w n first second index (insertedIn w n first second)
+    inserted-so room = rw inserted-new (put-in w n first second index (index-most w rank n) room)
 
-    with-record : Ordered w n → 6 + 2 * n ≤ length w → With w n key value place (insertedIn w n key value)
+    with-record : Ordered w n → 6 + 2 * n ≤ length w → With w n first second index (insertedIn w n first second)
     unfolding metIn metAt
-    with-record o room = record { place = placed w rank n o; fresh = fresh; put = inserted-so room }
+    with-record o room = record { index = placed w rank n o; fresh = fresh; put = inserted-so room }
       where
-        fresh : place < n → rank < rankAt w place
-        fresh h = omega (arith, eqb-false (rankAt w place) rank (simp tests at m), placed w rank n o .above place (omega arith) h)
+        fresh : index < n → rank < rankAt w index
+        fresh h = omega (arith, eqb-false (rankAt w index) rank (simp tests at m), placed w rank n o .above index (omega arith) h)
 
-  pub inserted-long : 6 + 2 * n ≤ length w → length (insertedIn w n key value) ≡ length w
+  pub inserted-long : 6 + 2 * n ≤ length w → length (insertedIn w n first second) ≡ length w
   inserted-long room = by-test (metIn w n rank) (λ t. rw (inserted-met t)) (λ t. inserted-so t room .shifted .size)
 
-  pub met-record : metIn w n rank ≡ true → (place < n) × (rankAt w place ≡ rank)
+  pub met-record : metIn w n rank ≡ true → (index < n) × (rankAt w index ≡ rank)
   unfolding metIn metAt
   met-record m =
-      let b = and-true (ltb place n) (eqb (rankAt w place) rank) m in
-      (ltb-true place n (b .0), eqb-true (rankAt w place) rank (b .1))
+      let b = and-true (ltb index n) (eqb (rankAt w index) rank) m in
+      (ltb-true index n (b .0), eqb-true (rankAt w index) rank (b .1))
 
--- rows that agree, or that agree one place up
+-- rows that agree, or that agree one index up
 row-same : (w v : List ℕ) (up : ℕ → ℕ) → ((m : ℕ) → suc (up m) ≡ up (suc m)) → (k i : ℕ) → ((m : ℕ) → i ≤ m → m < i + k → hopAt v (up m) ≡ hopAt w m)
     → hopsFrom v (up i) k ≡ hopsFrom w i k
 unfolding hopsFrom
@@ -248,14 +248,14 @@ or-turn true b c = refl
 or-turn false b true = sym (or-yes b)
 or-turn false b false = sym (or-no b)
 
-module _ {w : List ℕ} {n key value p : ℕ} {v : List ℕ} (o : Ordered w n) (t : With w n key value p v) where
+module _ {w : List ℕ} {n first second p : ℕ} {v : List ℕ} (o : Ordered w n) (t : With w n first second p v) where
   within : p ≤ n
-  within = t .place .within
+  within = t .index .within
 
-  at-before : (i : ℕ) → i < p → (keyAt v i ≡ keyAt w i) × (valueAt v i ≡ valueAt w i)
+  at-before : (i : ℕ) → i < p → (firstAt v i ≡ firstAt w i) × (secondAt v i ≡ secondAt w i)
   at-before i h = (t .put .shifted .before (4 + 2 * i) (omega arith), t .put .shifted .before (5 + 2 * i) (omega arith))
 
-  at-moved : (k : ℕ) → p ≤ k → k < n → (keyAt v (suc k) ≡ keyAt w k) × (valueAt v (suc k) ≡ valueAt w k)
+  at-moved : (k : ℕ) → p ≤ k → k < n → (firstAt v (suc k) ≡ firstAt w k) × (secondAt v (suc k) ≡ secondAt w k)
   at-moved k a b =
       let e : 4 + 2 * suc k ≡ 4 + 2 * k + 2 = omega arith in
       let f : 5 + 2 * suc k ≡ 5 + 2 * k + 2 = omega arith in
@@ -268,10 +268,10 @@ module _ {w : List ℕ} {n key value p : ℕ} {v : List ℕ} (o : Ordered w n) (
       next i b =
           by-order i p
           (λ l. by-equal (suc i) p
-          (λ e. rw e (omega (arith, at-before i l, t .place .below i e, t .put .here-key)))
+          (λ e. rw e (omega (arith, at-before i l, t .index .below i e, t .put .here-first)))
           (λ e. omega (arith, at-before i l, at-before (suc i) (omega (arith, e)), o .rises i (suc i) (omega arith) (omega (arith, within)))))
           (λ l. by-equal i p
-          (λ e. rw e (omega (arith, t .put .here-key, at-moved p (omega arith) (omega arith), t .fresh (omega arith))))
+          (λ e. rw e (omega (arith, t .put .here-first, at-moved p (omega arith) (omega arith), t .fresh (omega arith))))
           (λ e.
           let f : i ≡ suc (i - 1) = omega (arith, e) in
           let moved = rw (← f) at (at-moved (i - 1) (omega (arith, e)) (omega arith)) in
@@ -309,13 +309,13 @@ module _ {w : List ℕ} {n key value p : ℕ} {v : List ℕ} (o : Ordered w n) (
         (or-turn (S.serialMet x (hopsFrom w 0 p)) (S.serialMet x (hopsFrom w p (n - p)))
         (eqb (r .destination) (x .destination) && eqb (r .serial) (x .serial))))
 
-hop-back : (r : NextHop) → Fitting r → hopOf (storeKey r) (storeValue r) ≡ r
+hop-back : (r : NextHop) → Fitting r → hopOf (firstWord r) (secondWord r) ≡ r
 hop-back r f =
-    let a : storeKey r / 281474976710656 ≡ r .destination = omega arith in
-    let b : storeValue r % 65536 ≡ r .neighbour = omega arith in
-    let c : storeValue r / 65536 ≡ r .mac = omega arith in
-    let e : storeKey r / 65536 % 4294967296 ≡ r .serial = omega arith in
-    let g : storeKey r % 65536 ≡ r .vlan = omega arith in
+    let a : firstWord r / 281474976710656 ≡ r .destination = omega arith in
+    let b : secondWord r % 65536 ≡ r .neighbour = omega arith in
+    let c : secondWord r / 65536 ≡ r .mac = omega arith in
+    let e : firstWord r / 65536 % 4294967296 ≡ r .serial = omega arith in
+    let g : firstWord r % 65536 ≡ r .vlan = omega arith in
     rw (a, b, c, e, g)
 
 row-unmet : (w : List ℕ) (r : NextHop) (k i : ℕ)
@@ -333,36 +333,36 @@ row-unmet w r (suc k) i h =
 -- THE INSERTION: a record put in among records that stand for settings' makes them stand for these with it; it is refused exactly if
 -- its serial was met
 module _ (w : List ℕ) {n : ℕ} (r : NextHop) {hops : List NextHop} (few : n < 64) (room : 6 + 2 * n ≤ length w) (fits : Fitting r) (s : StandsFor w n hops) where
-  abbrev place-in : ℕ
-  place-in = placeFor w (storeKey r / 65536) n
+  abbrev index-in : ℕ
+  index-in = indexFor w (firstWord r / 65536) n
 
-  met-so : metIn w n (storeKey r / 65536) ≡ true → S.serialMet r hops ≡ true
+  met-so : metIn w n (firstWord r / 65536) ≡ true → S.serialMet r hops ≡ true
   unfolding S.serialMet hopAt
   met-so m =
-      let t = met-record w n (storeKey r) (storeValue r) m in
-      let x : hopAt w place-in .destination ≡ r .destination = omega arith in
-      let y : hopAt w place-in .serial ≡ r .serial = omega arith in
-      s .same-met r ∙ simp (hops-at w n place-in (t .0), met-append, tests, or-yes)
+      let t = met-record w n (firstWord r) (secondWord r) m in
+      let x : hopAt w index-in .destination ≡ r .destination = omega arith in
+      let y : hopAt w index-in .serial ≡ r .serial = omega arith in
+      s .same-met r ∙ simp (hops-at w n index-in (t .0), met-append, tests, or-yes)
 
-  module _ (m : metIn w n (storeKey r / 65536) ≡ false) where
-    put-with : With w n (storeKey r) (storeValue r) place-in (insertedIn w n (storeKey r) (storeValue r))
-    put-with = with-record w n (storeKey r) (storeValue r) m (s .ordered) room
+  module _ (m : metIn w n (firstWord r / 65536) ≡ false) where
+    put-with : With w n (firstWord r) (secondWord r) index-in (insertedIn w n (firstWord r) (secondWord r))
+    put-with = with-record w n (firstWord r) (secondWord r) m (s .ordered) room
 
     apart : (j : ℕ) → j < n → hopAt w j .destination ≡ r .destination → hopAt w j .serial ≡ r .serial → ⊥
     unfolding hopAt
     apart j h x y =
         let o = s .ordered in
         let rises = in-order o put-with few .rises in
-        let key = put-with .put .here-key in
-        by-order j place-in
-        (λ l. absurd (omega (arith, fits, key, at-before o put-with j l, rises j place-in l (omega (arith, within o put-with)))))
-        (λ l. absurd (omega (arith, fits, key, at-moved o put-with j l h, rises place-in (suc j) (omega arith) (omega arith))))
+        let first = put-with .put .here-first in
+        by-order j index-in
+        (λ l. absurd (omega (arith, fits, first, at-before o put-with j l, rises j index-in l (omega (arith, within o put-with)))))
+        (λ l. absurd (omega (arith, fits, first, at-moved o put-with j l h, rises index-in (suc j) (omega arith) (omega arith))))
 
-    pub stands-more : StandsFor (insertedIn w n (storeKey r) (storeValue r)) (suc n) (hops ++ (r ∷ []))
+    pub stands-more : StandsFor (insertedIn w n (firstWord r) (secondWord r)) (suc n) (hops ++ (r ∷ []))
     unfolding S.ruling hopAt
     stands-more =
-        let is-r : hopAt (insertedIn w n (storeKey r) (storeValue r)) (place-in) ≡ r =
-        rw (put-with .put .here-key, put-with .put .here-value) (hop-back r fits) in
+        let is-r : hopAt (insertedIn w n (firstWord r) (secondWord r)) (index-in) ≡ r =
+        rw (put-with .put .here-first, put-with .put .here-second) (hop-back r fits) in
         record {
           ordered = in-order (s .ordered) put-with few;
           count = rw length-append (omega (arith, s .count));
@@ -370,22 +370,22 @@ module _ (w : List ℕ) {n : ℕ} (r : NextHop) {hops : List NextHop} (few : n <
           same-met = λ x. rw (met-with (s .ordered) put-with r is-r x, ← s .same-met x, met-append);
         }
 
-  pub met-is : metIn w n (storeKey r / 65536) ≡ S.serialMet r hops
+  pub met-is : metIn w n (firstWord r / 65536) ≡ S.serialMet r hops
   met-is =
-      by-test (metIn w n (storeKey r / 65536)) (λ t. t ∙ sym (met-so t)) (λ f. f ∙ sym (s .same-met r ∙ row-unmet w r n 0 (λ j a c. apart f j (omega arith))))
+      by-test (metIn w n (firstWord r / 65536)) (λ t. t ∙ sym (met-so t)) (λ f. f ∙ sym (s .same-met r ∙ row-unmet w r n 0 (λ j a c. apart f j (omega arith))))
 
 -- words that agree from the first record on
 pub stands-same : (w v : List ℕ) {n : ℕ} {hops : List NextHop} → StandsFor w n hops → ((j : ℕ) → 4 ≤ j → j < 4 + 2 * n → getD v j 0 ≡ getD w j 0)
     → StandsFor v n hops
 unfolding hopAt
 stands-same w v {n} {hops} s same =
-    let rows = row-same w v (λ m. m) (λ m. refl) n 0 (λ m a b. rw (key m (omega arith), same (5 + 2 * m) (omega arith) (omega arith))) in
+    let rows = row-same w v (λ m. m) (λ m. refl) n 0 (λ m a b. rw (first m (omega arith), same (5 + 2 * m) (omega arith) (omega arith))) in
     record {
-      ordered = record { few = s .ordered .few; rises = λ i j a b. omega (arith, key i (omega arith), key j b, s .ordered .rises i j a b) };
+      ordered = record { few = s .ordered .few; rises = λ i j a b. omega (arith, first i (omega arith), first j b, s .ordered .rises i j a b) };
       count = s .count;
       same-ruling = λ d. rw rows (s .same-ruling d);
       same-met = λ x. rw rows (s .same-met x);
     }
   where
-    key : (i : ℕ) → i < n → keyAt v i ≡ keyAt w i
-    key i h = same (4 + 2 * i) (omega arith) (omega arith)
+    first : (i : ℕ) → i < n → firstAt v i ≡ firstAt w i
+    first i h = same (4 + 2 * i) (omega arith) (omega arith)

@@ -1,5 +1,5 @@
 pub mod HalvingLaws
-pub mod PlaceLaws
+pub mod IndexLaws
 pub mod RulingLaws
 pub mod LookupLaws
 pub mod InsertLaws

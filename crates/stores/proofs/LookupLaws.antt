@@ -11,7 +11,7 @@ use Rattle.rules.specs.declared.Ruling.{Ruling}
 use Rattle.rules.specs.declared.Ruling.the-variants.{Found, Absent}
 use Rattle.rules.specs.Settings as S
 use Rattle.stores.specs
-use specs.Store.{valueAt, destAt, hopAt, hopsFrom, unlessWithdrawn, upTo, stepped, searched, lastAt, hintAt, placeIn, hopFor, Ordered, StandsFor}
+use specs.Store.{secondAt, destAt, hopAt, hopsFrom, unlessWithdrawn, upTo, stepped, searched, lastAt, hintAt, indexIn, hopFor, Ordered, StandsFor}
 use Rattle.stores.proofs.HalvingLaws.{reached, beyond}
 use Rattle.stores.proofs.RulingLaws.{rank-rises, newer-rules, row-others, row-below, hops-at, fold-append}
 
@@ -26,9 +26,9 @@ next-hop T d = go (S.ruling (T .hops) d) refl
 
 for-it : (w : List ℕ) (n d i : ℕ) → i < n → destAt w i ≡ d → hopFor w n d i ≡ unlessWithdrawn (Found (hopAt w i))
 unfolding hopFor unlessWithdrawn hopAt
-for-it w n d i h e = by-test (eqb (valueAt w i % 65536) 0) (λ t. simp (tests, t)) (λ f. simp (tests, f))
+for-it w n d i h e = by-test (eqb (secondAt w i % 65536) 0) (λ t. simp (tests, t)) (λ f. simp (tests, f))
 
--- what is known of a place that the search comes to
+-- what is known of an index that the search comes to
 record Between (w : List ℕ) (n d at : ℕ) : Type 0 where
   pub low : 0 < at → (at < n) × (destAt w at ≤ d)
   pub high : (j : ℕ) → at < j → j < n → d < destAt w j
@@ -113,13 +113,13 @@ module _ (w : List ℕ) (n : ℕ) (o : Ordered w n) where
           by-order p j (λ l. absurd (omega (arith, b .high j (omega arith) v))) (λ l.
           by-equal j p (λ e. ne (rw e at g)) (λ n. ne (omega (arith, b .low (omega (arith, n)), dest-rises j p l u))))
 
-  right-place : (d : ℕ) → Right d (placeIn w n d)
-  unfolding placeIn
-  right-place d =
+  right-index : (d : ℕ) → Right d (indexIn w n d)
+  unfolding indexIn
+  right-index d =
       by-test (lastAt w n d (hintAt w d))
-      (λ t. simp (placeIn, t) (right-between d (hintAt w d) (last-between d (hintAt w d) t)))
-      (λ f. simp (placeIn, f) (right-between d (searched w n d) (searched-between d)))
+      (λ t. simp (indexIn, t) (right-between d (hintAt w d) (last-between d (hintAt w d) t)))
+      (λ f. simp (indexIn, f) (right-between d (searched w n d) (searched-between d)))
 
 -- records that stand for settings' give each destination the next hop of these
-pub serves : (w : List ℕ) (n : ℕ) (T : S.Settings) → StandsFor w n (T .hops) → (d : ℕ) → hopFor w n d (placeIn w n d) ≡ S.nextHop T d
-serves w n T s d = rw (next-hop, s .same-ruling d) (right-place w n (s .ordered) d)
+pub serves : (w : List ℕ) (n : ℕ) (T : S.Settings) → StandsFor w n (T .hops) → (d : ℕ) → hopFor w n d (indexIn w n d) ≡ S.nextHop T d
+serves w n T s d = rw (next-hop, s .same-ruling d) (right-index w n (s .ordered) d)

@@ -28,7 +28,7 @@ use ruleLaws.SettingsLaws.{from-on, from-bad, from-read}
 use Rattle.stores.specs
 use specs.Halving.{halved}
 use specs.Store.{countIn, handledIn, Stands, Roomy, Filled, Fills, Hinted, preparing, Prepared}
-use specs.Insert.{storeKey, storeValue, belowAt, placeFor, metAt, metIn, putIn, insertedIn, Shifted}
+use specs.Insert.{firstWord, secondWord, belowAt, indexFor, metAt, metIn, putIn, insertedIn, Shifted}
 use specs.Extend.{withSwitch, opensIn, Opens, roomIn, countBy, metBy, addedTo, recordCode, flagCode, flagWord, FlagIn, extending}
 use specs.Extend.{extended, withRecord, Extends}
 use Rattle.octets.specs.{Flags.flagTag, Flags.flagValue, Flags.flagBy, Records.recordOf, Records.hopBy}
@@ -36,27 +36,27 @@ use Rattle.octets.specs.declared.values.Record.{Record}
 use ruleLaws.FirstLaws.{continues-cut, opened-field, first, settings-open, settings-bad, settings-cut, switch-fold}
 use Rattle.stores.proofs
 use proofs.HalvingLaws.{half-on, half-stay}
-use proofs.InsertLaws.{place-most, put-at-is, inserted-long}
+use proofs.InsertLaws.{index-most, put-at-is, inserted-long}
 use proofs.ExtendLaws.{Ample, record-long, extending-continues, extended-stands, extended-long, extended-few, switch-stands}
 use proofs.ExtendLaws.{switch-counts, switch-long, says, room-parts, is-good, stands-too}
 
--- the place for a rank: behind the last record, or by six steps
+-- the index for a rank: behind the last record, or by six steps
 module _ (w : List ℕ) (n rank : ℕ) (last : Bool) (is : last ≡ belowAt w n rank n) where
-  pub place-behind : last ≡ true → n ≡ placeFor w rank n
-  unfolding placeFor
-  place-behind t = rw (← is, t)
+  pub index-behind : last ≡ true → n ≡ indexFor w rank n
+  unfolding indexFor
+  index-behind t = rw (← is, t)
 
   abbrev next : ℕ → ℕ → ℕ
   next = halved (belowAt w n rank)
 
-  pub place-halved : last ≡ false → (a b c d e r : ℕ) → r ≡ next e 1 → e ≡ next d 2 → d ≡ next c 4 → c ≡ next b 8 → b ≡ next a 16 → a ≡ next 0 32
-      → r ≡ placeFor w rank n
-  unfolding placeFor
-  place-halved f a b c d e r er ee ed ec eb ea = er ∙ rw (ee, ed, ec, eb, ea, ← is, f)
+  pub index-halved : last ≡ false → (a b c d e r : ℕ) → r ≡ next e 1 → e ≡ next d 2 → d ≡ next c 4 → c ≡ next b 8 → b ≡ next a 16 → a ≡ next 0 32
+      → r ≡ indexFor w rank n
+  unfolding indexFor
+  index-halved f a b c d e r er ee ed ec eb ea = er ∙ rw (ee, ed, ec, eb, ea, ← is, f)
 
 pub ruleset step-laws = (needs, half-on, half-stay)
 
-pub ruleset place-for-laws = (needs, place-behind, place-halved)
+pub ruleset index-for-laws = (needs, index-behind, index-halved)
 
 -- the words moved, from behind
 pub record Moving (w : List ℕ) (from to i : ℕ) (v : List ℕ) : Type 0 where
@@ -105,30 +105,30 @@ module _ (w : List ℕ) (from to : ℕ) where
 pub ruleset shift-laws = (needs, moving-begin, moving-on, moving-end)
 
 -- the two ways out of an insertion
-module _ (w : List ℕ) (n key value p : ℕ) (place : p ≡ placeFor w (key / 65536) n) (m : Bool) (is : m ≡ metAt w n (key / 65536) p) where
-  pub inserted-not : m ≡ true → false ≡ not (metIn w n (key / 65536))
+module _ (w : List ℕ) (n first second p : ℕ) (index : p ≡ indexFor w (first / 65536) n) (m : Bool) (is : m ≡ metAt w n (first / 65536) p) where
+  pub inserted-not : m ≡ true → false ≡ not (metIn w n (first / 65536))
   unfolding metIn
   inserted-not t = cc
 
-  pub inserted-same : m ≡ true → w ≡ insertedIn w n key value
+  pub inserted-same : m ≡ true → w ≡ insertedIn w n first second
   unfolding metIn insertedIn
   inserted-same t = cc
 
-  pub inserted-so : m ≡ false → true ≡ not (metIn w n (key / 65536))
+  pub inserted-so : m ≡ false → true ≡ not (metIn w n (first / 65536))
   unfolding metIn
   inserted-so t = cc
 
-  pub inserted-put : m ≡ false → (v : List ℕ) → v ≡ putIn w n key value p → v ≡ insertedIn w n key value
+  pub inserted-put : m ≡ false → (v : List ℕ) → v ≡ putIn w n first second p → v ≡ insertedIn w n first second
   unfolding metIn insertedIn
   inserted-put t v e = cc
 
-pub place-within : (w : List ℕ) (n rank p : ℕ) → p ≡ placeFor w rank n → p ≤ n
-place-within w n rank p e = rw e (place-most w rank n)
+pub index-within : (w : List ℕ) (n rank p : ℕ) → p ≡ indexFor w rank n → p ≤ n
+index-within w n rank p e = rw e (index-most w rank n)
 
-pub ruleset insert-laws = (needs, inserted-not, inserted-same, inserted-so, inserted-put, place-within)
+pub ruleset insert-laws = (needs, inserted-not, inserted-same, inserted-so, inserted-put, index-within)
 
-pub value-room : (p : ℕ) (v w : List ℕ) (from to n key : ℕ) → Shifted w from to v → p ≤ n → 6 + 2 * n ≤ length w → 5 + 2 * p < length (set v (4 + 2 * p) key)
-value-room p v w from to n key s within room = rw length-set (omega (arith, s .size))
+pub value-room : (p : ℕ) (v w : List ℕ) (from to n first : ℕ) → Shifted w from to v → p ≤ n → 6 + 2 * n ≤ length w → 5 + 2 * p < length (set v (4 + 2 * p) first)
+value-room p v w from to n first s within room = rw length-set (omega (arith, s .size))
 
 pub ruleset put-at-laws = (needs, put-at-is, value-room)
 
@@ -203,9 +203,9 @@ module _ (w v : List ℕ) where
 pub ruleset admit-laws = (needs, admit-long, admit-bad, admit-full, admit-met, admit-taken, admit-count, admit-few, admit-room, added-long)
 
 -- the record put in and counted
-module _ (w : List ℕ) (r : NextHop) (n key value : ℕ) (c : n ≡ countIn w) (k : key ≡ storeKey r) (x : value ≡ storeValue r)
-    (put : Bool) (p : put ≡ not (metIn w n (key / 65536))) (u : List ℕ) (q : u ≡ insertedIn w n key value) where
-  rank-met : metIn w n (key / 65536) ≡ not put
+module _ (w : List ℕ) (r : NextHop) (n first second : ℕ) (c : n ≡ countIn w) (k : first ≡ firstWord r) (x : second ≡ secondWord r)
+    (put : Bool) (p : put ≡ not (metIn w n (first / 65536))) (u : List ℕ) (q : u ≡ insertedIn w n first second) where
+  rank-met : metIn w n (first / 65536) ≡ not put
   rank-met = rw (p, Bool·not-not)
 
   pub add-met : not put ≡ true → false ≡ not (metBy w r)
@@ -221,8 +221,8 @@ module _ (w : List ℕ) (r : NextHop) (n key value : ℕ) (c : n ≡ countIn w) 
   pub add-words : not put ≡ false → set u 3 (n + 1) ≡ addedTo w r
   add-words t = cc rank-met
 
-pub add-size : (u w : List ℕ) (n key value : ℕ) → u ≡ insertedIn w n key value → 6 + 2 * n ≤ length w → length u ≡ length w
-add-size u w n key value q long = rw q (inserted-long w n key value long)
+pub add-size : (u w : List ℕ) (n first second : ℕ) → u ≡ insertedIn w n first second → 6 + 2 * n ≤ length w → length u ≡ length w
+add-size u w n first second q long = rw q (inserted-long w n first second long)
 
 pub ruleset add-laws = (needs, add-met, add-same, add-taken, add-words, add-size)
 

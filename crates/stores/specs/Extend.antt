@@ -12,7 +12,7 @@ use Rattle.rules.specs.Link.{ethertypeTrill}
 use Rattle.rules.specs.declared.NextHop.{NextHop}
 use Rattle.octets.specs.Flags.{flagTag, flagValue}
 use Rattle.stores.specs.Store.{countIn}
-use Rattle.stores.specs.Insert.{storeKey, storeValue, metIn, insertedIn}
+use Rattle.stores.specs.Insert.{firstWord, secondWord, metIn, insertedIn}
 
 -- the words of a switch without records and with no flag
 abbrev pub switchWords : S.Settings → List ℕ
@@ -39,7 +39,7 @@ countBy w = if roomIn w then countIn w else S.hopsMost
 
 -- whether a record of its destination has its serial
 abbrev pub metBy : List ℕ → NextHop → Bool
-metBy w r = metIn w (countIn w) (storeKey r / 65536)
+metBy w r = metIn w (countIn w) (firstWord r / 65536)
 
 -- 0, or the code of a description that refuses the field: 42 its length, 44 its value, 46 no room, 47 serial met, 43 no field of settings
 unfoldable pub recordCode : List ℕ → List ℕ → ℕ
@@ -63,7 +63,7 @@ extending w tag v = if eqb tag 2 then recordCode w v else flagCode w tag v
 
 -- the words with one more record, and with the flag
 abbrev pub withRecord : List ℕ → NextHop → List ℕ
-withRecord w r = set (insertedIn w (countIn w) (storeKey r) (storeValue r)) 3 (countIn w + 1)
+withRecord w r = set (insertedIn w (countIn w) (firstWord r) (secondWord r)) 3 (countIn w + 1)
 
 abbrev pub addedTo : List ℕ → NextHop → List ℕ
 addedTo w r = if metBy w r then w else withRecord w r

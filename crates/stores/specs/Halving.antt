@@ -1,4 +1,4 @@
--- A search by halving for the last place of 64 at which a test holds.
+-- A search by halving for the last index of 64 at which a test holds.
 use Prim.Native.Nat.{ℕ, _+_}
 use mathlib.Core.Bool.{Bool}
 use Rattle.rules.specs.Octets.{if_then_else_}

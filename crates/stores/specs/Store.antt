@@ -27,29 +27,29 @@ nicknameIn w = getD w 0 0
 abbrev pub countIn : List ℕ → ℕ
 countIn w = getD w 3 0
 
--- the i-th record: a key of destination 16 bits, serial 32 and VLAN 16, and a value of MAC 48 bits and neighbour 16
-abbrev pub keyAt : List ℕ → ℕ → ℕ
-keyAt w i = getD w (4 + 2 * i) 0
+-- the i-th record: a first of destination 16 bits, serial 32 and VLAN 16, and a second of MAC 48 bits and neighbour 16
+abbrev pub firstAt : List ℕ → ℕ → ℕ
+firstAt w i = getD w (4 + 2 * i) 0
 
-abbrev pub valueAt : List ℕ → ℕ → ℕ
-valueAt w i = getD w (5 + 2 * i) 0
+abbrev pub secondAt : List ℕ → ℕ → ℕ
+secondAt w i = getD w (5 + 2 * i) 0
 
 -- destination above serial, by which records are in order
 abbrev pub rankAt : List ℕ → ℕ → ℕ
-rankAt w i = keyAt w i / 65536
+rankAt w i = firstAt w i / 65536
 
 abbrev pub destOf : ℕ → ℕ
-destOf key = key / 281474976710656
+destOf first = first / 281474976710656
 
 abbrev pub destAt : List ℕ → ℕ → ℕ
-destAt w i = destOf (keyAt w i)
+destAt w i = destOf (firstAt w i)
 
 abbrev pub hopOf : ℕ → ℕ → NextHop
-hopOf key value =
-    record { destination = destOf key; neighbour = value % 65536; mac = value / 65536; serial = key / 65536 % 4294967296; vlan = key % 65536 }
+hopOf first second =
+    record { destination = destOf first; neighbour = second % 65536; mac = second / 65536; serial = first / 65536 % 4294967296; vlan = first % 65536 }
 
 unfoldable pub hopAt : List ℕ → ℕ → NextHop
-hopAt w i = hopOf (keyAt w i) (valueAt w i)
+hopAt w i = hopOf (firstAt w i) (secondAt w i)
 
 -- "if it is a withdrawal, there is no next hop"
 unfoldable pub unlessWithdrawn : Ruling → Ruling
@@ -75,12 +75,12 @@ unfoldable pub hintAt : List ℕ → ℕ → ℕ
 hintAt w d = if leb storeWords (length w) then getD w (132 + d % 256 / 8) 0 / 2 ^ (d % 8 * 8) % 64 else 0
 
 -- a hint is taken only if the record there is its destination's last
-unfoldable pub placeIn : List ℕ → ℕ → ℕ → ℕ
-placeIn w n d = if lastAt w n d (hintAt w d) then hintAt w d else searched w n d
+unfoldable pub indexIn : List ℕ → ℕ → ℕ → ℕ
+indexIn w n d = if lastAt w n d (hintAt w d) then hintAt w d else searched w n d
 
--- the record at a place if it is for d and no withdrawal
+-- the record at an index if it is for d and no withdrawal
 unfoldable pub hopFor : List ℕ → ℕ → ℕ → ℕ → Ruling
-hopFor w n d i = if ltb i n && (eqb (destAt w i) d && not (eqb (valueAt w i % 65536) 0)) then Found (hopAt w i) else Absent
+hopFor w n d i = if ltb i n && (eqb (destAt w i) d && not (eqb (secondAt w i % 65536) 0)) then Found (hopAt w i) else Absent
 
 -- word 0 own nickname, word 1 own MAC above 16 bits unused here, word 2 strip flag and above it the edition, word 3 number of records
 abbrev pub waysIn : List ℕ → S.Ways
@@ -90,7 +90,7 @@ waysIn w =
       mac = getD w 1 0 / 65536;
       strip = eqb (getD w 2 0 % 2) 1;
       rfc7179 = eqb (getD w 2 0 / 2 % 2) 1;
-      hop = λ d. hopFor w (countIn w) d (placeIn w (countIn w) d);
+      hop = λ d. hopFor w (countIn w) d (indexIn w (countIn w) d);
     }
 
 -- a valid nickname, and no more records than 64 and than there are words for

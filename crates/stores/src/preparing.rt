@@ -10,7 +10,7 @@ ghost use Rattle.rules.specs.Settings as S;
 ghost use Rattle.stores.specs.Store.{countIn, Roomy, Filled, Fills, Hinted};
 ghost use Rattle.octets.specs.Records.{hopBy};
 ghost use Rattle.stores.specs.Halving.{halved};
-ghost use Rattle.stores.specs.Insert.{storeKey, storeValue, belowAt, placeFor, metAt, metIn, putIn, insertedIn, Shifted};
+ghost use Rattle.stores.specs.Insert.{firstWord, secondWord, belowAt, indexFor, metAt, metIn, putIn, insertedIn, Shifted};
 ghost use Rattle.stores.specs.Extend.{withSwitch, countBy, metBy, addedTo, flagWord, FlagIn, Extends};
 
 // Whether there are i records or more and the i-th, counted from 1, is below the rank.
@@ -35,9 +35,9 @@ fn step(w: &[u64], n: usize, rank: u64, at: usize, half: usize) -> usize
 }
 
 // The last record first: records in order take one comparison each.
-fn place_for(w: &[u64], n: usize, rank: u64) -> usize
+fn index_for(w: &[u64], n: usize, rank: u64) -> usize
     requires { ⌜ 4 + 2 * n ≤ length (now w) ⌝ }
-    ensures { λ r. ⌜ r ≡ placeFor (now (w .entry)) rank n ⌝ }
+    ensures { λ r. ⌜ r ≡ indexFor (now (w .entry)) rank n ⌝ }
 {
     if below(w, n, rank, n) {
         return n;
@@ -50,7 +50,7 @@ fn place_for(w: &[u64], n: usize, rank: u64) -> usize
     step(w, n, rank, e, 1)
 }
 
-// Moves the words between two places two up.
+// Moves the words from `from` up to `to` two up.
 fn shift(w: &mut [u64], from: usize, to: usize)
     requires { ⌜ (from ≤ to) × (to + 2 ≤ length (now w)) ⌝ }
     ensures { λ _. ⌜ Shifted (now (w .entry)) from to (now (w .exit)) ⌝ }
@@ -73,36 +73,36 @@ fn met(w: &[u64], n: usize, rank: u64, p: usize) -> bool
 }
 
 // Whether the record could be put in: not where one of its destination has its serial.
-fn insert(w: &mut [u64], n: usize, key: u64, value: u64) -> bool
+fn insert(w: &mut [u64], n: usize, first: u64, second: u64) -> bool
     requires { ⌜ 6 + 2 * n ≤ length (now w) ⌝ }
-    ensures { λ r. ⌜ (r ≡ not (metIn (now (w .entry)) n (key / 65536))) × (now (w .exit) ≡ insertedIn (now (w .entry)) n key value) ⌝ }
+    ensures { λ r. ⌜ (r ≡ not (metIn (now (w .entry)) n (first / 65536))) × (now (w .exit) ≡ insertedIn (now (w .entry)) n first second) ⌝ }
 {
-    let p = place_for(w, n, key >> 16);
-    if met(w, n, key >> 16, p) {
+    let p = index_for(w, n, first >> 16);
+    if met(w, n, first >> 16, p) {
         return false;
     }
-    put_at(w, n, key, value, p);
+    put_at(w, n, first, second, p);
     true
 }
 
-// At a place among the first n records.
-fn put_at(w: &mut [u64], n: usize, key: u64, value: u64, p: usize)
+// At an index among the first n records.
+fn put_at(w: &mut [u64], n: usize, first: u64, second: u64, p: usize)
     requires { ⌜ (p ≤ n) × (6 + 2 * n ≤ length (now w)) ⌝ }
-    ensures { λ _. ⌜ now (w .exit) ≡ putIn (now (w .entry)) n key value p ⌝ }
+    ensures { λ _. ⌜ now (w .exit) ≡ putIn (now (w .entry)) n first second p ⌝ }
 {
     shift(w, 4 + 2 * p, 4 + 2 * n);
-    w[4 + 2 * p] = key;
-    w[5 + 2 * p] = value;
+    w[4 + 2 * p] = first;
+    w[5 + 2 * p] = second;
 }
 
-fn key_of(r: Record) -> u64
-    ensures { λ k. ⌜ k ≡ storeKey (hopBy r) ⌝ }
+fn first_word(r: Record) -> u64
+    ensures { λ k. ⌜ k ≡ firstWord (hopBy r) ⌝ }
 {
     (r.head >> 48 << 48) + r.tail % 4294967296 * 65536 + r.vlan as u64
 }
 
-fn value_of(r: Record) -> u64
-    ensures { λ x. ⌜ x ≡ storeValue (hopBy r) ⌝ }
+fn second_word(r: Record) -> u64
+    ensures { λ x. ⌜ x ≡ secondWord (hopBy r) ⌝ }
 {
     (r.head << 32) + (r.tail >> 32) % 65536 * 65536 + (r.head >> 32) % 65536
 }
@@ -129,7 +129,7 @@ fn add(w: &mut [u64], n: usize, r: Record) -> bool
     requires { ⌜ (n ≡ countIn (now w)) × (n < 64) × (6 + 2 * n ≤ length (now w)) ⌝ }
     ensures { λ b. ⌜ (b ≡ not (metBy (now (w .entry)) (hopBy r))) × (now (w .exit) ≡ addedTo (now (w .entry)) (hopBy r)) ⌝ }
 {
-    if !insert(w, n, key_of(r), value_of(r)) {
+    if !insert(w, n, first_word(r), second_word(r)) {
         return false;
     }
     w[3] = n as u64 + 1;
@@ -202,12 +202,7 @@ fn fill_from(s: &[u8], from: usize, w: &mut [u64]) -> bool
 {
     let mut at = from;
     while at < s.len() {
-        let FieldRead::Taken {
-            tag,
-            length: _,
-            next,
-        } = octets::field_at(s, at)
-        else {
+        let FieldRead::Taken { tag, next, .. } = octets::field_at(s, at) else {
             return false;
         };
         if extend(w, tag, &s[at + 3..next]) != 0 {
@@ -224,7 +219,7 @@ pub fn open(w: &mut [u64], v: &[u8])
     ensures { λ _. ⌜ now (w .exit) ≡ withSwitch (now (w .entry)) (now (v .entry)) ⌝ }
 {
     w[0] = octets::be16(v, 0) as u64;
-    w[1] = (octets::be48(v, 2) << 16) + 0x22F3;
+    w[1] = (octets::be48(v, 2) << 16) + rules::ETHERTYPE_TRILL as u64;
     w[2] = 0;
     w[3] = 0;
 }
@@ -256,12 +251,7 @@ pub fn prepare(s: &[u8], w: &mut [u64]) -> bool
     requires { ⌜ length (now w) ≡ 164 ⌝ }
     ensures { λ r. ⌜ Filled (now (w .exit)) (S.settingsOf (now (s .entry))) r × (length (now (w .exit)) ≡ 164) ⌝ }
 {
-    let FieldRead::Taken {
-        tag,
-        length: _,
-        next,
-    } = octets::field_at(s, 0)
-    else {
+    let FieldRead::Taken { tag, next, .. } = octets::field_at(s, 0) else {
         return false;
     };
     let v = &s[3..next];

@@ -5,5 +5,5 @@ use proofs.forward.write_header as fn
 
 pub write-header-spec : {M : Type 1} → fn.Statement.statement M
 write-header-spec = fn.Tie.close (fn.Tie.spec
-    (λ c _. search laws) (λ c. search laws) (λ c _. search laws) (λ c. search laws) (λ c. search laws) (λ c. search laws) (λ c. search laws)
-    (λ c. search laws) (λ c _. search laws) (λ c. search laws) (λ c. search laws))
+    (λ c _. search laws) (λ c _. search laws) (λ c. search laws) (λ c _. search laws) (λ c. search laws) (λ c. search laws) (λ c. search laws)
+    (λ c. search laws) (λ c. search laws) (λ c _. search laws) (λ c. search laws) (λ c. search laws))

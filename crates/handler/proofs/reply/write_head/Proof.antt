@@ -5,5 +5,6 @@ use proofs.reply.write_head as fn
 
 pub write-head-spec : {M : Type 1} → fn.Statement.statement M
 write-head-spec = fn.Tie.close (fn.Tie.spec
-    (λ c _. search laws) (λ c. search laws) (λ c _. search laws) (λ c _. search laws) (λ c. search laws) (λ c _. search laws) (λ c _. search laws)
-    (λ c. search laws) (λ c. search laws) (λ c _. search laws) (λ c. search laws) (λ c. search laws))
+    (λ c _. search laws) (λ c. search laws) (λ c _. search laws) (λ c. search laws) (λ c _. search laws) (λ c _. search laws)
+    (λ c. search laws) (λ c. search laws) (λ c _. search laws) (λ c. search laws) (λ c _. search laws) (λ c. search laws) (λ c. search laws)
+    (λ c _. search laws) (λ c. search laws) (λ c. search laws))

@@ -1,4 +1,4 @@
--- Its contract: what the place shows by the requirement, all else by the look at the records.
+-- Its contract: what the slot shows by the requirement, all else by the look at the records.
 use mathlib.Core.{Path.sym, Path.ap, Bool.not}
 use borrow.Author.Needs.{needs}
 use Rattle.handler.proofs

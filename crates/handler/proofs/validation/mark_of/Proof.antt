@@ -2,7 +2,7 @@
 use Prim.Native.Nat.{_/_}
 use native.Mathlib.Omega.{arith}
 use lib.Bits.{and-mask}
-use Rattle.handler.specs.Keys.{markBy}
+use Rattle.handler.specs.Ranks.{markBy}
 use Rattle.handler.proofs.validation.mark_of as fn
 
 pub mark-of-spec : {M : Type 1} → fn.Statement.statement M

@@ -1,6 +1,6 @@
 -- Its contract, by arithmetic.
 use borrow.Author.Needs.{needs}
-use Rattle.handler.specs.Keys.{slotBy}
+use Rattle.handler.specs.Ranks.{slotBy}
 use Rattle.handler.proofs.validation.slot_of as fn
 
 pub slot-of-spec : {M : Type 1} → fn.Statement.statement M

@@ -5,5 +5,5 @@ use proofs.way.write_link as fn
 
 pub write-link-spec : {M : Type 1} → fn.Statement.statement M
 write-link-spec = fn.Tie.close (fn.Tie.spec
-    (λ c _. search laws) (λ c. search laws) (λ c _. search laws) (λ c. search laws) (λ c. search laws) (λ c _. search laws) (λ c. search laws)
-    (λ c _. search laws) (λ c. search laws) (λ c. search laws))
+    (λ c _. search laws) (λ c _. search laws) (λ c. search laws) (λ c _. search laws) (λ c. search laws) (λ c. search laws)
+    (λ c _. search laws) (λ c. search laws) (λ c. search laws) (λ c _. search laws) (λ c. search laws) (λ c. search laws))

@@ -5,5 +5,5 @@ use proofs.way.write_macs as fn
 
 pub write-macs-spec : {M : Type 1} → fn.Statement.statement M
 write-macs-spec = fn.Tie.close (fn.Tie.spec
-    (λ c _. search laws) (λ c. search laws) (λ c _. search laws) (λ c _. search laws) (λ c. search laws) (λ c _. search laws) (λ c. search laws)
-    (λ c. search laws))
+    (λ c _. search laws) (λ c. search laws) (λ c _. search laws) (λ c _. search laws) (λ c. search laws) (λ c. search laws)
+    (λ c _. search laws) (λ c. search laws) (λ c. search laws))

@@ -9,7 +9,7 @@ use lib.ListN.{length}
 use Rattle.rules.proofs.TestLaws.{tests, and-left, and-right}
 use Rattle.rules.specs.declared.Ruling.the-variants.{Absent}
 use Rattle.stores.specs.Halving.{halved}
-use Rattle.stores.specs.Store.{nicknameIn, countIn, destAt, upTo, stepped, searched, lastAt, hintAt, placeIn, hopFor, storeGood, Whole}
+use Rattle.stores.specs.Store.{nicknameIn, countIn, destAt, upTo, stepped, searched, lastAt, hintAt, indexIn, hopFor, storeGood, Whole}
 
 -- what a good store has
 pub good-whole : (w : List ℕ) → storeGood w ≡ true → Whole w
@@ -27,24 +27,24 @@ module _ (w : List ℕ) (n d at half : ℕ) where
   unfolding stepped halved upTo
   step-past h = simp tests
 
-  module _ (a : at + half < n) (key : ℕ) (is : key ≡ destAt w (at + half)) where
-    pub step-up : key ≤ d → at + half ≡ stepped w n d at half
+  module _ (a : at + half < n) (dest : ℕ) (is : dest ≡ destAt w (at + half)) where
+    pub step-up : dest ≤ d → at + half ≡ stepped w n d at half
     unfolding stepped halved upTo
     step-up h = simp (← is, tests)
 
-    pub step-stay : d < key → at ≡ stepped w n d at half
+    pub step-stay : d < dest → at ≡ stepped w n d at half
     unfolding stepped halved upTo
     step-stay h = simp (← is, tests)
 
--- the place that a hint or the search comes to
+-- the index that a hint or the search comes to
 module _ (w : List ℕ) (n d i : ℕ) (e : i ≡ hintAt w d) (last : Bool) (is : last ≡ lastAt w n d i) where
-  pub place-hinted : last ≡ true → i ≡ placeIn w n d
-  unfolding placeIn
-  place-hinted t = rw (placeIn, ← e, ← is, t)
+  pub index-hinted : last ≡ true → i ≡ indexIn w n d
+  unfolding indexIn
+  index-hinted t = rw (indexIn, ← e, ← is, t)
 
-  pub place-searched : last ≡ false → (r : ℕ) → r ≡ searched w n d → r ≡ placeIn w n d
-  unfolding placeIn
-  place-searched t r s = rw (placeIn, ← e, ← is, t) s
+  pub index-searched : last ≡ false → (r : ℕ) → r ≡ searched w n d → r ≡ indexIn w n d
+  unfolding indexIn
+  index-searched t r s = rw (indexIn, ← e, ← is, t) s
 
 -- the record there
 module _ (w : List ℕ) (n d i : ℕ) where
@@ -52,7 +52,7 @@ module _ (w : List ℕ) (n d i : ℕ) where
   unfolding hopFor
   for-past h = simp tests
 
-  module _ (a : i < n) (key : ℕ) (is : key ≡ destAt w i) where
-    pub for-other : (key ≡ d → ⊥) → Absent ≡ hopFor w n d i
+  module _ (a : i < n) (dest : ℕ) (is : dest ≡ destAt w i) where
+    pub for-other : (dest ≡ d → ⊥) → Absent ≡ hopFor w n d i
     unfolding hopFor
     for-other h = simp (← is, tests)

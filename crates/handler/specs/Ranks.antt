@@ -1,4 +1,4 @@
--- The keys of the records met so far, and the filter that stands for them: how settings are validated in one pass.
+-- The ranks of the records met so far, and the filter that stands for them: how settings are validated in one pass.
 use Prim.Native.Nat.{ℕ, _+_, _*_, _/_, _%_}
 use mathlib.Core.Path.{_≡_}
 use mathlib.Core.List.{List, [], _∷_, _++_}
@@ -18,13 +18,13 @@ use Rattle.handler.specs.declared.way.Own.{Own}
 use Rattle.handler.specs.declared.way.Lookup.{Lookup}
 use Rattle.handler.specs.Shapes.{ruledBy, noFlags, flaggedBy, FoldedFrom, Owns, waysBy, onlyFor}
 
--- destination above serial: two records of one destination with equal serials have one key
-abbrev pub keyOf : NextHop → ℕ
-keyOf hop = hop .destination * 4294967296 + hop .serial
+-- destination above serial: two records of one destination with equal serials have one rank
+abbrev pub rankOf : NextHop → ℕ
+rankOf hop = hop .destination * 4294967296 + hop .serial
 
--- the filter: a key has a place among 256 and a mark; a place has no mark, the mark of the one key there, or 255
+-- the filter: a rank has a slot among 256 and a mark; a slot has no mark, the mark of the one rank there, or 255
 unfoldable pub mixOf : ℕ → ℕ
-mixOf key = key / 4294967296 * 0x85EBCA6B + key % 4294967296 * 0x9E3779B1
+mixOf rank = rank / 4294967296 * 0x85EBCA6B + rank % 4294967296 * 0x9E3779B1
 
 unfoldable pub slotBy : ℕ → ℕ
 slotBy mixed = mixed / 16777216 % 256
@@ -35,43 +35,43 @@ markBy mixed = mixed / 65536 % 128 + 1
 unfoldable pub markedBy : ℕ → ℕ → ℕ
 markedBy old mark = if eqb old 0 then mark else 255
 
--- whether a place may have a key of this mark
+-- whether a slot may have a rank of this mark
 unfoldable pub coversBy : ℕ → ℕ → Bool
 coversBy old mark = eqb old mark || eqb old 255
 
-unfoldable pub keyMet : ℕ → List ℕ → Bool
-keyMet key [] = false
-keyMet key (k ∷ keys) = eqb k key || keyMet key keys
+unfoldable pub rankMet : ℕ → List ℕ → Bool
+rankMet rank [] = false
+rankMet rank (k ∷ ranks) = eqb k rank || rankMet rank ranks
 
--- the keys of the records among fields, and the first n of those from a place on
-unfoldable pub keysIn : List Field → List ℕ
-keysIn [] = []
-keysIn (cut ∷ fs) = keysIn fs
-keysIn (field tag v ∷ fs) = if eqb tag 2 then keyOf (hopOf v) ∷ keysIn fs else keysIn fs
+-- the ranks of the records among fields, and the first n of those from a place on
+unfoldable pub ranksIn : List Field → List ℕ
+ranksIn [] = []
+ranksIn (cut ∷ fs) = ranksIn fs
+ranksIn (field tag v ∷ fs) = if eqb tag 2 then rankOf (hopOf v) ∷ ranksIn fs else ranksIn fs
 
-abbrev pub keysMet : List ℕ → ℕ → ℕ → List ℕ
-keysMet s from n = take n (keysIn (fieldsAt s from))
+abbrev pub ranksMet : List ℕ → ℕ → ℕ → List ℕ
+ranksMet s from n = take n (ranksIn (fieldsAt s from))
 
--- the place of each key met may have it
+-- the slot of each rank met may have it
 pub record Kept (met seen : List ℕ) : Type 0 where
   pub seen-long : length seen ≡ 256
-  pub marked : (key : ℕ) → keyMet key met ≡ true → coversBy (getD seen (slotBy (mixOf key)) 0) (markBy (mixOf key)) ≡ true
+  pub marked : (rank : ℕ) → rankMet rank met ≡ true → coversBy (getD seen (slotBy (mixOf rank)) 0) (markBy (mixOf rank)) ≡ true
 
--- whether one more record, or field, goes with the n keys met so far
+-- whether one more record, or field, goes with the n ranks met so far
 unfoldable pub hopTaken : List ℕ → ℕ → ℕ → NextHop → Bool
-hopTaken keys n size r = hopSize size && (hopGood r && ltb n hopsMost && not (keyMet (keyOf r) keys))
+hopTaken ranks n size r = hopSize size && (hopGood r && ltb n hopsMost && not (rankMet (rankOf r) ranks))
 
 unfoldable pub fieldTaken : List ℕ → ℕ → ℕ → List ℕ → Bool
-fieldTaken keys n tag v = if eqb tag 2 then hopTaken keys n (length v) (hopOf v) else eqb (flagBy tag v) 0
+fieldTaken ranks n tag v = if eqb tag 2 then hopTaken ranks n (length v) (hopOf v) else eqb (flagBy tag v) 0
 
--- the keys met once one more record, or field, is taken
-abbrev pub withKey : List ℕ → NextHop → List ℕ
-withKey keys r = keys ++ (keyOf r ∷ [])
+-- the ranks met once one more record, or field, is taken
+abbrev pub withRank : List ℕ → NextHop → List ℕ
+withRank ranks r = ranks ++ (rankOf r ∷ [])
 
-unfoldable pub keysWith : List ℕ → ℕ → List ℕ → List ℕ
-keysWith keys tag v = if eqb tag 2 then withKey keys (hopOf v) else keys
+unfoldable pub ranksWith : List ℕ → ℕ → List ℕ → List ℕ
+ranksWith ranks tag v = if eqb tag 2 then withRank ranks (hopOf v) else ranks
 
--- whether a record is taken; then these keys are met
+-- whether a record is taken; then these ranks are met
 pub record Taking (good : Bool) (met : List ℕ) (taken : Bool) (seen : List ℕ) : Type 0 where
   pub validated : good ≡ taken
   pub kept : taken ≡ true → Kept met seen
