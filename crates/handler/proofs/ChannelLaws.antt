@@ -13,8 +13,9 @@ use Rattle.rules.specs as rules
 use rules.{Octets.octet, Octets.be16, Handling.untagged, Channel.echoRead, Channel.channelRead, Channel.silenced}
 use rules.declared.ChannelRead.{ChannelRead}
 use rules.declared.ChannelRead.the-variants.{Fault, BadErr, ErrorHeard, BadEcho, EchoHeard, EchoRequest}
-use Rattle.handler.specs.Shapes.{foreignBy, silencedBySl}
+use Rattle.handler.specs.Shapes.{foreignBy, shortCode, silencedBySl}
 use Rattle.handler.proofs.Stages.{lent-rest}
+use Rattle.rules.proofs.TestLaws.{by-test}
 
 -- the inner frame's tag
 module _ (inner : List ℕ) (e : ℕ) (is-e : e ≡ be16 inner 12) where
@@ -74,47 +75,55 @@ module _ (body : List ℕ) where
 
 pub ruleset echo-read-laws = (needs, echo-short, echo-long, echo-heard, echo-request, echo-neither)
 
+-- the code of a message that ends within its header
+pub short-foreign : (inner : List ℕ) (e : ℕ) → e ≡ be16 inner 16 → (b : Bool) → b ≡ foreignBy e → b ≡ true → 2 ≡ shortCode inner
+short-foreign inner e is-e b is-b t = cc
+
+pub short-known : (inner : List ℕ) (e : ℕ) → e ≡ be16 inner 16 → (b : Bool) → b ≡ foreignBy e → b ≡ false → 1 ≡ shortCode inner
+short-known inner e is-e b is-b f = cc
+
+pub ruleset short-code-laws = (needs, short-foreign, short-known)
+
 -- a channel message, by its tests in their order
+pub read-short : (inner : List ℕ) → length inner < 22 → (code : ℕ) → code ≡ shortCode inner → Fault code ≡ channelRead inner
+unfolding channelRead
+read-short inner h code is = by-test (foreignBy (be16 inner 16)) (λ t. rw (is, t)) (λ t. rw (is, t, lt-ltb (length inner) 22 h))
+
 module _ (inner : List ℕ) (e : ℕ) (is-e : e ≡ be16 inner 16) (b : Bool) (is-b : b ≡ foreignBy e) where
   pub read-foreign : b ≡ true → Fault 2 ≡ channelRead inner
   unfolding channelRead
   read-foreign t = cc
 
-  module _ (f : b ≡ false) where
-    pub read-short : length inner < 22 → Fault 1 ≡ channelRead inner
+  module _ (f : b ≡ false) (a : 22 ≤ length inner) (w : ℕ) (is-w : w ≡ be16 inner 18) (v : ℕ) (is-v : v ≡ w / 4096 % 16) where
+    long : ltb (length inner) 22 ≡ false
+    long = le-ltb (length inner) 22 a
+
+    pub read-version : (v ≡ 0 → ⊥) → Fault 3 ≡ channelRead inner
     unfolding channelRead
-    read-short h = cc (lt-ltb (length inner) 22 h)
+    read-version n = cc (long, ne-eqb v 0 n)
 
-    module _ (a : 22 ≤ length inner) (w : ℕ) (is-w : w ≡ be16 inner 18) (v : ℕ) (is-v : v ≡ w / 4096 % 16) where
-      long : ltb (length inner) 22 ≡ false
-      long = le-ltb (length inner) 22 a
-
-      pub read-version : (v ≡ 0 → ⊥) → Fault 3 ≡ channelRead inner
+    module _ (z : v ≡ 0) (g : ℕ) (is-g : g ≡ be16 inner 20) (n : ℕ) (is-n : n ≡ g / 8192 % 2) where
+      pub read-native : n ≡ 1 → Fault 4 ≡ channelRead inner
       unfolding channelRead
-      read-version n = cc (long, ne-eqb v 0 n)
+      read-native one = cc long
 
-      module _ (z : v ≡ 0) (g : ℕ) (is-g : g ≡ be16 inner 20) (n : ℕ) (is-n : n ≡ g / 8192 % 2) where
-        pub read-native : n ≡ 1 → Fault 4 ≡ channelRead inner
+      module _ (o : n ≡ 1 → ⊥) (p : ℕ) (is-p : p ≡ w % 4096) where
+        pub read-error : p ≡ 0x001 → ErrorHeard ≡ channelRead inner
         unfolding channelRead
-        read-native one = cc long
+        read-error its = cc (long, ne-eqb n 1 o)
 
-        module _ (o : n ≡ 1 → ⊥) (p : ℕ) (is-p : p ≡ w % 4096) where
-          pub read-error : p ≡ 0x001 → ErrorHeard ≡ channelRead inner
+        pub read-unknown : (p ≡ 0x001 → ⊥) → (p ≡ 0xFF8 → ⊥) → Fault 5 ≡ channelRead inner
+        unfolding channelRead
+        read-unknown h k = cc (long, ne-eqb n 1 o, ne-eqb p 0x001 h, ne-eqb p 0xFF8 k)
+
+        module _ (echo : p ≡ 0xFF8) (k : ℕ) (is-k : k ≡ g % 16) where
+          pub read-err : (k ≡ 0 → ⊥) → BadErr ≡ channelRead inner
           unfolding channelRead
-          read-error its = cc (long, ne-eqb n 1 o)
+          read-err h = cc (long, ne-eqb n 1 o, ne-eqb k 0 h)
 
-          pub read-unknown : (p ≡ 0x001 → ⊥) → (p ≡ 0xFF8 → ⊥) → Fault 5 ≡ channelRead inner
+          pub read-echo : k ≡ 0 → (r : ChannelRead) → r ≡ echoRead (take (length inner - 22) (drop 22 inner)) → r ≡ channelRead inner
           unfolding channelRead
-          read-unknown h k = cc (long, ne-eqb n 1 o, ne-eqb p 0x001 h, ne-eqb p 0xFF8 k)
-
-          module _ (echo : p ≡ 0xFF8) (k : ℕ) (is-k : k ≡ g % 16) where
-            pub read-err : (k ≡ 0 → ⊥) → BadErr ≡ channelRead inner
-            unfolding channelRead
-            read-err h = cc (long, ne-eqb n 1 o, ne-eqb k 0 h)
-
-            pub read-echo : k ≡ 0 → (r : ChannelRead) → r ≡ echoRead (take (length inner - 22) (drop 22 inner)) → r ≡ channelRead inner
-            unfolding channelRead
-            read-echo none r is = cc (long, ne-eqb n 1 o, lent-rest inner 22)
+          read-echo none r is = cc (long, ne-eqb n 1 o, lent-rest inner 22)
 
 pub ruleset channel-read-laws = (needs, read-foreign, read-short, read-version, read-native, read-error, read-unknown, read-err, read-echo)
 

@@ -74,13 +74,18 @@ module _ {a : A.Handled} {r : Answer} {out : List ℕ} where
   pub done-dropped : (n : ℕ) → a ≡ A.dropped n → r ≡ answerOf (A.dropped n) → Done a r out out
   done-dropped n = done-unwritten n 0 0
 
+  -- and those with octets written
+  done-wrote : (number via n : ℕ) {octets out1 : List ℕ} → a ≡ A.wrote number octets via → Wrote octets 0 n out out1 → r ≡ wroteBy number n via
+      → Done a r out out1
+  done-wrote number via n e w is = rw e (record { answer = is ∙ rw (w .ends, zero-add); after = w .after; alone = refl })
+
 -- by a next hop
 pub by-hop : {X : Type 0} (R : Ruling) → (R ≡ Absent → X) → ((r : NextHop) → R ≡ Found r → X) → X
 by-hop Absent lost found = lost refl
 by-hop (Found r) lost found = found r refl
 
 -- the next hop back
-abbrev pub back : Ways → Header → Ruling
+abbrev back : Ways → Header → Ruling
 back S h = returnPath S (h .ingress)
 
 pub link-room : (r : NextHop) (out : List ℕ) → 18 ≤ length out → linkSize (r .vlan) ≤ length out
@@ -115,10 +120,7 @@ module _ (S : Ways) (r : NextHop) (f : List ℕ) (h : Header) (out area : List �
       onward-short = omega (arith, length-link S r)
 
       pub onward-done : (a : Answer) → a ≡ wroteBy 50 end (r .neighbour) → Done (onward S r f h [] 0) a out out2
-      onward-done a is =
-          let all = joined linked w in
-          rw (onward-sent S f h r [] 0 (omega (arith, forwards-long)), ← forwards)
-          (record { answer = is ∙ rw (all .ends, zero-add); after = all .after; alone = refl })
+      onward-done a = done-wrote 50 (r .neighbour) end (onward-sent S f h r [] 0 (omega (arith, forwards-long))) (rw forwards at (joined linked w))
 
     pub onward-fits : Ready f h → length area ≤ 124 → length out1 ≡ length out → 2048 ≤ length out → Fits area f h out1 at
     onward-fits ready few same roomy =
@@ -170,41 +172,41 @@ module _ (S : Ways) {f : List ℕ} {h : Header} (is : Ready f h) (none : opLengt
       let word : length (areaOf f h) ≤ 4 = omega (arith, area-words is) in
       by-test (S .strip && not (S .rfc7179)) (λ u. rw (u, stripped-word (areaOf f h) word)) (λ u. rw u)
 
--- a reply, or none
-unreplied : {a : A.Handled} (n : ℕ) (out : List ℕ) → a ≡ A.dropped n → Replied (a .octets) 0 out out
-unreplied n out e = rw e (record { wrote = record { ends = refl; after = sym (put-none out 0) }; few = omega arith })
+-- a reply is short
+pub reply-short : {reply out out1 : List ℕ} {n : ℕ} → Replied reply n out out1 → n ≤ 2048
+reply-short p = omega (arith, p .few)
 
 -- 25 and 53
 module _ (S : Ways) (f : List ℕ) (h : Header) (code : ℕ) (inner : List ℕ) (held : inner ≡ innerOf f h) (quiet : Bool) (q : quiet ≡ silenced code inner)
-    (out : List ℕ) where
-  pub fault-quiet : quiet ≡ true → Replied (faulted S f h code .octets) 0 out out
-  fault-quiet t = unreplied 25 out (faulted-silent S f h code (cc))
+    (a : Answer) (out : List ℕ) where
+  pub fault-quiet : a ≡ answerOf (A.dropped 25) → quiet ≡ true → Done (faulted S f h code) a out out
+  fault-quiet is t = done-dropped 25 (faulted-silent S f h code (cc)) is
 
   module _ (t : quiet ≡ false) (R : Ruling) (asks : R ≡ back S h) where
-    pub fault-lost : R ≡ Absent → Replied (faulted S f h code .octets) 0 out out
-    fault-lost e = unreplied 25 out (faulted-none S f h code (cc) (cc))
+    pub fault-lost : a ≡ answerOf (A.dropped 25) → R ≡ Absent → Done (faulted S f h code) a out out
+    fault-lost is e = done-dropped 25 (faulted-none S f h code (cc) (cc)) is
 
     pub fault-sent : (hop : NextHop) → R ≡ Found hop → (n : ℕ) (out1 : List ℕ) → Replied (errorReply S hop f h code) n out out1
-        → Replied (faulted S f h code .octets) n out out1
-    fault-sent hop e n out1 p = rw (faulted-over S f h code (cc) hop (cc)) p
+        → a ≡ wroteBy 53 n (hop .neighbour) → Done (faulted S f h code) a out out1
+    fault-sent hop e n out1 p = done-wrote 53 (hop .neighbour) n (faulted-over S f h code (cc) hop (cc)) (p .wrote)
 
-pub ruleset faulted-laws = (needs, ready, inner-held, fault-quiet, fault-lost, fault-sent)
+pub ruleset error-answer-laws = (needs, ready, inner-held, reply-short, fault-quiet, fault-lost, fault-sent)
 
 -- 28 and 54
 module _ (S : Ways) (f : List ℕ) (h : Header) (clock body : List ℕ) (held : body ≡ bodyOf (innerOf f h)) (mode : ℕ) (m : mode ≡ octet body 4)
-    (out : List ℕ) where
-  pub echo-other : (mode ≡ 2 → ⊥) → Replied (echoed S clock f h .octets) 0 out out
-  echo-other o = unreplied 28 out (echoed-mode S f h clock (λ e. o (rw held at m ∙ e)))
+    (a : Answer) (out : List ℕ) where
+  pub echo-other : a ≡ answerOf (A.dropped 28) → (mode ≡ 2 → ⊥) → Done (echoed S clock f h) a out out
+  echo-other is o = done-dropped 28 (echoed-mode S f h clock (λ e. o (rw held at m ∙ e))) is
 
   module _ (o : mode ≡ 2) (R : Ruling) (asks : R ≡ back S h) where
-    pub echo-lost : R ≡ Absent → Replied (echoed S clock f h .octets) 0 out out
-    echo-lost e = unreplied 28 out (echoed-none S f h clock (cc) (cc))
+    pub echo-lost : a ≡ answerOf (A.dropped 28) → R ≡ Absent → Done (echoed S clock f h) a out out
+    echo-lost is e = done-dropped 28 (echoed-none S f h clock (cc) (cc)) is
 
     pub echo-sent : (hop : NextHop) → R ≡ Found hop → (n : ℕ) (out1 : List ℕ) → Replied (echoReply S hop h clock body) n out out1
-        → Replied (echoed S clock f h .octets) n out out1
-    echo-sent hop e n out1 p = rw (echoed-over S f h clock (cc) hop (cc)) (rw held at p)
+        → a ≡ wroteBy 54 n (hop .neighbour) → Done (echoed S clock f h) a out out1
+    echo-sent hop e n out1 p = done-wrote 54 (hop .neighbour) n (echoed-over S f h clock (cc) hop (cc)) (rw held at (p .wrote))
 
-pub ruleset echoed-laws = (needs, ready, body-held, body-within, held-least, held-most, echo-other, echo-lost, echo-sent)
+pub ruleset echo-answer-laws = (needs, ready, body-held, body-within, held-least, held-most, reply-short, echo-other, echo-lost, echo-sent)
 
 -- the two replies towards a next hop: what is written behind the link header makes one write
 module _ (S : Ways) (r : NextHop) (out : List ℕ) (roomy : 576 ≤ length out) where

@@ -1,21 +1,21 @@
 -- A task carried out: the answer without what is replied to an alert, the reply to one, and both together as the rules have them. By one law for each need.
 use Rattle.rules.specs as rules
 use rules.Handling.{forwardedRest, forwarded, onward, faulted, echoed, routed, transit, alerted, alertOf, channelled}
-use rules.{Octets.if_then_else_, Settings.Ways, Options.WellFormed, Options.draftStops, Link.link}
+use rules.{Settings.Ways, Options.WellFormed, Options.draftStops, Link.link}
 use rules.{Header.opLength, Header.areaOf, Header.innerOf, Header.weAreEgress}
 use rules.Extension.{areaSent, areaRead, areaStops, flagUnsummarized, summaryBare, extensionRead, extensionStops}
-use rules.Channel.{replyInner, bodyOf, replyMode, silenced, returnPath, errorReply, echoReply, replyRest, errorBody, echoBody, channelRead}
+use rules.Channel.{replyInner, bodyOf, replyMode, silenced, returnPath, errorReply, echoReply, replyRest, channelRead}
 use Rattle.handler.proofs
-use proofs.StageLaws.{by-hop, back, ready, inner-held, area-held, done-dropped, done-unwritten, plain-sent}
+use proofs.StageLaws.{by-hop, ready, inner-held, area-held, done-dropped, done-unwritten, plain-sent}
 use proofs.RouteLaws.{area-made, read-well, arrives-faulty}
 use proofs.Walks.{area-short}
 use mathlib.Core.Path.{_≡_, refl, sym, ap, _∙_}
 use mathlib.Core.List.{List, [], _++_, append-assoc}
 use mathlib.Core.Bool.{Bool, true, false, not, _&&_, true≢false}
 use Prim.Native.Nat.{ℕ, _+_, _-_, _≤_}
-use native.Mathlib.{Omega.arith, Nat.zero-add}
+use native.Mathlib.Omega.{arith}
 use borrow.Author.Needs.{needs}
-use borrow.Author.Tests.{ne-eqb, not-true, not-false}
+use borrow.Author.Tests.{not-true, not-false}
 use lib.Dec.{ltb, eqb}
 use lib.Seq.{length-take-le, drop-append-le}
 use lib.ListN.{length, length-append, length-take, length-drop, take, drop, take-append-drop, getD, List·getD-eq-default}
@@ -23,8 +23,7 @@ use rules.declared.{NextHop.NextHop, Header.Header, Ruling.Ruling, Alert.Alert, 
 use rules.declared.Ruling.the-variants.{Found, Absent}
 use rules.declared.Alert.the-variants.{NoAlert, AlertFault, AlertErr, AlertRequest}
 use rules.declared.ChannelRead.the-variants.{Fault, BadErr, ErrorHeard, BadEcho, EchoHeard, EchoRequest}
-use Rattle.rules.proofs.{TestLaws.by-test, TestLaws.by-equal, OctetLaws.put-none, OctetLaws.put-front, FrameLaws.link-length, FrameLaws.link-written}
-use Rattle.rules.proofs.HandlingLaws.{faulted-silent, faulted-none, faulted-over, echoed-mode, echoed-none, echoed-over}
+use Rattle.rules.proofs.{TestLaws.by-test, OctetLaws.put-none, OctetLaws.put-front}
 use Rattle.rules.proofs.HandlingLaws.{echo-ranged, channel-echo, routed-egress, routed-transit}
 use Rattle.handler.specs
 use specs.declared.answers.{Refusal.Refusal, Answer.Answer}
@@ -35,53 +34,8 @@ use specs.declared.handling.Local.the-variants.{Dropped, Answered, Message}
 use specs.declared.handling.Task.the-variants.{Stopped, Forward}
 use specs.Tasks.{PutAside, alertRefusal, alertQuiet, transitQuiet, transitAt, messaged, localAt, asksBack, Answerable}
 use specs.Tasks.{Forwardable, Ends, Comes, Routes, Arrives, Replies, RepliesBy, Both}
-use specs.Shapes.{sentOf, answerOf, wroteBy, repliedBy, besideBy, viaOf, neighbourOf, Owns, Sends, onlyFor, waysBy, Ready, Replied, Done}
+use specs.Shapes.{sentOf, answerOf, wroteBy, besideBy, Owns, Sends, onlyFor, waysBy, Ready, Done}
 use Rattle.rules.specs.Answer as A
-
--- a reply has octets, and goes to the next hop that is lookup
-some-octets : (S : Ways) (r : NextHop) (rest : List ℕ) → eqb (length (link S r ++ rest)) 0 ≡ false
-some-octets S r rest =
-    rw length-append (ne-eqb (length (link S r) + length rest) 0 (λ e. absurd (omega (arith, link-written S r .long, link-length (link S r)))))
-
-lookup-back : (t : Lookup) (h : Header) (hop : NextHop) → back (waysBy t) h ≡ Found hop → neighbourOf t ≡ hop .neighbour
-unfolding returnPath
-lookup-back t h hop = go (eqb (h .ingress) (t .own .nickname)) (t .hop)
-  where
-    go : (b : Bool) (R : Ruling) → (if b then Absent else R) ≡ Found hop → viaOf R ≡ hop .neighbour
-    go true R e = cc e
-    go false R e = rw e
-
--- what a reply comes to: none, or one to the next hop back
-data Reply (refusal number : ℕ) (S : Ways) (via : ℕ) : A.Handled → Type 0 where
-  unsent : Reply refusal number S via (A.dropped refusal)
-  sent : (hop : NextHop) (rest : List ℕ) → via ≡ hop .neighbour → Reply refusal number S via (A.wrote number (link S hop ++ rest) (hop .neighbour))
-
-module _ (t : Lookup) (f : List ℕ) (h : Header) where
-  abbrev S : Ways
-  S = waysBy t
-
-  fault-reply : (code : ℕ) → Reply 25 53 S (neighbourOf t) (faulted S f h code)
-  unfolding errorReply
-  fault-reply code =
-      by-test (silenced code (innerOf f h)) (λ s. rw (faulted-silent S f h code s) unsent)
-      (λ s. by-hop (back S h) (λ q. rw (faulted-none S f h code s q) unsent)
-      (λ hop q. rw (faulted-over S f h code s hop q) (sent hop (replyRest S (h .ingress) 0x001 code (errorBody f h)) (lookup-back t h hop q))))
-
-  echo-reply : (clock : List ℕ) → Reply 28 54 S (neighbourOf t) (echoed S clock f h)
-  unfolding echoReply
-  echo-reply clock =
-      by-equal (replyMode (bodyOf (innerOf f h))) 2
-      (λ two. by-hop (back S h) (λ q. rw (echoed-none S f h clock two q) unsent)
-      (λ hop q. rw (echoed-over S f h clock two hop q)
-      (sent hop (replyRest S (h .ingress) 0xFF8 0 (echoBody (bodyOf (innerOf f h)) clock)) (lookup-back t h hop q))))
-      (λ other. rw (echoed-mode S f h clock other) unsent)
-
--- written, it is the answer
-reply-done : {refusal number : ℕ} {S : Ways} {via n : ℕ} {a : A.Handled} {out out1 : List ℕ} → Reply refusal number S via a → Replied (a .octets) n out out1
-    → Done a (repliedBy refusal number n via) out out1
-reply-done unsent p = record { answer = rw (p .wrote .ends); after = p .wrote .after; alone = refl }
-reply-done {S = S} (sent hop rest v) p =
-    record { answer = rw (p .wrote .ends, zero-add, some-octets S hop rest, v); after = p .wrote .after; alone = refl }
 
 -- 21, the alert's 25 and 26, and 50
 module _ (T : Ways) (f : List ℕ) (h : Header) (alert : Alert) (out : List ℕ) (R : Ruling) (asks : R ≡ T .hop (h .egress)) where
@@ -105,18 +59,6 @@ plain-forwarded T f h R asks r found a out out1 = transit-sent T f h NoAlert out
 pub ruleset transit-laws = (needs, transit-lost, transit-refused, transit-sent)
 
 pub ruleset forward-laws = (needs, plain-sent, transit-lost, plain-forwarded)
-
--- the answers of a reply that is made, or not
-module _ (t : Lookup) (f : List ℕ) (h : Header) (n via : ℕ) (v : via ≡ neighbourOf t) (r : Answer) (out out1 : List ℕ) where
-  pub error-answered : (code : ℕ) → Replied (faulted (waysBy t) f h code .octets) n out out1 → r ≡ repliedBy 25 53 n via
-      → Done (faulted (waysBy t) f h code) r out out1
-  error-answered code p is = rw (is, v) (reply-done (fault-reply t f h code) p)
-
-  pub echo-answered : (clock : List ℕ) → Replied (echoed (waysBy t) clock f h .octets) n out out1 → r ≡ repliedBy 28 54 n via
-      → Done (echoed (waysBy t) clock f h) r out out1
-  echo-answered clock p is = rw (is, v) (reply-done (echo-reply t f h clock) p)
-
-pub ruleset reply-answer-laws = (needs, error-answered, echo-answered)
 
 -- what a channel message comes to, by what it is found to be
 module _ (S : Ways) (clock f : List ℕ) (h : Header) (inner : List ℕ) (held : inner ≡ innerOf f h) (read : ChannelRead) (is : read ≡ channelRead inner)

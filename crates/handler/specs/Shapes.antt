@@ -5,7 +5,7 @@ use mathlib.Core.List.{List, [], _++_, foldl}
 use mathlib.Core.Bool.{Bool, false, not, _&&_, _||_}
 use lib.ListN.{length}
 use lib.Dec.{eqb}
-use Rattle.rules.specs.Octets.{if_then_else_, octet, octets16, octets48, part, put}
+use Rattle.rules.specs.Octets.{if_then_else_, octet, be16, octets16, octets48, part, put}
 use Rattle.rules.specs.Fields.{Field, field, cut, fieldsAt}
 use Rattle.rules.specs.Settings.{Ways, newer, hopOf}
 use Rattle.rules.specs.Link.{ethertypeTag, ethertypeTrill}
@@ -19,7 +19,6 @@ use Rattle.rules.specs.Answer as A
 use Rattle.octets.specs.Copy.{Wrote}
 use Rattle.rules.specs.WayOut as W
 use Rattle.rules.specs.declared.Ruling.{Ruling}
-use Rattle.rules.specs.declared.Ruling.the-variants.{Found, Absent}
 use Rattle.rules.specs.declared.Header.{Header}
 use Rattle.rules.specs.declared.FrameRead.the-variants.{Trill}
 use Rattle.handler.specs.declared.answers.Answer.{Answer}
@@ -64,10 +63,6 @@ wroteBy number written via =
 unfoldable pub refusalBy : ℕ → Refusal
 refusalBy n = if eqb n 0 then Passed else Refused n
 
--- a reply of so many octets, or the number that is answered without one
-abbrev pub repliedBy : ℕ → ℕ → ℕ → ℕ → Answer
-repliedBy refusal number written via = if eqb written 0 then droppedBy refusal else wroteBy number written via
-
 -- with a reply beside it
 abbrev pub besideBy : Answer → Answer → Answer
 besideBy a reply =
@@ -89,13 +84,6 @@ pub record Owns (own : Own) (S : Ways) : Type 0 where
 -- what a handling looks up, which asks for the next hop of one destination only
 abbrev pub waysBy : Lookup → Ways
 waysBy t = record { nickname = t .own .nickname; mac = t .own .word / 65536; strip = t .strip; rfc7179 = t .rfc7179; hop = λ d. t .hop }
-
-abbrev pub viaOf : Ruling → ℕ
-viaOf Absent = 0
-viaOf (Found r) = r .neighbour
-
-abbrev pub neighbourOf : Lookup → ℕ
-neighbourOf t = viaOf (t .hop)
 
 -- the record that rules, and the flags, once one more field is read
 unfoldable pub ruledBy : ℕ → Ruling → Field → Ruling
@@ -255,6 +243,10 @@ pub record Fits (area f : List ℕ) (h : Header) (out : List ℕ) (at : ℕ) : T
 -- neither the channel's Ethertype nor that of L2-IS-IS
 abbrev pub foreignBy : ℕ → Bool
 foreignBy ethertype = not (eqb ethertype ethertypeChannel) && not (eqb ethertype ethertypeIsIs)
+
+-- the code of a message that ends within its header
+abbrev pub shortCode : List ℕ → ℕ
+shortCode inner = if foreignBy (be16 inner 16) then 2 else 1
 
 -- the codes that a message may keep from being sent
 abbrev pub silencedBySl : ℕ → Bool

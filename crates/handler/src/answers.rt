@@ -1,7 +1,7 @@
-// The answer of one handling, made in one of five ways.
+// The answer of one handling, made in one of four ways.
 ghost use mathlib.Core.Path.{_≡_};
 ghost use Prim.Native.Nat.{_≤_};
-ghost use Rattle.handler.specs.Shapes.{droppedBy, unwrittenBy, wroteBy, repliedBy, besideBy};
+ghost use Rattle.handler.specs.Shapes.{droppedBy, unwrittenBy, wroteBy, besideBy};
 
 // What the driver is answered. `neighbour` is the one used for what was written, 0 where nothing was; `beside` is the length of a reply made
 // beside a forwarded frame, with its neighbour (document 02, T-09).
@@ -57,17 +57,6 @@ pub fn wrote(number: u8, written: usize, neighbour: u16) -> Answer
         beside: 0,
         beside_neighbour: 0,
     }
-}
-
-// A reply of so many octets, or the number that is answered without one.
-pub fn replied(refusal: u8, number: u8, written: usize, neighbour: u16) -> Answer
-    requires { ⌜ written ≤ 2048 ⌝ }
-    ensures { λ r. ⌜ r ≡ repliedBy refusal number written neighbour ⌝ }
-{
-    if written == 0 {
-        return dropped(refusal);
-    }
-    wrote(number, written, neighbour)
 }
 
 // As `header::copy_of`, of what such a function answered.

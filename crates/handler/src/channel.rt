@@ -3,7 +3,7 @@ use rules::ChannelRead;
 ghost use mathlib.Core.Path.{_≡_};
 ghost use Prim.Native.Nat.{_/_, _%_};
 ghost use Rattle.rules.specs.Channel as C;
-ghost use Rattle.handler.specs.Shapes.{foreignBy, silencedBySl};
+ghost use Rattle.handler.specs.Shapes.{foreignBy, shortCode, silencedBySl};
 
 // The channel header's words: CHV 4, protocol 12; SL, MH, NA and nine more flags, ERR 4.
 fn chv(w: u16) -> u16
@@ -72,23 +72,36 @@ fn echo_read(body: &[u8]) -> ChannelRead
         return ChannelRead::BadEcho;
     }
     let kind = spid(octets::octet(body, 0));
-    if kind == 4 {
-        return ChannelRead::EchoHeard;
-    }
     if kind == 3 {
         return ChannelRead::EchoRequest;
     }
+    if kind == 4 {
+        return ChannelRead::EchoHeard;
+    }
     ChannelRead::BadEcho
+}
+
+// The code of a message that ends within its header.
+fn short_code(inner: &[u8]) -> u8
+    ensures { λ r. ⌜ r ≡ shortCode (now (inner .entry)) ⌝ }
+{
+    if foreign(octets::be16(inner, 16)) {
+        2
+    } else {
+        1
+    }
 }
 
 pub fn channel_read(inner: &[u8]) -> ChannelRead
     ensures { λ r. ⌜ r ≡ C.channelRead (now (inner .entry)) ⌝ }
 {
+    if inner.len() < 22 {
+        return ChannelRead::Fault {
+            code: short_code(inner),
+        };
+    }
     if foreign(octets::be16(inner, 16)) {
         return ChannelRead::Fault { code: 2 };
-    }
-    if inner.len() < 22 {
-        return ChannelRead::Fault { code: 1 };
     }
     let word = octets::be16(inner, 18);
     let flags = octets::be16(inner, 20);

@@ -28,7 +28,7 @@ ghost use Rattle.rules.specs.Extension.{areaSent};
 ghost use Rattle.rules.specs.Handling as Rules;
 ghost use Rattle.rules.specs.declared.FrameRead.the-variants.{Trill};
 ghost use Rattle.rules.specs.declared.Alert.the-variants.{NoAlert};
-ghost use Rattle.handler.specs.Shapes.{AreaWords, areaReadOf, Ready, Replied, Sends, Done, waysBy};
+ghost use Rattle.handler.specs.Shapes.{AreaWords, areaReadOf, Ready, Sends, Done, waysBy};
 ghost use Rattle.handler.specs.Tasks.{areaReadBy, ReadBy, stopsBy, alertBy, alertRefusal, wantedBy, askedBy, asksBack, transitQuiet, messaged};
 ghost use Rattle.handler.specs.Tasks.{EchoIn, Comes, RoutesRead, Routes, Arrives, Receives, Receiving};
 
@@ -433,46 +433,21 @@ fn send_with(t: Lookup, r: NextHop, area: &[u8], f: &[u8], h: Header, out: &mut 
     answers::wrote(50, end, r.neighbour)
 }
 
-// The reply of 53 and how long it is, 0 for 25.
-fn faulted(t: Lookup, f: &[u8], h: Header, code: u8, out: &mut [u8]) -> usize
-    requires { ⌜ Ready (now f) h × (576 ≤ length (now out)) ⌝ }
-    ensures { λ n. ⌜ Replied (Rules.faulted (waysBy t) (now (f .entry)) h code .octets) n (now (out .entry)) (now (out .exit)) ⌝ }
-{
-    let start = header::inner_start(h);
-    if channel::silenced(code, &f[start..]) {
-        return 0;
-    }
-    let back = way::return_path(t, h.ingress);
-    let Ruling::Found(r) = back else {
-        return 0;
-    };
-    reply::error_reply(t, r, f, h, code, out)
-}
-
-// The reply of 54 and how long it is, 0 for 28.
-fn echoed(t: Lookup, clock: &[u8], f: &[u8], h: Header, out: &mut [u8]) -> usize
-    requires { ⌜ EchoIn (now f) h × (length (now clock) ≡ 6) × Ready (now f) h × (576 ≤ length (now out)) ⌝ }
-    ensures { λ n. ⌜ Replied (Rules.echoed (waysBy t) (now (clock .entry)) (now (f .entry)) h .octets) n (now (out .entry)) (now (out .exit)) ⌝ }
-{
-    let start = header::inner_start(h) + 22;
-    let body = &f[start..];
-    if octets::octet(body, 4) != 2 {
-        return 0;
-    }
-    let back = way::return_path(t, h.ingress);
-    let Ruling::Found(r) = back else {
-        return 0;
-    };
-    reply::echo_reply(t, r, h, clock, body, out)
-}
-
 // 53, or 25.
 fn error_answer(t: Lookup, f: &[u8], h: Header, code: u8, out: &mut [u8]) -> Answer
     requires { ⌜ Ready (now f) h × (576 ≤ length (now out)) ⌝ }
     ensures { λ r. ⌜ Done (Rules.faulted (waysBy t) (now (f .entry)) h code) r (now (out .entry)) (now (out .exit)) ⌝ }
 {
-    let n = faulted(t, f, h, code, out);
-    answers::replied(25, 53, n, way::neighbour(t))
+    let start = header::inner_start(h);
+    if channel::silenced(code, &f[start..]) {
+        return answers::dropped(25);
+    }
+    let back = way::return_path(t, h.ingress);
+    let Ruling::Found(r) = back else {
+        return answers::dropped(25);
+    };
+    let n = reply::error_reply(t, r, f, h, code, out);
+    answers::wrote(53, n, r.neighbour)
 }
 
 // 54, or 28.
@@ -480,8 +455,17 @@ fn echo_answer(t: Lookup, clock: &[u8], f: &[u8], h: Header, out: &mut [u8]) -> 
     requires { ⌜ EchoIn (now f) h × (length (now clock) ≡ 6) × Ready (now f) h × (576 ≤ length (now out)) ⌝ }
     ensures { λ r. ⌜ Done (Rules.echoed (waysBy t) (now (clock .entry)) (now (f .entry)) h) r (now (out .entry)) (now (out .exit)) ⌝ }
 {
-    let n = echoed(t, clock, f, h, out);
-    answers::replied(28, 54, n, way::neighbour(t))
+    let start = header::inner_start(h) + 22;
+    let body = &f[start..];
+    if octets::octet(body, 4) != 2 {
+        return answers::dropped(28);
+    }
+    let back = way::return_path(t, h.ingress);
+    let Ruling::Found(r) = back else {
+        return answers::dropped(28);
+    };
+    let n = reply::echo_reply(t, r, h, clock, body, out);
+    answers::wrote(54, n, r.neighbour)
 }
 
 // 25 to 28 and 53 to 56: a channel message to us, or one that an alert has us answer.

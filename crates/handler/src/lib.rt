@@ -373,7 +373,7 @@ fn plain_in(
 {
     if header::we_are_egress(own.nickname, h) {
         let local = handling::decapsulated(frame, h);
-        return local_in(store, own, clock, frame, h, local, out);
+        return local_in(store, clock, frame, h, local, out);
     }
     let index = store::index_inlined(store, h.egress);
     let t = store::lookup(store, own, h.egress, index);
@@ -383,14 +383,13 @@ fn plain_in(
 // A frame that is not forwarded.
 fn local_in(
     store: &[u64],
-    own: Own,
     clock: &[u8],
     frame: &[u8],
     h: Header,
     local: Local,
     out: &mut [u8],
 ) -> Answer
-    requires { ⌜ Whole (now store) × Owns own (waysIn (now store)) × Ends local × Ready (now frame) h × (length (now clock) ≡ 6) × (2048 ≤ length (now out)) ⌝ }
+    requires { ⌜ Whole (now store) × Ends local × Ready (now frame) h × (length (now clock) ≡ 6) × (2048 ≤ length (now out)) ⌝ }
     ensures { λ r. ⌜ Done (localAt (waysIn (now (store .entry))) (now (clock .entry)) (now (frame .entry)) h local) r (now (out .entry)) (now (out .exit)) ⌝ }
 {
     match local {
@@ -400,25 +399,17 @@ fn local_in(
             start,
             length,
         } => answers::unwritten(number, start, length),
-        Local::Message => apart_in(store, own, clock, frame, h, out),
+        Local::Message => apart_in(store, clock, frame, h, out),
     }
 }
 
 // A channel message, with copies lent.
-fn apart_in(
-    store: &[u64],
-    own: Own,
-    clock: &[u8],
-    frame: &[u8],
-    h: Header,
-    out: &mut [u8],
-) -> Answer
-    requires { ⌜ Whole (now store) × Owns own (waysIn (now store)) × Ready (now frame) h × (length (now clock) ≡ 6) × (576 ≤ length (now out)) ⌝ }
+fn apart_in(store: &[u64], clock: &[u8], frame: &[u8], h: Header, out: &mut [u8]) -> Answer
+    requires { ⌜ Whole (now store) × Ready (now frame) h × (length (now clock) ≡ 6) × (576 ≤ length (now out)) ⌝ }
     ensures { λ r. ⌜ Done (messaged (waysIn (now (store .entry))) (now (clock .entry)) (now (frame .entry)) h) r (now (out .entry)) (now (out .exit)) ⌝ }
 {
     let a = message_in(
         reborrow_words(store),
-        way::copy_of(own),
         reborrow(clock),
         reborrow(frame),
         header::copy_of(h),
@@ -428,17 +419,11 @@ fn apart_in(
 }
 
 // A channel message.
-fn message_in(
-    store: &[u64],
-    own: Own,
-    clock: &[u8],
-    frame: &[u8],
-    h: Header,
-    out: &mut [u8],
-) -> Answer
-    requires { ⌜ Whole (now store) × Owns own (waysIn (now store)) × Ready (now frame) h × (length (now clock) ≡ 6) × (576 ≤ length (now out)) ⌝ }
+fn message_in(store: &[u64], clock: &[u8], frame: &[u8], h: Header, out: &mut [u8]) -> Answer
+    requires { ⌜ Whole (now store) × Ready (now frame) h × (length (now clock) ≡ 6) × (576 ≤ length (now out)) ⌝ }
     ensures { λ r. ⌜ Done (messaged (waysIn (now (store .entry))) (now (clock .entry)) (now (frame .entry)) h) r (now (out .entry)) (now (out .exit)) ⌝ }
 {
+    let own = store::own_of(store);
     let index = store::index_in(reborrow_words(store), h.ingress);
     let t = store::lookup(store, own, h.ingress, index);
     handling::message(t, clock, frame, h, &mut out[..576])
@@ -462,7 +447,7 @@ fn area_in(
 {
     if header::we_are_egress(own.nickname, h) {
         let local = handling::at_egress(rfc7179, frame, h);
-        return local_in(store, own, clock, frame, h, local, out);
+        return local_in(store, clock, frame, h, local, out);
     }
     route_in(store, own, rfc7179, clock, frame, h, out, beside)
 }
@@ -519,7 +504,7 @@ fn forward_in(
         (now (out .entry)) (now (out .exit)) (now (beside .entry)) (now (beside .exit)) ⌝ }
 {
     let a = transit_in(store, own, frame, h, alert, area, out);
-    reply_in(store, own, a, clock, frame, h, alert, out, beside)
+    reply_in(store, a, clock, frame, h, alert, out, beside)
 }
 
 // Without what is replied to its alert.
@@ -544,7 +529,6 @@ fn transit_in(
 // With what is replied to its alert, if that asks for a reply: an error in place of 25, or an echo reply beside 50.
 fn reply_in(
     store: &[u64],
-    own: Own,
     a: Answer,
     clock: &[u8],
     frame: &[u8],
@@ -553,20 +537,19 @@ fn reply_in(
     out: &mut [u8],
     beside: &mut [u8],
 ) -> Answer
-    requires { ⌜ Whole (now store) × Owns own (waysIn (now store)) × Forwardable (now frame) h alert × (length (now clock) ≡ 6)
-        × (2048 ≤ length (now out)) × (576 ≤ length (now beside)) ⌝ }
+    requires { ⌜ Whole (now store) × Forwardable (now frame) h alert × (length (now clock) ≡ 6) × (2048 ≤ length (now out))
+        × (576 ≤ length (now beside)) ⌝ }
     ensures { λ r. ⌜ Replies (waysIn (now (store .entry))) (now (clock .entry)) (now (frame .entry)) h alert a r
         (now (out .entry)) (now (out .exit)) (now (beside .entry)) (now (beside .exit)) ⌝ }
 {
     if !handling::asks_back(alert) {
         return a;
     }
-    answer_in(store, own, a, clock, frame, h, alert, out, beside)
+    answer_in(store, a, clock, frame, h, alert, out, beside)
 }
 
 fn answer_in(
     store: &[u64],
-    own: Own,
     a: Answer,
     clock: &[u8],
     frame: &[u8],
@@ -575,18 +558,18 @@ fn answer_in(
     out: &mut [u8],
     beside: &mut [u8],
 ) -> Answer
-    requires { ⌜ Whole (now store) × Owns own (waysIn (now store)) × (asksBack alert ≡ true) × Forwardable (now frame) h alert
-        × (length (now clock) ≡ 6) × (2048 ≤ length (now out)) × (576 ≤ length (now beside)) ⌝ }
+    requires { ⌜ Whole (now store) × (asksBack alert ≡ true) × Forwardable (now frame) h alert × (length (now clock) ≡ 6) × (2048 ≤ length (now out))
+        × (576 ≤ length (now beside)) ⌝ }
     ensures { λ r. ⌜ Replies (waysIn (now (store .entry))) (now (clock .entry)) (now (frame .entry)) h alert a r
         (now (out .entry)) (now (out .exit)) (now (beside .entry)) (now (beside .exit)) ⌝ }
 {
     if a.number == 25 {
-        return message_in(store, own, clock, frame, h, out);
+        return message_in(store, clock, frame, h, out);
     }
     if a.number != 50 {
         return a;
     }
-    let b = message_in(store, own, clock, frame, h, beside);
+    let b = message_in(store, clock, frame, h, beside);
     answers::with_beside(a, b)
 }
 

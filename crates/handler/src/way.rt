@@ -11,7 +11,7 @@ ghost use Rattle.rules.specs.Channel.{returnPath};
 ghost use Rattle.rules.specs.WayOut.{wayOutBy};
 ghost use Rattle.octets.specs.Words.{octets64};
 ghost use Rattle.octets.specs.Copy.{Wrote};
-ghost use Rattle.handler.specs.Shapes.{linkSize, waysBy, neighbourOf, WayDone};
+ghost use Rattle.handler.specs.Shapes.{linkSize, waysBy, WayDone};
 
 // Own nickname, and own MAC above 16 bits that say nothing: so a store has it, and so its octets are written, eight in one.
 pub struct Own {
@@ -78,17 +78,6 @@ pub fn return_path(t: Lookup, ingress: u16) -> Ruling
         return Ruling::Absent;
     }
     t.hop
-}
-
-// The neighbour of the next hop, 0 where there is none.
-pub fn neighbour(t: Lookup) -> u16
-    ensures { λ r. ⌜ r ≡ neighbourOf t ⌝ }
-{
-    let hop = t.hop;
-    let Ruling::Found(r) = hop else {
-        return 0;
-    };
-    r.neighbour
 }
 
 // What a caller who asks for the way out is answered.

@@ -9,7 +9,7 @@ use borrow.Author.Needs.{needs}
 use mir.Syntax.{w8}
 use mir.Val.{Fits}
 use lib.Seq.{paste, paste-zero, paste-suc, take-length, take-all, take-add, length-take-le}
-use lib.ListN.{length, getD, set, take, drop, replicate, length-append, length-take, length-drop, take-append-drop, List·getD-eq-default}
+use lib.ListN.{length, getD, set, take, drop, replicate, length-append, length-take, length-drop, take-append-drop, drop-of-length-le, length-replicate, List·getD-eq-default}
 use Rattle.rules.proofs.{TestLaws.tests, OctetLaws.put-none, OctetLaws.put-put, OctetLaws.put-tail, OctetLaws.put-front, OctetLaws.length-put}
 use Rattle.rules.specs.Octets.{octet, be16, be32, be48, octets16, octets48, put}
 use Rattle.octets.specs.Copy.{Wrote, fitting}
@@ -192,11 +192,15 @@ module _ (d : List ℕ) (at : ℕ) (s : List ℕ) (i : ℕ) (out : List ℕ) (is
 
 pub ruleset fill-laws = (needs, paste-zero, fill-on, fill-end)
 
--- a block, by way of sixteen octets of our own
+-- a block, by way of an array of our own
+pub block-all : (k : ℕ) (s b : List ℕ) → length s ≡ k → b ≡ put (replicate k 0) 0 s → b ≡ s
+block-all k s b n is =
+    let zeros = replicate {A = ℕ} k 0 in
+    let none : drop (length s) zeros ≡ [] = drop-of-length-le zeros {i = length s} (omega (arith, length-replicate {A = ℕ} k 0)) in
+    is ∙ rw (put-front zeros s, none, append-nil)
+
 pub block-through : (d : List ℕ) (at : ℕ) (s b : List ℕ) → length s ≡ 16 → b ≡ put (replicate 16 0) 0 s → {d′ : List ℕ} → d′ ≡ put d at b → d′ ≡ put d at s
-block-through d at s b n is e =
-    let all : b ≡ s = is ∙ rw (put-front (replicate 16 0) s, n, append-nil) in
-    rw all at e
+block-through d at s b n is e = rw (block-all 16 s b n is) at e
 
 pub ruleset block-laws = (needs, block-through)
 

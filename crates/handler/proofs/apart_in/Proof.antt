@@ -6,4 +6,4 @@ use proofs.apart_in as fn
 pub apart-in-spec : {M : Type 1} → fn.Statement.statement M
 apart-in-spec = fn.Tie.close (fn.Tie.spec
     (λ c _. search laws) (λ c _. search laws) (λ c _. search laws) (λ c _. search laws) (λ c _. search laws) (λ c _. search laws)
-    (λ c _. search laws) (λ c. search laws) (λ c. search laws))
+    (λ c. search laws) (λ c. search laws))

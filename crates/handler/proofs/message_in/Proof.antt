@@ -5,5 +5,5 @@ use proofs.message_in as fn
 
 pub message-in-spec : {M : Type 1} → fn.Statement.statement M
 message-in-spec = fn.Tie.close (fn.Tie.spec
-    (λ c _. search laws) (λ c _. search laws) (λ c _. search laws) (λ c. search laws) (λ c. search laws) (λ c _. search laws) (λ c. search laws)
-    (λ c. search laws))
+    (λ c _. search laws) (λ c _. search laws) (λ c _. search laws) (λ c _. search laws) (λ c. search laws) (λ c. search laws)
+    (λ c _. search laws) (λ c. search laws) (λ c. search laws))

@@ -1,7 +1,10 @@
--- Its contract, by whether a reply is made.
+-- Its contract, by the next hop back that was found.
 use Rattle.handler.proofs
-use proofs.TaskLaws.{reply-answer-laws as laws}
+use proofs.StageLaws.{echo-answer-laws as laws}
 use proofs.handling.echo_answer as fn
 
 pub echo-answer-spec : {M : Type 1} → fn.Statement.statement M
-echo-answer-spec = fn.Tie.close (fn.Tie.spec (λ c _. search laws) (λ c _. search laws) (λ c _. search laws) (λ c. search laws) (λ c. search laws))
+echo-answer-spec = fn.Tie.close (fn.Tie.spec
+    (λ c _. search laws) (λ c. search laws) (λ c. search laws) (λ c. search laws) (λ c. search laws) (λ c _. search laws) (λ c _. search laws)
+    (λ c. search laws) (λ c _. search laws) (λ c. search laws) (λ c. search laws) (λ c _. search laws) (λ c. search laws) (λ c _. search laws)
+    (λ c _. search laws) (λ c. search laws) (λ c. search laws))
