@@ -1,11 +1,12 @@
--- What a search by halving comes to: an index at which the test holds, unless it is 0, and behind which it holds nowhere, if it holds nowhere behind a
--- index at which it fails. By what each step keeps.
-use Prim.Native.Nat.{ℕ, _+_, _<_, _≤_}
+-- What a search by halving comes to: an index at which the test holds, unless it is 0, and behind which it holds nowhere, if it holds nowhere behind
+-- one at which it fails. By what each step keeps.
+use Prim.Native.Nat.{ℕ, _+_, _*_, _<_, _≤_}
 use mathlib.Core.Path.{_≡_}
 use mathlib.Core.Bool.{Bool, true, false}
 use native.Mathlib.Omega.{arith}
+use Rattle.rules.specs.Octets.{if_then_else_}
 use Rattle.rules.proofs.TestLaws.{by-test}
-use Rattle.stores.specs.Halving.{halved, sixTimes}
+use Rattle.stores.specs.Halving.{halved, twiceHalved, sixTimes}
 
 module _ (P : ℕ → Bool) where
   abbrev Reached : ℕ → Type 0
@@ -36,12 +37,12 @@ module _ (P : ℕ → Bool) where
         (step-beyond _ _ (omega arith)
         (step-beyond _ _ (omega arith) (step-beyond _ _ (omega arith) (step-beyond _ _ (omega arith) b)))))
 
-  -- a step as the code takes it
-  module _ (at half : ℕ) (b : Bool) (is : b ≡ P (at + half)) where
-    pub half-on : b ≡ true → at + half ≡ halved P at half
+  -- two steps, by the tests that they make
+  module _ (at half : ℕ) where
+    pub twice-on : P (at + 2 * half) ≡ true → twiceHalved P at half ≡ (if P (at + 2 * half + half) then at + 2 * half + half else at + 2 * half)
     unfolding halved
-    half-on t = rw (← is, t)
+    twice-on t = rw t
 
-    pub half-stay : b ≡ false → at ≡ halved P at half
+    pub twice-stay : P (at + 2 * half) ≡ false → twiceHalved P at half ≡ (if P (at + half) then at + half else at)
     unfolding halved
-    half-stay f = rw (← is, f)
+    twice-stay f = rw f

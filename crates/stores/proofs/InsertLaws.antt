@@ -105,20 +105,20 @@ module _ (d : List ℕ) (at : ℕ) (s : List ℕ) (room : at + length s ≤ leng
   head-long : length (take at d ++ s) ≡ at + length s
   head-long = rw (length-append, start-long)
 
-  put-before : (j : ℕ) → j < at → getD (put d at s) j 0 ≡ getD d j 0
+  pub put-before : (j : ℕ) → j < at → getD (put d at s) j 0 ≡ getD d j 0
   unfolding put
   put-before j h =
       let a : j < length (take at d ++ s) = omega (arith, head-long) in
       let b : j < length (take at d) = omega (arith, start-long) in
       rw (List·getD-append, List·getD-append, getD-take)
 
-  put-inside : (j k : ℕ) → j ≡ at + k → k < length s → getD (put d at s) j 0 ≡ getD s k 0
+  pub put-inside : (j k : ℕ) → j ≡ at + k → k < length s → getD (put d at s) j 0 ≡ getD s k 0
   unfolding put
   put-inside j k e h =
       let a : at + k < length (take at d ++ s) = omega (arith, head-long) in
       rw (e, List·getD-append) (rw start-long at (getD-append-add (take at d) s k 0))
 
-  put-beyond : (j k : ℕ) → j ≡ at + length s + k → getD (put d at s) j 0 ≡ getD d j 0
+  pub put-beyond : (j k : ℕ) → j ≡ at + length s + k → getD (put d at s) j 0 ≡ getD d j 0
   unfolding put
   put-beyond j k e = rw e ((rw head-long at (getD-append-add (take at d ++ s) (drop (at + length s) d) k 0)) ∙ getD-drop (at + length s) d k 0)
 

@@ -12,7 +12,8 @@ use borrow.Author.Tests.{ne-eqb, eq-eqb, not-true, not-false}
 use lib.Dec.{ltb, eqb}
 use lib.ListN.{length, getD, set, drop, length-set, List·getD-append}
 use lib.Seq.{getD-set-same, getD-set-other, sets-eq, paste, paste-zero, drop-at}
-use Rattle.octets.proofs.{Ends.fill-on, Ends.fill-end, Hops.hop-same}
+use Rattle.octets.specs.Words.{be64}
+use Rattle.octets.proofs.{Hops.hop-same, WordLaws.first-part, WordLaws.rest-part}
 use Rattle.rules.specs as rules
 use rules.Octets.{if_then_else_, put, octet, be16, be48, part}
 use rules.Fields.{Field, field, cut, fieldAt, fieldsAt, fields, hopSize, lengthGood}
@@ -26,111 +27,17 @@ use ruleLaws.{OctetLaws.put-front, OctetLaws.length-put, HandlingLaws.settings-g
 use ruleLaws.FieldLaws.{IsField, field-read, fields-at-end, fields-at-cut, fields-at-on}
 use ruleLaws.SettingsLaws.{from-on, from-bad, from-read}
 use Rattle.stores.specs
-use specs.Halving.{halved}
 use specs.Store.{countIn, handledIn, Stands, Roomy, Filled, Fills, Hinted, preparing, Prepared}
-use specs.Insert.{firstWord, secondWord, belowAt, indexFor, metAt, metIn, putIn, insertedIn, Shifted}
+use specs.Insert.{firstWord, secondWord, metIn, insertedIn}
 use specs.Extend.{withSwitch, opensIn, Opens, roomIn, countBy, metBy, addedTo, recordCode, flagCode, flagWord, FlagIn, extending}
 use specs.Extend.{extended, withRecord, Extends}
 use Rattle.octets.specs.{Flags.flagTag, Flags.flagValue, Flags.flagBy, Records.recordOf, Records.hopBy}
 use Rattle.octets.specs.declared.values.Record.{Record}
 use ruleLaws.FirstLaws.{continues-cut, opened-field, first, settings-open, settings-bad, settings-cut, switch-fold}
 use Rattle.stores.proofs
-use proofs.HalvingLaws.{half-on, half-stay}
-use proofs.InsertLaws.{index-most, put-at-is, inserted-long}
+use proofs.InsertLaws.{inserted-long}
 use proofs.ExtendLaws.{Ample, record-long, extending-continues, extended-stands, extended-long, extended-few, switch-stands}
 use proofs.ExtendLaws.{switch-counts, switch-long, says, room-parts, is-good, stands-too}
-
--- the index for a rank: behind the last record, or by six steps
-module _ (w : List ℕ) (n rank : ℕ) (last : Bool) (is : last ≡ belowAt w n rank n) where
-  pub index-behind : last ≡ true → n ≡ indexFor w rank n
-  unfolding indexFor
-  index-behind t = rw (← is, t)
-
-  abbrev next : ℕ → ℕ → ℕ
-  next = halved (belowAt w n rank)
-
-  pub index-halved : last ≡ false → (a b c d e r : ℕ) → r ≡ next e 1 → e ≡ next d 2 → d ≡ next c 4 → c ≡ next b 8 → b ≡ next a 16 → a ≡ next 0 32
-      → r ≡ indexFor w rank n
-  unfolding indexFor
-  index-halved f a b c d e r er ee ed ec eb ea = er ∙ rw (ee, ed, ec, eb, ea, ← is, f)
-
-pub ruleset step-laws = (needs, half-on, half-stay)
-
-pub ruleset index-for-laws = (needs, index-behind, index-halved)
-
--- the words moved, from behind
-pub record Moving (w : List ℕ) (from to i : ℕ) (v : List ℕ) : Type 0 where
-  pub least : from ≤ i
-  pub most : i ≤ to
-  pub shifted : Shifted w i to v
-
-module _ (w : List ℕ) (from to : ℕ) where
-  pub moving-begin : from ≤ to → Moving w from to to w
-  moving-begin h =
-      record {
-        least = h;
-        most = omega arith;
-        shifted = record { size = refl; before = λ j b. refl; moved = λ j a b. absurd (omega arith); beyond = λ j b. refl };
-      }
-
-  module _ (i : ℕ) (v : List ℕ) (m : Moving w from to i v) where
-    pub moving-on : from < i → to + 2 ≤ length w → Moving w from to (i - 1) (set v (i + 1) (getD v (i - 1) 0))
-    moving-on h room =
-        let s = m .shifted in
-        record {
-          least = omega arith;
-          most = omega (arith, m .most);
-          shifted =
-              record {
-                size = rw length-set (s .size);
-                before = λ j b. other j (omega arith) ∙ s .before j (omega arith);
-                moved = λ j a b. by-equal j (i - 1) (here j) (λ n. other (j + 2) (omega (arith, n)) ∙ s .moved j (omega (arith, n)) b);
-                beyond = λ j b. other j (omega (arith, m .most)) ∙ s .beyond j b;
-              };
-        }
-      where
-        other : (j : ℕ) → (j ≡ i + 1 → ⊥) → getD (set v (i + 1) (getD v (i - 1) 0)) j 0 ≡ getD v j 0
-        other j n = rw getD-set-other
-
-        here : (j : ℕ) → j ≡ i - 1 → getD (set v (i + 1) (getD v (i - 1) 0)) (j + 2) 0 ≡ getD w j 0
-        here j e =
-            let f : j + 2 ≡ i + 1 = omega arith in
-            rw (f, e, getD-set-same v (i + 1) (getD v (i - 1) 0) 0 (omega (arith, m .most, m .shifted .size))) (m .shifted .before (i - 1) (omega arith))
-
-    pub moving-end : i ≤ from → Shifted w from to v
-    moving-end h =
-        let e : i ≡ from = omega (arith, m .least) in
-        rw e at (m .shifted)
-
-pub ruleset shift-laws = (needs, moving-begin, moving-on, moving-end)
-
--- the two ways out of an insertion
-module _ (w : List ℕ) (n first second p : ℕ) (index : p ≡ indexFor w (first / 65536) n) (m : Bool) (is : m ≡ metAt w n (first / 65536) p) where
-  pub inserted-not : m ≡ true → false ≡ not (metIn w n (first / 65536))
-  unfolding metIn
-  inserted-not t = cc
-
-  pub inserted-same : m ≡ true → w ≡ insertedIn w n first second
-  unfolding metIn insertedIn
-  inserted-same t = cc
-
-  pub inserted-so : m ≡ false → true ≡ not (metIn w n (first / 65536))
-  unfolding metIn
-  inserted-so t = cc
-
-  pub inserted-put : m ≡ false → (v : List ℕ) → v ≡ putIn w n first second p → v ≡ insertedIn w n first second
-  unfolding metIn insertedIn
-  inserted-put t v e = cc
-
-pub index-within : (w : List ℕ) (n rank p : ℕ) → p ≡ indexFor w rank n → p ≤ n
-index-within w n rank p e = rw e (index-most w rank n)
-
-pub ruleset insert-laws = (needs, inserted-not, inserted-same, inserted-so, inserted-put, index-within)
-
-pub value-room : (p : ℕ) (v w : List ℕ) (from to n first : ℕ) → Shifted w from to v → p ≤ n → 6 + 2 * n ≤ length w → 5 + 2 * p < length (set v (4 + 2 * p) first)
-value-room p v w from to n first s within room = rw length-set (omega (arith, s .size))
-
-pub ruleset put-at-laws = (needs, put-at-is, value-room)
 
 -- what the number of records says of the room for one more
 module _ (w : List ℕ) (n : ℕ) (is : n ≡ countBy w) where
@@ -377,12 +284,13 @@ module _ (s : List ℕ) (from : ℕ) (w : List ℕ) where
 pub ruleset fill-from-laws = (needs, taken, extend-long, filling-begin, filling-end, filling-cut, filling-bad, filling-on)
 
 -- the switch alone
-pub open-is : (w v : List ℕ) (a x : ℕ) → 4 ≤ length w → a ≡ be16 v 0 → x ≡ be48 v 2
-    → set (set (set (set w 0 a) 1 (x * 65536 % 18446744073709551616 + 8947)) 2 0) 3 0 ≡ withSwitch w v
+pub open-is : (w v : List ℕ) (n : ℕ) → 4 ≤ length w → n ≡ be64 v 0
+    → set (set (set (set w 0 (n / 281474976710656)) 1 (n * 65536 % 18446744073709551616 + 8947)) 2 0) 3 0 ≡ withSwitch w v
 unfolding put
-open-is w v a x long ea ex =
-    let mac : x * 65536 % 18446744073709551616 ≡ be48 v 2 * 65536 = omega arith in
-    rw (ea, mac) (sets-eq (be16 v 0 ∷ (be48 v 2 * 65536 + 8947) ∷ 0 ∷ 0 ∷ []) w 0 long)
+open-is w v n long is =
+    let name = first-part v 0 n is in
+    let mac : n * 65536 % 18446744073709551616 ≡ be48 v 2 * 65536 = omega (arith, rest-part v 0 n is) in
+    rw (name, mac) (sets-eq (be16 v 0 ∷ (be48 v 2 * 65536 + 8947) ∷ 0 ∷ 0 ∷ []) w 0 long)
 
 pub ruleset open-laws = (needs, open-is, lt-of-lt-of-le)
 
@@ -403,12 +311,6 @@ hinting-on w v k x h =
     record { size = rw length-set (h .size); before = λ j b. getD-set-other v (132 + k) j x 0 (omega arith) ∙ h .before j b }
 
 pub ruleset hint-all-laws = (needs, hinting-begin, hinting-on)
-
--- what is copied
-pub copying-on : (d s : List ℕ) (i : ℕ) (o : List ℕ) → o ≡ paste d 0 s i → i < length s → length s ≤ length d → set o i (getD s i 0) ≡ paste d 0 s (i + 1)
-copying-on d s i o is h room = rw zero-add at (fill-on d 0 s i o is h (rw zero-add room))
-
-pub ruleset copy-laws = (needs, paste-zero, copying-on, fill-end)
 
 -- the fields from a place on, with hints or without: other hints stand for the same
 module _ (s : List ℕ) (from : ℕ) (w : List ℕ) (r : Bool) (u : List ℕ) (f : Fills s from w r u) where

@@ -1,5 +1,5 @@
 -- One more record among those of a store.
-use Prim.Native.Nat.{ℕ, suc, _+_, _-_, _*_, _/_, _≤_, _<_}
+use Prim.Native.Nat.{ℕ, suc, _+_, _-_, _*_, _/_, _%_, _≤_, _<_}
 use mathlib.Core.Path.{_≡_}
 use mathlib.Core.List.{List, _∷_}
 use mathlib.Core.Bool.{Bool, _&&_}
@@ -40,6 +40,20 @@ putIn w n first second p = put w (4 + 2 * p) (first ∷ second ∷ part w (4 + 2
 -- in its order, unless its rank was met
 unfoldable pub insertedIn : List ℕ → ℕ → ℕ → ℕ → List ℕ
 insertedIn w n first second = if metIn w n (first / 65536) then w else putIn w n first second (indexFor w (first / 65536) n)
+
+-- n records counted by their words, two each, and a rank as the least word that has it
+pub record Counted (w : List ℕ) (end bound : ℕ) : Type 0 where
+  pub there : 4 + end ≤ length w
+  pub records : end % 2 ≡ 0
+  pub rank : bound % 65536 ≡ 0
+
+-- room for one record more, at p of these words
+pub record RoomAt (w : List ℕ) (end p : ℕ) : Type 0 where
+  pub within : p ≤ end
+  pub few : end ≤ 128
+  pub records : end % 2 ≡ 0
+  pub even : p % 2 ≡ 0
+  pub room : 6 + end ≤ length w
 
 -- p: how many of the first n records are below the rank, if they are in order
 pub record IndexFor (w : List ℕ) (n rank p : ℕ) : Type 0 where

@@ -16,7 +16,7 @@ pub extern "C" fn trill_prepare(settings: &[u8], store: &mut [u64]) -> u32
     if store.len() < 164 {
         return 2;
     }
-    preparing::copy(store, &w);
+    preparing::copy(store, 0, &w);
     0
 }
 

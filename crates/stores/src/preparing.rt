@@ -3,96 +3,133 @@ use octets::Record;
 use rules::FieldRead;
 ghost use mathlib.Core.Path.{_≡_};
 ghost use mathlib.Core.Bool.{not};
-ghost use Prim.Native.Nat.{_+_, _*_, _/_, _≤_, _<_};
+ghost use Prim.Native.Nat.{_+_, _-_, _*_, _/_, _%_, _≤_, _<_};
 ghost use lib.ListN.{length};
-ghost use Rattle.rules.specs.Octets.{put, octet};
+ghost use Rattle.rules.specs.Octets.{part, put, octet};
 ghost use Rattle.rules.specs.Settings as S;
 ghost use Rattle.stores.specs.Store.{countIn, Roomy, Filled, Fills, Hinted};
 ghost use Rattle.octets.specs.Records.{hopBy};
-ghost use Rattle.stores.specs.Halving.{halved};
-ghost use Rattle.stores.specs.Insert.{firstWord, secondWord, belowAt, indexFor, metAt, metIn, putIn, insertedIn, Shifted};
+ghost use Rattle.stores.specs.Halving.{twiceHalved};
+ghost use Rattle.stores.specs.Insert.{firstWord, secondWord, belowAt, indexFor, metAt, metIn, putIn, insertedIn, Shifted, Counted, RoomAt};
 ghost use Rattle.stores.specs.Extend.{withSwitch, countBy, metBy, addedTo, flagWord, FlagIn, Extends};
 
-// Whether there are i records or more and the i-th, counted from 1, is below the rank.
-fn below(w: &[u64], n: usize, rank: u64, i: usize) -> bool
-    requires { ⌜ 4 + 2 * n ≤ length (now w) ⌝ }
-    ensures { λ r. ⌜ r ≡ belowAt (now (w .entry)) n rank i ⌝ }
+// Records are counted by their words from here on, two each, and a rank is compared as the least word that has it: a read then waits for fewer
+// instructions. Whether there are so many words and the record that ends there is below the bound.
+fn below(w: &[u64], end: usize, bound: u64, i: usize) -> bool
+    requires { ⌜ Counted (now w) end bound × (i % 2 ≡ 0) ⌝ }
+    ensures { λ r. ⌜ r ≡ belowAt (now (w .entry)) (end / 2) (bound / 65536) (i / 2) ⌝ }
 {
-    if n < i {
+    if end < i {
         return false;
     }
-    w[2 + 2 * i] >> 16 < rank
+    w[2 + i] < bound
 }
 
-fn step(w: &[u64], n: usize, rank: u64, at: usize, half: usize) -> usize
-    requires { ⌜ (at + half ≤ 64) × (4 + 2 * n ≤ length (now w)) ⌝ }
-    ensures { λ r. ⌜ (r ≡ halved (belowAt (now (w .entry)) n rank) at half) × (r ≤ at + half) ⌝ }
+// Two steps at once: three records are read, and no read waits for another.
+fn steps(w: &[u64], end: usize, bound: u64, at: usize, half: usize) -> usize
+    requires { ⌜ Counted (now w) end bound × (at % 2 ≡ 0) × (half % 2 ≡ 0) × (at + 3 * half ≤ 128) ⌝ }
+    ensures { λ r. ⌜ (r ≡ 2 * twiceHalved (belowAt (now (w .entry)) (end / 2) (bound / 65536)) (at / 2) (half / 2)) × (r ≤ at + 3 * half) ⌝ }
 {
-    if below(w, n, rank, at + half) {
-        return at + half;
+    let low = below(w, end, bound, at + half);
+    let middle = below(w, end, bound, at + 2 * half);
+    let high = below(w, end, bound, at + 3 * half);
+    if middle {
+        if high { at + 3 * half } else { at + 2 * half }
+    } else {
+        if low { at + half } else { at }
     }
-    at
 }
 
 // The last record first: records in order take one comparison each.
-fn index_for(w: &[u64], n: usize, rank: u64) -> usize
-    requires { ⌜ 4 + 2 * n ≤ length (now w) ⌝ }
-    ensures { λ r. ⌜ r ≡ indexFor (now (w .entry)) rank n ⌝ }
+fn index_for(w: &[u64], end: usize, bound: u64) -> usize
+    requires { ⌜ Counted (now w) end bound ⌝ }
+    ensures { λ r. ⌜ r ≡ 2 * indexFor (now (w .entry)) (bound / 65536) (end / 2) ⌝ }
 {
-    if below(w, n, rank, n) {
-        return n;
+    if below(w, end, bound, end) {
+        return end;
     }
-    let a = step(w, n, rank, 0, 32);
-    let b = step(w, n, rank, a, 16);
-    let c = step(w, n, rank, b, 8);
-    let d = step(w, n, rank, c, 4);
-    let e = step(w, n, rank, d, 2);
-    step(w, n, rank, e, 1)
+    let a = steps(w, end, bound, 0, 32);
+    let b = steps(w, end, bound, a, 8);
+    steps(w, end, bound, b, 2)
 }
 
-// Moves the words from `from` up to `to` two up.
+fn eight_at(w: &[u64], at: usize) -> [u64; 8]
+    requires { ⌜ at + 8 ≤ length (now w) ⌝ }
+    ensures { λ r. ⌜ r ≡ part (now (w .entry)) at 8 ⌝ }
+{
+    let mut words = [0u64; 8];
+    copy(&mut words, 0, &w[at..at + 8]);
+    words
+}
+
+fn two_at(w: &[u64], at: usize) -> [u64; 2]
+    requires { ⌜ at + 2 ≤ length (now w) ⌝ }
+    ensures { λ r. ⌜ r ≡ part (now (w .entry)) at 2 ⌝ }
+{
+    let mut words = [0u64; 2];
+    copy(&mut words, 0, &w[at..at + 2]);
+    words
+}
+
+// Moves the records from `from` up to `to` two words up, four at a time, all read before one is written.
 fn shift(w: &mut [u64], from: usize, to: usize)
-    requires { ⌜ (from ≤ to) × (to + 2 ≤ length (now w)) ⌝ }
+    requires { ⌜ (from ≤ to) × (to ≤ 132) × ((to - from) % 2 ≡ 0) × (to + 2 ≤ length (now w)) ⌝ }
+    ensures { λ _. ⌜ Shifted (now (w .entry)) from to (now (w .exit)) ⌝ }
+{
+    let mut i = to;
+    while from + 8 <= i {
+        i -= 8;
+        let words = eight_at(w, i);
+        copy(w, i + 2, &words);
+    }
+    shift_rest(w, from, i);
+}
+
+// One by one.
+fn shift_rest(w: &mut [u64], from: usize, to: usize)
+    requires { ⌜ (from ≤ to) × ((to - from) % 2 ≡ 0) × (to + 2 ≤ length (now w)) ⌝ }
     ensures { λ _. ⌜ Shifted (now (w .entry)) from to (now (w .exit)) ⌝ }
 {
     let mut i = to;
     while from < i {
-        w[i + 1] = w[i - 1];
-        i -= 1;
+        i -= 2;
+        let words = two_at(w, i);
+        copy(w, i + 2, &words);
     }
 }
 
-fn met(w: &[u64], n: usize, rank: u64, p: usize) -> bool
-    requires { ⌜ 4 + 2 * n ≤ length (now w) ⌝ }
-    ensures { λ r. ⌜ r ≡ metAt (now (w .entry)) n rank p ⌝ }
+fn met(w: &[u64], end: usize, rank: u64, p: usize) -> bool
+    requires { ⌜ (4 + end ≤ length (now w)) × (end % 2 ≡ 0) × (p % 2 ≡ 0) ⌝ }
+    ensures { λ r. ⌜ r ≡ metAt (now (w .entry)) (end / 2) rank (p / 2) ⌝ }
 {
-    if n <= p {
+    if end <= p {
         return false;
     }
-    w[4 + 2 * p] >> 16 == rank
+    w[4 + p] >> 16 == rank
 }
 
 // Whether the record could be put in: not where one of its destination has its serial.
 fn insert(w: &mut [u64], n: usize, first: u64, second: u64) -> bool
-    requires { ⌜ 6 + 2 * n ≤ length (now w) ⌝ }
+    requires { ⌜ (n ≤ 64) × (6 + 2 * n ≤ length (now w)) ⌝ }
     ensures { λ r. ⌜ (r ≡ not (metIn (now (w .entry)) n (first / 65536))) × (now (w .exit) ≡ insertedIn (now (w .entry)) n first second) ⌝ }
 {
-    let p = index_for(w, n, first >> 16);
-    if met(w, n, first >> 16, p) {
+    let end = 2 * n;
+    let p = index_for(w, end, first >> 16 << 16);
+    if met(w, end, first >> 16, p) {
         return false;
     }
-    put_at(w, n, first, second, p);
+    put_at(w, end, first, second, p);
     true
 }
 
-// At an index among the first n records.
-fn put_at(w: &mut [u64], n: usize, first: u64, second: u64, p: usize)
-    requires { ⌜ (p ≤ n) × (6 + 2 * n ≤ length (now w)) ⌝ }
-    ensures { λ _. ⌜ now (w .exit) ≡ putIn (now (w .entry)) n first second p ⌝ }
+// Among the first records.
+fn put_at(w: &mut [u64], end: usize, first: u64, second: u64, p: usize)
+    requires { ⌜ RoomAt (now w) end p ⌝ }
+    ensures { λ _. ⌜ now (w .exit) ≡ putIn (now (w .entry)) (end / 2) first second (p / 2) ⌝ }
 {
-    shift(w, 4 + 2 * p, 4 + 2 * n);
-    w[4 + 2 * p] = first;
-    w[5 + 2 * p] = second;
+    shift(w, 4 + p, 4 + end);
+    w[4 + p] = first;
+    w[5 + p] = second;
 }
 
 fn first_word(r: Record) -> u64
@@ -218,8 +255,9 @@ pub fn open(w: &mut [u64], v: &[u8])
     requires { ⌜ 4 ≤ length (now w) ⌝ }
     ensures { λ _. ⌜ now (w .exit) ≡ withSwitch (now (w .entry)) (now (v .entry)) ⌝ }
 {
-    w[0] = octets::be16(v, 0) as u64;
-    w[1] = (octets::be48(v, 2) << 16) + rules::ETHERTYPE_TRILL as u64;
+    let switch = octets::be64(v, 0);
+    w[0] = switch >> 48;
+    w[1] = (switch << 16) + rules::ETHERTYPE_TRILL as u64;
     w[2] = 0;
     w[3] = 0;
 }
@@ -274,14 +312,14 @@ fn fill(s: &[u8], from: usize, w: &mut [u64]) -> bool
     true
 }
 
-// Writes the words at the start of a store.
-pub fn copy(store: &mut [u64], w: &[u64])
-    requires { ⌜ length (now w) ≤ length (now store) ⌝ }
-    ensures { λ _. ⌜ now (store .exit) ≡ put (now (store .entry)) 0 (now (w .entry)) ⌝ }
+// Writes the words `s` into `w` from `at` on.
+pub fn copy(w: &mut [u64], at: usize, s: &[u64])
+    requires { ⌜ at + length (now s) ≤ length (now w) ⌝ }
+    ensures { λ _. ⌜ now (w .exit) ≡ put (now (w .entry)) at (now (s .entry)) ⌝ }
 {
     let mut i = 0;
-    while i < w.len() {
-        store[i] = w[i];
+    while i < s.len() {
+        w[at + i] = s[i];
         i += 1;
     }
 }

@@ -5,5 +5,5 @@ use proofs.preparing.open as fn
 
 pub open-spec : {M : Type 1} → fn.Statement.statement M
 open-spec = fn.Tie.close (fn.Tie.spec
-    (λ c _. search laws) (λ c. search laws) (λ c. search laws) (λ c _. search laws) (λ c. search laws) (λ c. search laws)
-    (λ c. search laws) (λ c. search laws) (λ c. search laws) (λ c. search laws) (λ c. search laws))
+    (λ c _. search laws) (λ c. search laws) (λ c. search laws) (λ c. search laws) (λ c. search laws) (λ c. search laws) (λ c. search laws)
+    (λ c. search laws) (λ c. search laws))

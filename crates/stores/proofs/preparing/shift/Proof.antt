@@ -1,6 +1,6 @@
 -- Its contract. The invariant: the words from i on are moved.
 use Rattle.stores.proofs
-use proofs.PrepareLaws.{Moving, shift-laws as laws}
+use proofs.WordLaws.{Moving, shift-laws as laws}
 use proofs.preparing.shift as fn
 
 abbrev Inv-loop : fn.Tie.InvT-loop
@@ -11,7 +11,5 @@ abbrev μ-loop : fn.Tie.MeasureT-loop
 
 pub shift-spec : {M : Type 1} → fn.Statement.statement M
 shift-spec = fn.Tie.close (fn.Tie.spec
-    Inv-loop
-    μ-loop
-    (λ c. search laws) (λ c. search laws) (λ c. search laws) (λ c. search laws) (λ c. search laws) (λ c. search laws) (λ c. search laws) (λ c. search laws)
-    (λ c. search laws) (λ c. search laws) (λ c. search laws) (λ c. search laws))
+    Inv-loop μ-loop (λ c. search laws) (λ c. search laws) (λ c. search laws) (λ c _. search laws) (λ c. search laws) (λ c. search laws)
+    (λ c _. search laws) (λ c. search laws) (λ c. search laws) (λ c _. search laws) (λ c. search laws) (λ c. search laws))
