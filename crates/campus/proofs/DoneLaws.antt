@@ -280,6 +280,9 @@ module _ (octets : ℕ) where
   pub words-256 : octets ≤ 687 → wordsFor octets ≤ length {A = ℕ} (replicate 256 0)
   words-256 h = words-few 256 (omega arith) (omega arith)
 
+  pub words-512 : octets ≤ 1391 → wordsFor octets ≤ length {A = ℕ} (replicate 512 0)
+  words-512 h = words-few 512 (omega arith) (omega arith)
+
   pub words-1024 : octets ≤ 2799 → wordsFor octets ≤ length {A = ℕ} (replicate 1024 0)
   words-1024 h = words-few 1024 (omega arith) (omega arith)
 
@@ -288,4 +291,4 @@ module _ (octets : ℕ) where
       rw (length-replicate {A = ℕ} 2118 0)
       (by-test (leb octets 5808) (λ t. rw t (omega (arith, leb-true octets 5808 t))) (λ t. rw t (omega arith)))
 
-pub ruleset campus-run-laws = (needs, done-short, words-80, words-256, words-1024, words-all)
+pub ruleset campus-run-laws = (needs, done-short, words-80, words-256, words-512, words-1024, words-all)

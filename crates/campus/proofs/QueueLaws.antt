@@ -8,16 +8,16 @@ use Prim.Native.Nat.{ℕ, suc, _+_, _-_, _*_, _/_, _%_, _<_, _≤_}
 use native.Mathlib.Nat.{lt-of-le-of-lt}
 use native.Mathlib.Omega.{arith}
 use borrow.Author.Needs.{needs}
-use borrow.Author.Tests.{eq-eqb, ne-eqb}
+use borrow.Author.Tests.{eq-eqb, ne-eqb, eqb-true}
 use lib.Dec.{eqb}
 use lib.ListN.{length, getD, take, drop, length-take, length-drop, take-append-drop}
 use lib.Seq.{length-take-le, take-append-le, drop-append-le, take-append-seam, drop-at}
 use Rattle.rules.specs.Octets.{be16, put}
 use Rattle.rules.specs.Campus.{switchNamed, Kind, Waiting, writesReply, inCampus, staying, firstWaiting}
-use Rattle.rules.proofs.OctetLaws.{length-put, take-put}
+use Rattle.rules.proofs.OctetLaws.{length-put, put-front, take-put}
 use Rattle.rules.proofs.{NextLaws.stays-none, NextLaws.stays-in, NextLaws.stays-left, TestLaws.by-test}
 use Rattle.octets.specs.Copy.{Wrote, fitting}
-use Rattle.octets.proofs.Ends.{copied, copied-on}
+use Rattle.octets.proofs.Ends.{copied, copied-on, wrote-long}
 use Rattle.handler.specs.declared.answers.Answer.{Answer}
 use Rattle.campus.specs
 use specs.declared.switches.Named.{Named}
@@ -50,6 +50,28 @@ pub copied-begins : {cur cur′ s : List ℕ} {end : ℕ} → Wrote (fitting cur
 copied-begins {cur} {s = s} c room = rw (copied c refl (omega arith) .after) (take-put cur s)
 
 pub ruleset front-laws = (needs, length-take-le)
+
+-- two copies, the part behind first, are one
+put-parts : (d s : List ℕ) (n : ℕ) → n ≤ length s → length s ≤ length d → put (put d n (drop n s)) 0 (take n s) ≡ put d 0 s
+unfolding put
+put-parts d s n from room =
+    let whole : n + length (drop n s) ≡ length s = rw length-drop (omega arith) in
+    let rest = drop (length s) d in
+    let behind : drop n (put d n (drop n s)) ≡ drop n s ++ rest =
+    rw (whole, append-assoc) (drop-at (take n d) (drop n s ++ rest) n (length-take-le n d (omega arith))) in
+    put-front (put d n (drop n s)) (take n s)
+    ∙ rw (length-take-le n s from, behind, ← append-assoc (take n s), take-append-drop) (sym (put-front d s))
+
+pub back-copied : (cur f : List ℕ) {cur₁ cur₂ : List ℕ} {end₁ end₂ : ℕ} → Wrote (fitting cur₁ 0 (take 12 f)) 0 end₂ cur₁ cur₂
+    → Wrote (fitting cur 12 (take (length f - 12) (drop 12 f))) 12 end₁ cur cur₁ → 12 ≤ length f → length f ≤ 2048 → length cur ≡ 2048
+    → cur₂ ≡ put cur 0 f
+back-copied cur f w₂ w₁ least most long =
+    let piece : length (drop 12 f) + 12 ≡ length f = rw length-drop (omega arith) in
+    let first : Wrote (drop 12 f) 12 _ cur _ = copied w₁ (lent f 12) (omega arith) in
+    let same = wrote-long first (omega arith) in
+    copied w₂ refl (rw (length-take-le 12 f least) (omega arith)) .after ∙ rw (first .after) (put-parts cur f 12 least (omega arith))
+
+pub ruleset copy-back-laws = (needs, length-take-le, back-copied)
 
 held-long : (w starts : List ℕ) (n : ℕ) (waiting : List ℕ) (q : List Waiting) (head tail : ℕ) → Held w starts n waiting q head tail
     → head + length q ≡ tail
@@ -289,21 +311,29 @@ module _ (w starts : List ℕ) (n : ℕ) (a : Answer) where
       next-waiting e kind first = record { leads = λ q h. rw (sent-unknown e) (first .leads q h) }
 
       pub next-on : NextReady w starts n a waiting head tail → {i : ℕ} (replied : Bool) {f : List ℕ} → found ≡ At i → f ≡ take (a .written) out
-          → length out ≡ 2048 → (cur : List ℕ) {cur′ : List ℕ} {end : ℕ} → Wrote (fitting cur 0 f) 0 end cur cur′ → length cur ≡ 2048
+          → length out ≡ 2048 → (cur : List ℕ) {cur′ : List ℕ} → cur′ ≡ put cur 0 f
           → Leads w starts n waiting head tail cur′ (To (record { switch = i; replied = replied; size = a .written; head = head; tail = tail }))
           (onwardBy (switchesIn w starts n) (kindBy replied) a out)
       unfolding onwardBy
-      next-on ready {i} replied {f} e held long cur {cur′} c l =
+      next-on ready {i} replied {f} e held long cur {cur′} c =
           let s = sent-at i e in
           let stays : inCampus (switchesIn w starts n) (a .neighbour) ≡ true = rw (s .1 .1) in
           let size : length f ≡ a .written = rw held (length-take-le (a .written) out (omega arith)) in
-          let begins : take (a .written) cur′ ≡ f = rw size at (copied-begins c (omega arith)) in
+          let begins : take (a .written) cur′ ≡ f = rw (c, ← size) (take-put cur f) in
           let is-frame = begins ∙ held in
           record { leads = λ q h. rw (s .0, stays) (search) }
 
+      -- what is copied back has a link header, and fits
+      module _ (f : List ℕ) (held : f ≡ take (a .written) out) (long : length out ≡ 2048) where
+        pub next-least : NextReady w starts n a waiting head tail → {i : ℕ} → found ≡ At i → 12 ≤ length f
+        next-least ready {i} e = rw (held, length-take) (omega (arith, ready .linked (eqb-true (a .number) 50 (sent-at i e .0))))
+
+        pub next-most : length f ≤ 2048
+        next-most = rw (held, length-take) (omega arith)
+
 pub ruleset sent-to-laws = (needs, sent-not, sent-on)
 
-pub ruleset next-of-laws = (needs, next-waiting, next-on)
+pub ruleset next-of-laws = (needs, next-waiting, next-on, next-least, next-most)
 
 -- the reply put in, and what is next
 module _ {w starts : List ℕ} {n : ℕ} {a : Answer} {at : Turn} {out beside waiting waiting′ : List ℕ} {tail : ℕ}

@@ -581,10 +581,9 @@ module _ {s w₀ starts₀ w starts : List ℕ} {n clock at : ℕ} (h : Holding 
                 let e : length s ≡ next = omega (arith, its) in
                 sym (between-there s (at + 3) (length s) (omega (arith, its)) (omega arith)) ∙ ap (λ (x : ℕ). part s (at + 3) (x - (at + 3))) e
 
-            pub done-entered : {after : ℕ} → after ≡ codeAfter s next
-                → ReadDone s w′ starts′ (record { code = after; n = n; clock = clock; place = at })
-            done-entered c =
-                rw c
+            pub done-entered : {r : Reading} → r ≡ record { code = codeAfter s next; n = n; clock = clock; place = at } → ReadDone s w′ starts′ r
+            done-entered is =
+                rw is
                 (by-test (leb (length s) next)
                 (λ b.
                 let l = leb-true (length s) next b in
@@ -607,4 +606,4 @@ module _ {s w₀ starts₀ w starts : List ℕ} {n clock at : ℕ} (h : Holding 
 
 pub ruleset holding = (holding-begin, holding-kept, holding-on)
 
-pub ruleset read-laws = (needs, taken, done-long, done-ended, done-cut, done-refused, holding)
+pub ruleset read-laws = (needs, taken, done-long, done-ended, done-cut, done-refused, done-entered, holding)

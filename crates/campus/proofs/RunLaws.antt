@@ -2,7 +2,7 @@
 -- run from here, with the replies that wait, is the rest of the whole. One law for each need, for `search` to cite.
 use mathlib.Core.Path.{_≡_, refl, sym, ap, _∙_}
 use mathlib.Core.List.{List, [], _∷_, _++_, append-assoc, append-nil}
-use mathlib.Core.Bool.{Bool, false}
+use mathlib.Core.Bool.{Bool, false, true≢false}
 use Prim.Native.Nat.{ℕ, suc, _+_, _-_, _*_, _/_, _%_, _<_, _≤_}
 use native.Mathlib.Omega.{arith}
 use native.Mathlib.Numerals.{add-one}
@@ -11,16 +11,18 @@ use borrow.Author.Tests.{eqb-true, eqb-false}
 use lib.Dec.{eqb}
 use lib.ListN.{length, getD, take, drop, length-take, length-append}
 use Rattle.rules.specs as rules
-use rules.{Octets.octet, Octets.be16, Octets.put, Settings.Settings, Settings.waysOf, Link.linkLength, Link.linkEthertype, Link.ethertypeTag, Link.ethertypeTrill}
-use rules.{Header.hopCount, Header.readFrame, Handling.handling, Answer.Handled, Demand.repliesIn}
+use rules.{Octets.octet, Octets.be16, Octets.put, Settings.Settings, Settings.Ways, Settings.waysOf}
+use rules.Link.{link, linkLength, linkEthertype, ethertypeTag, ethertypeTrill}
+use rules.{Header.hopCount, Header.readFrame, Handling.handling, Answer.Handled, Answer.given, Demand.repliesIn}
 use rules.Campus.{hopReceived, egressReceived, kindOctet, entryOctets, Kind, State, Waiting, repliesMade, staying, Next, over, next, sentOn}
 use rules.Campus.{nextAfter, runFrom, traceOctets}
 use rules.declared.{Header.Header, FrameRead.FrameRead}
 use rules.declared.FrameRead.the-variants.{Trill, Unreadable}
 use Rattle.rules.proofs as ruleLaws
-use ruleLaws.{TestLaws.by-test, StepLaws.hop-read, StepLaws.egress-read, StepLaws.reply-short, HandledLaws.Bounded, HandledLaws.handling-bounded}
-use ruleLaws.HandlingLaws.{frame-handled, handling-unread, unread-number}
-use ruleLaws.FrameLaws.{frame-read, length-tagged, length-plain, read-trill, read-other}
+use ruleLaws.{TestLaws.by-test, StepLaws.hop-read, StepLaws.egress-read, StepLaws.reply-short}
+use ruleLaws.HandledLaws.{final, How, ends, forwards, faults, echoes, how, Bounded, handling-bounded}
+use ruleLaws.HandlingLaws.{frame-handled, handling-unread, unread-number, length-forwarded}
+use ruleLaws.FrameLaws.{frame-read, length-tagged, length-plain, read-trill, read-other, link-length, link-written}
 use ruleLaws.OctetLaws.{length-put, put-put, put-none, take-put}
 use ruleLaws.RunLaws.{run-step, rest, no-replies, replies-on, length-trace}
 use Rattle.octets.specs.Copy.{Wrote, fitting}
@@ -136,6 +138,15 @@ pub ruleset nickname-of-laws = (needs, nickname-is, nickname-small)
 
 pub ruleset handled-laws = (needs, handled-by)
 
+-- what is forwarded has a link header, so 12 octets at least
+forwards-linked : (S : Ways) (clock f : List ℕ) {a : Handled} → How S clock f a → a .number ≡ 50 → 12 ≤ length (a .octets)
+unfolding given
+forwards-linked S clock f {a} (ends o) e = absurd (true≢false (sym (o .closed) ∙ ap final e))
+forwards-linked S clock f (forwards h r t found fits b) e =
+    omega (arith, length-forwarded S r f h, link-written S r .long, link-length (link S r))
+forwards-linked S clock f (faults h r code t two found c) e = absurd (omega arith)
+forwards-linked S clock f (echoes h r t found c) e = absurd (omega arith)
+
 -- what is left of a handling
 module _ {w starts clock : List ℕ} {at : At} {trace : List ℕ} {k : ℕ} (ready : StepReady w starts clock at trace k) (frame cur : List ℕ)
     (is : frame ≡ take (at .size) cur) (out out′ beside beside′ : List ℕ) (a : Answer)
@@ -169,6 +180,7 @@ module _ {w starts clock : List ℕ} {at : At} {trace : List ℕ} {k : ℕ} (rea
         both = both;
         traced = e ∙ rw (both .answer);
         small = rw (both .answer) (bounded .fits);
+        linked = λ t. rw (both .answer) (forwards-linked (waysOf T) clock frame (how (waysOf T) clock frame) (rw (both .answer) at t));
         short = λ t. rw (both .answer) (reply-short T clock frame named (ready .six) (rw (both .answer) at t));
         short-beside = rw (both .answer) (bounded .fits-beside);
       })

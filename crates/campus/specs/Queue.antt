@@ -81,6 +81,7 @@ onwardBy switches kind a out q =
 pub record NextReady (w starts : List ℕ) (n : ℕ) (a : Answer) (waiting : List ℕ) (head tail : ℕ) : Type 0 where
   pub sound : Sound w starts n
   pub small : a .written ≤ 2048
+  pub linked : a .number ≡ 50 → 12 ≤ a .written
   pub queue : Queue w starts n waiting head tail
 
 -- a place of the run, as the code holds it, is the switch, the kind, the frame and the replies that wait
@@ -108,6 +109,7 @@ pub record Leads (w starts : List ℕ) (n : ℕ) (waiting : List ℕ) (head tail
 pub record OnwardReady (w starts : List ℕ) (n : ℕ) (a : Answer) (at : At) (out beside waiting : List ℕ) : Type 0 where
   pub wait : WaitReady w starts n a out beside waiting (at .tail)
   pub small : a .written ≤ 2048
+  pub linked : a .number ≡ 50 → 12 ≤ a .written
   pub queue : Queue w starts n waiting (at .head) (at .tail)
 
 pub record Onwarded (w starts : List ℕ) (n : ℕ) (a : Answer) (at : At) (out beside waiting waiting′ cur′ : List ℕ) (r : Onward) : Type 0 where

@@ -58,11 +58,12 @@ stateOf k clock S kind f = record { handlingNo = suc k; switch = S; kind = kind;
 abbrev pub stateAt : List ℕ → List ℕ → List ℕ → At → List ℕ → ℕ → State
 stateAt w starts clock at cur k = stateOf k clock (settingsAt w starts (at .switch)) (kindBy (at .replied)) (take (at .size) cur)
 
--- and what it does: both frames are written, a reply is short, and the entry stands in the trace
+-- and what it does: both frames are written, what is forwarded has a link header, a reply is short, and the entry stands in the trace
 pub record Stepped (k : ℕ) (state : State) (out out′ beside beside′ trace trace′ : List ℕ) (r : Answer) : Type 0 where
   pub both : Both (state .answer) r out out′ beside beside′
   pub traced : trace′ ≡ put trace (k * 8) (entryOctets state)
   pub small : r .written ≤ 2048
+  pub linked : r .number ≡ 50 → 12 ≤ r .written
   pub short : writesReply (r .number) ≡ true → r .written ≤ 576
   pub short-beside : r .beside ≤ 576
 

@@ -70,6 +70,10 @@ pub fn campus_run(description: &[u8], trace: &mut [u8]) -> Outcome
         let mut few = [0u64; 256];
         return run_in(description, &mut few, trace);
     }
+    if description.len() <= 1391 {
+        let mut some = [0u64; 512];
+        return run_in(description, &mut some, trace);
+    }
     if description.len() <= 2799 {
         let mut some = [0u64; 1024];
         return run_in(description, &mut some, trace);

@@ -45,6 +45,18 @@ fn code_after(s: &[u8], at: usize) -> u32
     43
 }
 
+// What the run needs once the entry field is read, if nothing stands behind it.
+fn entered(s: &[u8], n: usize, clock: usize, at: usize, next: usize) -> Reading
+    ensures { λ r. ⌜ r ≡ record { code = codeAfter (now (s .entry)) next; n = n; clock = clock; place = at } ⌝ }
+{
+    Reading {
+        code: code_after(s, next),
+        n: n,
+        clock: clock,
+        place: at,
+    }
+}
+
 // The place of the clock once the field at a place is read.
 fn clocked(clock: usize, tag: u8, at: usize, next: usize) -> usize
     requires { ⌜ at + 3 ≤ next ⌝ }
@@ -86,12 +98,7 @@ pub fn read(s: &[u8], w: &mut [u64], starts: &mut [usize]) -> Reading
             return refused(code);
         }
         if tag == 5 {
-            return Reading {
-                code: code_after(s, next),
-                n: n,
-                clock: clock,
-                place: at,
-            };
+            return entered(s, n, clock, at, next);
         }
         clock = clocked(clock, tag, at, next);
         n = counted(n, tag);

@@ -276,6 +276,16 @@ fn sent_to(w: &[u64], starts: &[usize], n: usize, a: Answer) -> Named
     switches::find(w, starts, n, a.neighbour)
 }
 
+// A forwarded frame in its place for the next handling. Its first 12 octets by themselves: so the Ethertype and the TRILL header, which that
+// handling reads in one, are written in one.
+fn copy_back(cur: &mut [u8; 2048], f: &[u8])
+    requires { ⌜ (12 ≤ length (now f)) × (length (now f) ≤ 2048) ⌝ }
+    ensures { λ _. ⌜ now (cur .exit) ≡ put (now (cur .entry)) 0 (now (f .entry)) ⌝ }
+{
+    octets::copy(cur, 12, &f[12..]);
+    octets::copy(cur, 0, &f[..12]);
+}
+
 // The frame that was forwarded, if it stays in the campus; else the reply that has waited longest.
 fn next_of(
     w: &[u64],
@@ -296,7 +306,7 @@ fn next_of(
         return first_waiting(w, starts, n, waiting, at.head, tail, cur);
     };
     let size = a.written as usize;
-    octets::copy(cur, 0, front(out, size));
+    copy_back(cur, front(out, size));
     Onward::To(At {
         switch: i,
         replied: at.replied,

@@ -10,7 +10,7 @@ use specs.declared.handling.Received.the-variants.{Refused, Trill}
 use specs.declared.way.{Lookup.Lookup, Own.Own}
 use specs.declared.validation.Validated.{Validated}
 use specs.declared.answers.Answer.{Answer}
-use specs.Tasks.{transitQuiet, messaged, localAt, wantedBy, Ends, Arrives, askedBy, receivedBy, Receiving, Replies, RepliesBy, Both}
+use specs.Tasks.{transitQuiet, messaged, localAt, wantedBy, Arrives, askedBy, receivedBy, Receiving, Replies, RepliesBy, Both}
 use specs.Shapes.{Owns, Sends, Done, droppedBy, onlyFor, waysBy}
 use specs.{Ranks.lookupBy, Ranks.ValidatedBy, Calls.LookupOf}
 use Rattle.handler.proofs

@@ -8,7 +8,7 @@ use lib.Dec.{eqb}
 use Rattle.rules.specs.Octets.{if_then_else_, octet, be16, octets16, octets48, part, put}
 use Rattle.rules.specs.Fields.{Field, field, cut, fieldsAt}
 use Rattle.rules.specs.Settings.{Ways, newer, hopOf}
-use Rattle.rules.specs.Link.{ethertypeTag, ethertypeTrill}
+use Rattle.rules.specs.Link.{ethertypeTag}
 use Rattle.rules.specs.Header.{version, reserved, multi, hopCount, headerWord, readFrame, innerStart, areaOf, innerOf}
 use Rattle.rules.specs.Extension.{areaSent}
 use Rattle.rules.specs.Options as O

@@ -11,7 +11,7 @@ use borrow.Author.Needs.{needs}
 use borrow.Author.Tests.{ne-eqb, eq-eqb, not-true, not-false}
 use lib.Dec.{ltb, eqb}
 use lib.ListN.{length, getD, set, drop, length-set, List·getD-append}
-use lib.Seq.{getD-set-same, getD-set-other, sets-eq, paste, paste-zero, drop-at}
+use lib.Seq.{getD-set-other, sets-eq, drop-at}
 use Rattle.octets.specs.Words.{be64}
 use Rattle.octets.proofs.{Hops.hop-same, WordLaws.first-part, WordLaws.rest-part}
 use Rattle.rules.specs as rules
@@ -22,7 +22,7 @@ use rules.{Settings.hopOf, Settings.switchGood, Campus.known}
 use rules.declared.{FieldRead.FieldRead, NextHop.NextHop}
 use rules.declared.FieldRead.the-variants.{Taken, Cut}
 use Rattle.rules.proofs as ruleLaws
-use ruleLaws.TestLaws.{by-test, and-true, by-equal, tests}
+use ruleLaws.TestLaws.{by-test, and-true, tests}
 use ruleLaws.{OctetLaws.put-front, OctetLaws.length-put, HandlingLaws.settings-good, Taken.taken, Taken.taken-first}
 use ruleLaws.FieldLaws.{IsField, field-read, fields-at-end, fields-at-cut, fields-at-on}
 use ruleLaws.SettingsLaws.{from-on, from-bad, from-read}

@@ -1,21 +1,20 @@
 -- A record put into a store as the code does it, where records are counted by their words: one law for each need. By arithmetic and by position.
 use Prim.Native.Nat.{ℕ, _+_, _-_, _*_, _/_, _%_, _≤_, _<_}
-use mathlib.Core.Path.{_≡_, refl, sym, ap, _∙_}
+use mathlib.Core.Path.{_≡_, refl, sym, _∙_}
 use mathlib.Core.List.{List}
-use mathlib.Core.Bool.{Bool, true, false, not, _&&_}
+use mathlib.Core.Bool.{Bool, true, false, not}
 use native.Mathlib.Omega.{arith}
 use borrow.Author.Needs.{needs}
 use borrow.Author.Tests.{lt-leb, le-leb, lt-ltb, le-ltb}
 use lib.Dec.{ltb, eqb}
 use lib.ListN.{length, getD, set, drop, replicate, length-set}
-use lib.Seq.{getD-take, getD-drop, paste, paste-zero}
+use lib.Seq.{getD-take, getD-drop, paste-zero}
 use Rattle.octets.proofs.Ends.{block-all, fill-on, fill-end}
-use Rattle.rules.specs.Octets.{if_then_else_, part, put}
+use Rattle.rules.specs.Octets.{part, put}
 use Rattle.rules.proofs.OctetLaws.{length-put, length-part}
 use Rattle.rules.proofs.TestLaws.{by-order}
 use Rattle.stores.specs
-use specs.Store.{rankAt}
-use specs.Halving.{halved, twiceHalved}
+use specs.Halving.{twiceHalved}
 use specs.Insert.{belowAt, indexFor, metAt, metIn, putIn, insertedIn, Shifted, Counted, RoomAt}
 use Rattle.stores.proofs
 use proofs.HalvingLaws.{twice-on, twice-stay}
