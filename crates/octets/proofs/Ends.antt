@@ -229,23 +229,23 @@ module _ (d : List ℕ) (at : ℕ) (s : List ℕ) where
 
 pub ruleset parts = (parts-begin, parts-on)
 
+-- its invariant where the last part, of n octets, may lie over the end of those before
+abbrev pub Parts : ℕ → List ℕ → ℕ → List ℕ → ℕ → List ℕ → ℕ → Type 0
+Parts n d at s last out i = (i ≤ length s) × (last + n ≡ length s) × (out ≡ put d at (take i s)) × (length out ≡ length d)
+
 pub ruleset blocks-laws = (needs, parts, parts-end)
 
--- the part that `fill_long` copies in the loop
-module _ (s : List ℕ) where
-  abbrev bulk : ℕ
-  bulk = (length s - 1) / 32 * 32
+-- four blocks, one behind the other; `on` is a premise of its own, so that `search` finds the third by its place and has fewer buffers to compare
+module _ (s : List ℕ) (size : length s ≡ 64) where
+  pub first-block : length (take 16 s) ≡ 16
+  first-block = length-take-le 16 s (omega arith)
 
-  pub bulk-near : length s - 32 ≤ bulk
-  bulk-near = omega arith
+  pub four-blocks : (d : List ℕ) (at : ℕ) (a b b′ c out : List ℕ) → a ≡ put d at (take 16 s) → b ≡ put a (at + 16) (take 16 (drop 16 s))
+      → c ≡ put b′ (at + 32) (take 16 (drop 32 s)) → out ≡ put c (at + 48) (take (length s - 48) (drop 48 s)) → b′ ≡ b
+      → at + 64 ≤ length d → out ≡ put d at s
+  four-blocks d at a b b′ c out ea eb ec ed on room =
+      let two = parts-on d at s 16 a ea b 16 (omega arith) eb in
+      let three = parts-on d at s 32 b two c 16 (omega arith) (rw on at ec) in
+      parts-end d at s 48 c three out 48 ed (omega arith) (omega arith) (omega arith)
 
-  pub bulk-most : bulk ≤ length s
-  bulk-most = omega arith
-
-  pub bulk-size : bulk ≡ length (take bulk s)
-  bulk-size = sym (length-take-le bulk s bulk-most)
-
-  pub bulk-fits : (at room : ℕ) → at + length s ≤ room → at + length (take bulk s) ≤ room
-  bulk-fits at room all = rw (← bulk-size) (omega (arith, bulk-most))
-
-pub ruleset long-laws = (needs, bulk-near, bulk-most, bulk-size, bulk-fits, parts-end)
+pub ruleset four-blocks-laws = (needs, first-block, four-blocks)

@@ -274,7 +274,7 @@ pub fn copy(out: &mut [u8], at: usize, s: &[u8]) -> usize
     at + s.len()
 }
 
-// By blocks up to four of them, where the test that a loop needs for what may overlap would cost more than the copy.
+// By blocks where there is one: the test that a loop over octets needs for what may overlap would cost more than a short copy.
 fn fill(out: &mut [u8], at: usize, s: &[u8])
     requires { ⌜ at + length (now s) ≤ length (now out) ⌝ }
     ensures { λ _. ⌜ now (out .exit) ≡ put (now (out .entry)) at (now (s .entry)) ⌝ }
@@ -290,15 +290,29 @@ fn fill(out: &mut [u8], at: usize, s: &[u8])
     fill_long(out, at, s);
 }
 
-// In the loop a multiple of 32 octets, which a turn of it moves, so that none are left over; over the end of them the last two blocks.
+// By four blocks in a turn, the last four over the end of those before.
 fn fill_long(out: &mut [u8], at: usize, s: &[u8])
-    requires { ⌜ (32 ≤ length (now s)) × (at + length (now s) ≤ length (now out)) ⌝ }
+    requires { ⌜ (64 ≤ length (now s)) × (at + length (now s) ≤ length (now out)) ⌝ }
     ensures { λ _. ⌜ now (out .exit) ≡ put (now (out .entry)) at (now (s .entry)) ⌝ }
 {
-    let bulk = (s.len() - 1) / 32 * 32;
-    fill_octets(out, at, &s[..bulk]);
-    let last = s.len() - 32;
-    fill_blocks(out, at + last, &s[last..]);
+    let last = s.len() - 64;
+    let mut done = 0;
+    while done < last {
+        fill_four(out, at + done, &s[done..done + 64]);
+        done += 64;
+    }
+    fill_four(out, at + last, &s[last..]);
+}
+
+// Four blocks, one behind the other: read all at once they would be written last one first, which is slower.
+fn fill_four(out: &mut [u8], at: usize, s: &[u8])
+    requires { ⌜ (length (now s) ≡ 64) × (at + 64 ≤ length (now out)) ⌝ }
+    ensures { λ _. ⌜ now (out .exit) ≡ put (now (out .entry)) at (now (s .entry)) ⌝ }
+{
+    fill_block(out, at, &s[..16]);
+    fill_block(out, at + 16, &s[16..32]);
+    fill_block(out, at + 32, &s[32..48]);
+    fill_block(out, at + 48, &s[48..]);
 }
 
 fn fill_octets(out: &mut [u8], at: usize, s: &[u8])
