@@ -62,14 +62,14 @@ put-parts d s n from room =
     put-front (put d n (drop n s)) (take n s)
     ∙ rw (length-take-le n s from, behind, ← append-assoc (take n s), take-append-drop) (sym (put-front d s))
 
-pub back-copied : (cur f : List ℕ) {cur₁ cur₂ : List ℕ} {end₁ end₂ : ℕ} → Wrote (fitting cur₁ 0 (take 12 f)) 0 end₂ cur₁ cur₂
-    → Wrote (fitting cur 12 (take (length f - 12) (drop 12 f))) 12 end₁ cur cur₁ → 12 ≤ length f → length f ≤ 2048 → length cur ≡ 2048
+pub back-copied : (cur f : List ℕ) {cur₁ cur₂ : List ℕ} {end₁ end₂ : ℕ} → Wrote (fitting cur₁ 0 (take 8 f)) 0 end₂ cur₁ cur₂
+    → Wrote (fitting cur 8 (take (length f - 8) (drop 8 f))) 8 end₁ cur cur₁ → 8 ≤ length f → length f ≤ 2048 → length cur ≡ 2048
     → cur₂ ≡ put cur 0 f
 back-copied cur f w₂ w₁ least most long =
-    let piece : length (drop 12 f) + 12 ≡ length f = rw length-drop (omega arith) in
-    let first : Wrote (drop 12 f) 12 _ cur _ = copied w₁ (lent f 12) (omega arith) in
+    let piece : length (drop 8 f) + 8 ≡ length f = rw length-drop (omega arith) in
+    let first : Wrote (drop 8 f) 8 _ cur _ = copied w₁ (lent f 8) (omega arith) in
     let same = wrote-long first (omega arith) in
-    copied w₂ refl (rw (length-take-le 12 f least) (omega arith)) .after ∙ rw (first .after) (put-parts cur f 12 least (omega arith))
+    copied w₂ refl (rw (length-take-le 8 f least) (omega arith)) .after ∙ rw (first .after) (put-parts cur f 8 least (omega arith))
 
 pub ruleset copy-back-laws = (needs, length-take-le, back-copied)
 
@@ -325,7 +325,7 @@ module _ (w starts : List ℕ) (n : ℕ) (a : Answer) where
 
       -- what is copied back has a link header, and fits
       module _ (f : List ℕ) (held : f ≡ take (a .written) out) (long : length out ≡ 2048) where
-        pub next-least : NextReady w starts n a waiting head tail → {i : ℕ} → found ≡ At i → 12 ≤ length f
+        pub next-least : NextReady w starts n a waiting head tail → {i : ℕ} → found ≡ At i → 8 ≤ length f
         next-least ready {i} e = rw (held, length-take) (omega (arith, ready .linked (eqb-true (a .number) 50 (sent-at i e .0))))
 
         pub next-most : length f ≤ 2048

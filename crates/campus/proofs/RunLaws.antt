@@ -37,7 +37,7 @@ use specs.declared.running.{At.At, Onward.Onward}
 use specs.Stores.{storeAt, settingsAt, SoundAt, switchesIn}
 use specs.Steps.{Readable, AnsweredBy, receivedOf, kindBy, entryBy, handledBy, StepReady, stateAt, Stepped, Ran, runOf}
 use specs.declared.running.Onward.the-variants.{To, Ends}
-use specs.Queue.{repliesBy, Free, Queue, Holds, Onwards, onwardBy, OnwardReady, Onwarded, TurnReady, Turned, LoopReady}
+use specs.Queue.{repliesBy, Free, Queue, Holds, Onwards, onwardBy, OnwardReady, Onwarded, TurnReady, Turned, LoopReady, Begun}
 use Rattle.campus.proofs.{StoresLaws.lent, StoresLaws.name-here, QueueLaws.copied-begins}
 
 -- a tag at the end of the link header
@@ -138,8 +138,8 @@ pub ruleset nickname-of-laws = (needs, nickname-is, nickname-small)
 
 pub ruleset handled-laws = (needs, handled-by)
 
--- what is forwarded has a link header, so 12 octets at least
-forwards-linked : (S : Ways) (clock f : List ℕ) {a : Handled} → How S clock f a → a .number ≡ 50 → 12 ≤ length (a .octets)
+-- what is forwarded has a link header, so 8 octets at least
+forwards-linked : (S : Ways) (clock f : List ℕ) {a : Handled} → How S clock f a → a .number ≡ 50 → 8 ≤ length (a .octets)
 unfolding given
 forwards-linked S clock f {a} (ends o) e = absurd (true≢false (sym (o .closed) ∙ ap final e))
 forwards-linked S clock f (forwards h r t found fits b) e =
@@ -263,25 +263,31 @@ pub record RunSoFar (w starts : List ℕ) (n first : ℕ) (clock frame waiting�
   pub same : length trace ≡ length trace₀
   pub same-waiting : length waiting ≡ length waiting₀
 
+-- the frame copied to where the run takes it from, and the run begun
+pub begun-so : (first : ℕ) {frame cur cur′ : List ℕ} {end : ℕ} → Wrote (fitting cur 0 frame) 0 end cur cur′ → length frame ≤ 2048 → length cur ≡ 2048
+    → Begun first frame cur′ (record { switch = first; replied = false; size = length frame; head = 0; tail = 0 })
+begun-so first c short long = record { is = refl; holds = copied-begins c (omega arith) }
+
+pub ruleset begin-laws = (needs, begun-so)
+
 pub run-begins : {w starts : List ℕ} {n first : ℕ} {clock frame waiting₀ trace₀ : List ℕ} → LoopReady w starts n first clock frame waiting₀ trace₀
-    → {zeros cur : List ℕ} {end : ℕ} → Wrote (fitting zeros 0 frame) 0 end zeros cur → length zeros ≡ 2048
-    → RunSoFar w starts n first clock frame waiting₀ trace₀ waiting₀ trace₀ cur
-    (record { switch = first; replied = false; size = length frame; head = 0; tail = 0 }) 0
-run-begins {w} {starts} {n} {first} {clock} {frame} {waiting₀} {trace₀} ready e long =
-    record {
+    → {cur : List ℕ} {at : At} → Begun first frame cur at → RunSoFar w starts n first clock frame waiting₀ trace₀ waiting₀ trace₀ cur at 0
+run-begins {w} {starts} {n} {first} {clock} {frame} {waiting₀} {trace₀} ready b =
+    rw (b .is)
+    (record {
       ready = ready;
       done = [];
       nickname = settingsAt w starts first .nickname;
       queue = [];
       long = refl;
       is = rw trace-none (sym (put-none trace₀ 0));
-      remains = rw (copied-begins e (omega arith));
+      remains = rw (b .holds);
       holds = search;
       made = omega arith;
       most = omega arith;
       same = refl;
       same-waiting = refl;
-    }
+    })
 
 module _ {w starts : List ℕ} {n first : ℕ} {clock frame waiting₀ trace₀ waiting trace cur : List ℕ} {at : At} {k : ℕ}
     (l : RunSoFar w starts n first clock frame waiting₀ trace₀ waiting trace cur at k) where

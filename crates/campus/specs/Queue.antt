@@ -2,7 +2,7 @@
 use Prim.Native.Nat.{ℕ, suc, _+_, _*_, _/_, _%_, _≤_, _<_}
 use mathlib.Core.Path.{_≡_}
 use mathlib.Core.List.{List, [], _∷_, _++_}
-use mathlib.Core.Bool.{true, _&&_}
+use mathlib.Core.Bool.{true, false, _&&_}
 use mathlib.Core.Option.{some}
 use lib.Dec.{eqb}
 use lib.ListN.{length, take, drop}
@@ -81,7 +81,7 @@ onwardBy switches kind a out q =
 pub record NextReady (w starts : List ℕ) (n : ℕ) (a : Answer) (waiting : List ℕ) (head tail : ℕ) : Type 0 where
   pub sound : Sound w starts n
   pub small : a .written ≤ 2048
-  pub linked : a .number ≡ 50 → 12 ≤ a .written
+  pub linked : a .number ≡ 50 → 8 ≤ a .written
   pub queue : Queue w starts n waiting head tail
 
 -- a place of the run, as the code holds it, is the switch, the kind, the frame and the replies that wait
@@ -109,7 +109,7 @@ pub record Leads (w starts : List ℕ) (n : ℕ) (waiting : List ℕ) (head tail
 pub record OnwardReady (w starts : List ℕ) (n : ℕ) (a : Answer) (at : At) (out beside waiting : List ℕ) : Type 0 where
   pub wait : WaitReady w starts n a out beside waiting (at .tail)
   pub small : a .written ≤ 2048
-  pub linked : a .number ≡ 50 → 12 ≤ a .written
+  pub linked : a .number ≡ 50 → 8 ≤ a .written
   pub queue : Queue w starts n waiting (at .head) (at .tail)
 
 pub record Onwarded (w starts : List ℕ) (n : ℕ) (a : Answer) (at : At) (out beside waiting waiting′ cur′ : List ℕ) (r : Onward) : Type 0 where
@@ -150,3 +150,8 @@ pub record LoopReady (w starts : List ℕ) (n first : ℕ) (clock frame waiting 
   pub most : length (runOf w starts n first clock frame) ≤ 4096
   pub room : 8 * length (runOf w starts n first clock frame) ≤ length trace
   pub slots : 579 * repliesIn (runOf w starts n first clock frame) ≤ length waiting
+
+-- the first place of the run
+pub record Begun (first : ℕ) (frame cur : List ℕ) (at : At) : Type 0 where
+  pub is : at ≡ record { switch = first; replied = false; size = length frame; head = 0; tail = 0 }
+  pub holds : take (length frame) cur ≡ frame

@@ -63,7 +63,7 @@ pub record Stepped (k : ℕ) (state : State) (out out′ beside beside′ trace 
   pub both : Both (state .answer) r out out′ beside beside′
   pub traced : trace′ ≡ put trace (k * 8) (entryOctets state)
   pub small : r .written ≤ 2048
-  pub linked : r .number ≡ 50 → 12 ≤ r .written
+  pub linked : r .number ≡ 50 → 8 ≤ r .written
   pub short : writesReply (r .number) ≡ true → r .written ≤ 576
   pub short-beside : r .beside ≤ 576
 

@@ -15,7 +15,7 @@ ghost use Rattle.campus.specs.Places as P;
 ghost use Rattle.campus.specs.Stores.{settingsAt, switchesIn, Sound, SoundAt};
 ghost use Rattle.campus.specs.Steps.{kindBy, entryBy, handledBy, stateAt, AnsweredBy, StepReady, Stepped, RunReady, EntryReady, Ran, runOf, statesOf};
 ghost use Rattle.campus.specs.Queue.{sentTo, slotOctets, Free, Queue, Waits, Leads, waitingBy, repliesBy, onwardBy, WaitReady, NextReady};
-ghost use Rattle.campus.specs.Queue.{OnwardReady, Onwarded, TurnReady, Turned, LoopReady};
+ghost use Rattle.campus.specs.Queue.{OnwardReady, Onwarded, TurnReady, Turned, LoopReady, Begun};
 
 // What is handled next: at which switch, whether it is a reply, and how long it is; and the slots of the replies that wait, from head to tail.
 struct At {
@@ -276,14 +276,14 @@ fn sent_to(w: &[u64], starts: &[usize], n: usize, a: Answer) -> Named
     switches::find(w, starts, n, a.neighbour)
 }
 
-// A forwarded frame in its place for the next handling. Its first 12 octets by themselves: so the Ethertype and the TRILL header, which that
+// A forwarded frame in its place for the next handling. Its first eight octets by themselves: so the Ethertype and the TRILL header, which that
 // handling reads in one, are written in one.
 fn copy_back(cur: &mut [u8; 2048], f: &[u8])
-    requires { ⌜ (12 ≤ length (now f)) × (length (now f) ≤ 2048) ⌝ }
+    requires { ⌜ (8 ≤ length (now f)) × (length (now f) ≤ 2048) ⌝ }
     ensures { λ _. ⌜ now (cur .exit) ≡ put (now (cur .entry)) 0 (now (f .entry)) ⌝ }
 {
-    octets::copy(cur, 12, &f[12..]);
-    octets::copy(cur, 0, &f[..12]);
+    octets::copy(cur, 8, &f[8..]);
+    octets::copy(cur, 0, &f[..8]);
 }
 
 // The frame that was forwarded, if it stays in the campus; else the reply that has waited longest.
@@ -358,6 +358,21 @@ fn turn(
     go_on(w, starts, n, a, at, out, beside, waiting, cur)
 }
 
+// The frame that enters, where it is handled first.
+fn begin(cur: &mut [u8; 2048], first: usize, frame: &[u8]) -> At
+    requires { ⌜ length (now frame) ≤ 2048 ⌝ }
+    ensures { λ r. ⌜ Begun first (now (frame .entry)) (now (cur .exit)) r ⌝ }
+{
+    octets::copy(cur, 0, frame);
+    At {
+        switch: first,
+        replied: false,
+        size: frame.len(),
+        head: 0,
+        tail: 0,
+    }
+}
+
 // The run from one switch on, at most 4,096 handlings; slots of 579 octets are lent for the replies that wait.
 fn run_from(
     w: &[u64],
@@ -376,14 +391,7 @@ fn run_from(
     let mut cur = [0u8; 2048];
     let mut out = [0u8; 2048];
     let mut beside = [0u8; 576];
-    octets::copy(&mut cur, 0, frame);
-    let mut at = At {
-        switch: first,
-        replied: false,
-        size: frame.len(),
-        head: 0,
-        tail: 0,
-    };
+    let mut at = begin(&mut cur, first, frame);
     let mut k = 0;
     while k < 4096 {
         let r = turn(

@@ -1,7 +1,8 @@
 -- A buffer written in stages: what fits is written, and writes to places side by side are one write. So a link header, a forwarded frame behind
 -- it (its header and the rest in one, or another area before the inner frame), and the two replies. By laws of parts and of `put`.
 use Rattle.rules.specs as rules
-use rules.{Link.outerTag, Link.link, Link.ethertypeTag, Link.ethertypeTrill, Settings.Ways, Channel.echoBody, Channel.ethertypeChannel, Channel.allEgressRBridges}
+use rules.{Settings.Ways, Channel.echoBody, Channel.ethertypeChannel, Channel.allEgressRBridges}
+use rules.Link.{outerTag, link, ethertypeTag, ethertypeTrill}
 use rules.Header.{opLength, innerStart, readFrame, areaOf, innerOf}
 use Rattle.rules.proofs.{TestLaws.and-left, TestLaws.and-right, TestLaws.by-test}
 use borrow.Author.Tests.{eq-eqb, ne-eqb}

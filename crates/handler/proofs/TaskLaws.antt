@@ -365,7 +365,8 @@ finds S d own strip rfc7179 hop o s t p = rw (o .named, o .addressed, s, t, p)
 -- a frame in transit with an area, by its task
 module _ (S : Ways) (clock f : List ℕ) (h : Header) {rfc7179 strip : Bool} {kept : List ℕ} {task : Task} (x : Routes rfc7179 strip f h kept task)
     (away : weAreEgress (S .nickname) h ≡ false) (two : rfc7179 ≡ S .rfc7179) (r : Answer) (out beside : List ℕ) where
-  pub task-stopped : (number place : ℕ) → task ≡ Stopped number place → r ≡ answerOf (A.droppedAt number place) → Both (routed S clock f h) r out out beside beside
+  pub task-stopped : (number place : ℕ) → task ≡ Stopped number place → r ≡ answerOf (A.droppedAt number place)
+      → Both (routed S clock f h) r out out beside beside
   task-stopped number place e is = rw (x .same S clock away two, e) (both-of beside (done-unwritten number place 0 refl is))
 
   pub task-forward : (alert : Alert) (size : ℕ) → task ≡ Forward alert size → (out1 beside1 : List ℕ)
@@ -404,7 +405,8 @@ module _ {rfc7179 strip : Bool} {f : List ℕ} {h : Header} {kept : List ℕ} {t
     aside-sent S s two =
         record { goes = rw (← s, ← two) (put-aside .stands); few = omega (arith, length-take size kept, put-aside .few) }
 
-pub ruleset task-laws = (needs, owns-named, task-arrived, arrives-ends, task-stopped, task-forward, left-stopped, left-onward, aside-within, aside-count, aside-sent)
+pub ruleset task-laws =
+    (needs, owns-named, task-arrived, arrives-ends, task-stopped, task-forward, left-stopped, left-onward, aside-within, aside-count, aside-sent)
 
 pub both-plain : (S : Ways) (clock f : List ℕ) (h : Header) (r : Answer) (out out1 beside : List ℕ) → Done (routed S clock f h) r out out1
     → Both (routed S clock f h) r out out1 beside beside

@@ -21,7 +21,8 @@ use ruleLaws.TestLaws.{and-no, or-no, or-yes, by-test, by-equal, by-order}
 use Rattle.octets.specs.Flags.{flagBy}
 use Rattle.octets.proofs.FlagLaws.{flag-continues}
 use Rattle.handler.specs
-use specs.Ranks.{rankOf, mixOf, slotBy, markBy, markedBy, coversBy, rankMet, ranksIn, ranksMet, Kept, hopTaken, fieldTaken, withRank, ranksWith, Taking, Verdict}
+use specs.Ranks.{rankOf, mixOf, slotBy, markBy, markedBy, coversBy, rankMet, ranksIn, ranksMet, withRank, ranksWith}
+use specs.Ranks.{Kept, hopTaken, fieldTaken, Taking, Verdict}
 use ruleLaws.FieldLaws.{field-read, fields-at-end, fields-at-cut, fields-at-on}
 use rules.declared.{NextHop.NextHop, FieldRead.FieldRead}
 use rules.declared.FieldRead.the-variants.{Taken, Cut}
@@ -130,7 +131,8 @@ still-covered seen slot mark j mixed h c =
     (λ other. rw (getD-set-other seen slot j new 0 other) c)
 
 -- a rank and its mark in its slot
-module _ (met seen : List ℕ) (rank slot mark : ℕ) (k : Kept met seen) (is : slot ≡ slotBy (mixOf rank)) (h : slot < 256) (made : mark ≡ markBy (mixOf rank)) where
+module _ (met seen : List ℕ) (rank slot mark : ℕ) (k : Kept met seen) (is : slot ≡ slotBy (mixOf rank)) (h : slot < 256)
+    (made : mark ≡ markBy (mixOf rank)) where
   abbrev seen′ : List ℕ
   seen′ = set seen slot (markedBy (getD seen slot 0) mark)
 

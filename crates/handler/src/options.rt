@@ -6,7 +6,8 @@ ghost use Prim.Native.Nat.{_+_, _%_, _<_, _≤_};
 ghost use lib.ListN.{length};
 ghost use Rattle.rules.specs.Octets.{if_then_else_, put};
 ghost use Rattle.rules.specs.Options as O;
-ghost use Rattle.handler.specs.Shapes.{AreaWords, CursorIn, WholeOption, cursorBy, readBy, areaReadOf, summarizedBy, AreaWalked, OptionsChecked, AreaKept, AllKept};
+ghost use Rattle.handler.specs.Shapes.{AreaWords, CursorIn, WholeOption, cursorBy, readBy, areaReadOf, summarizedBy};
+ghost use Rattle.handler.specs.Shapes.{AreaWalked, OptionsChecked, AreaKept, AllKept};
 ghost use Rattle.handler.specs.Treatment.{Treats};
 
 const LENGTH_RESERVED: u8 = 119;

@@ -9,7 +9,8 @@ use borrow.Author.Needs.{needs}
 use mir.Syntax.{w8}
 use mir.Val.{Fits}
 use lib.Seq.{paste, paste-zero, paste-suc, take-length, take-all, take-add, length-take-le}
-use lib.ListN.{length, getD, set, take, drop, replicate, length-append, length-take, length-drop, take-append-drop, drop-of-length-le, length-replicate, List·getD-eq-default}
+use lib.ListN.{length, getD, set, take, drop, replicate, length-append, length-take, length-drop, length-replicate}
+use lib.ListN.{take-append-drop, drop-of-length-le, List·getD-eq-default}
 use Rattle.rules.proofs.{TestLaws.tests, OctetLaws.put-none, OctetLaws.put-put, OctetLaws.put-tail, OctetLaws.put-front, OctetLaws.length-put}
 use Rattle.rules.specs.Octets.{octet, be16, be32, be48, octets16, octets48, put}
 use Rattle.octets.specs.Copy.{Wrote, fitting}

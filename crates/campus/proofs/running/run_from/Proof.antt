@@ -10,6 +10,6 @@ run-from-spec = fn.Tie.close (fn.Tie.spec
     (λ w starts n first clock frame waiting₀ trace₀ _ _ _ _ _ waiting trace cur _ _ at k.
     RunSoFar w starts n first clock frame waiting₀ trace₀ waiting trace cur at k)
     (λ _ _ _ _ _ _ _ _ _ _ _ _ _ _ _ _ _ _ _ k. 4096 - k)
-    (λ c. search laws) (λ c _. search laws) (λ c. search (laws, c .before .copy .ensures)) (λ c _. search laws) (λ c. search laws) (λ c. search laws)
-    (λ c. search laws) (λ c. search laws) (λ c. search laws) (λ c. search laws) (λ c. search laws) (λ c. search laws) (λ c. search laws) (λ c. search laws)
-    (λ c. search laws) (λ c. search laws) (λ c. search laws))
+    (λ c _. search laws) (λ c. search laws) (λ c _. search laws) (λ c. search laws) (λ c. search laws) (λ c. search laws) (λ c. search laws)
+    (λ c. search laws) (λ c. search laws) (λ c. search laws) (λ c. search laws) (λ c. search laws) (λ c. search laws) (λ c. search laws)
+    (λ c. search laws) (λ c. search laws))

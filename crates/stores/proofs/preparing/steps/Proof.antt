@@ -8,10 +8,14 @@ steps-spec = fn.Tie.close (fn.Tie.spec
     (λ c. search laws) (λ c _. search laws) (λ c. search laws) (λ c. search laws) (λ c _. search laws) (λ c. search laws) (λ c. search laws)
     (λ c _. search laws) (λ c. search laws) (λ c. search laws) (λ c. search laws) (λ c. search laws) (λ c. search laws)
     (λ c. let x = c .before .before in
-    steps-high _ _ _ _ _ (search laws) (search laws) (x .before .before .below .result) (x .before .below2 .result) (x .below3 .result) (search laws) (search laws) (search laws) (search laws) (search laws))
+    steps-high _ _ _ _ _ (search laws) (search laws) (x .before .before .below .result) (x .before .below2 .result) (x .below3 .result)
+    (search laws) (search laws) (search laws) (search laws) (search laws))
     (λ c. let x = c .before .before in
-    steps-middle _ _ _ _ _ (search laws) (search laws) (x .before .before .below .result) (x .before .below2 .result) (x .below3 .result) (search laws) (search laws) (search laws) (search laws) (search laws))
+    steps-middle _ _ _ _ _ (search laws) (search laws) (x .before .before .below .result) (x .before .below2 .result) (x .below3 .result)
+    (search laws) (search laws) (search laws) (search laws) (search laws))
     (λ c. let x = c .before .before in
-    steps-low _ _ _ _ _ (search laws) (search laws) (x .before .before .below .result) (x .before .below2 .result) (x .below3 .result) (search laws) (search laws) (search laws) (search laws) (search laws))
+    steps-low _ _ _ _ _ (search laws) (search laws) (x .before .before .below .result) (x .before .below2 .result) (x .below3 .result)
+    (search laws) (search laws) (search laws) (search laws) (search laws))
     (λ c. let x = c .before .before in
-    steps-none _ _ _ _ _ (search laws) (search laws) (x .before .before .below .result) (x .before .below2 .result) (x .below3 .result) (search laws) (search laws) (search laws) (search laws) (search laws)))
+    steps-none _ _ _ _ _ (search laws) (search laws) (x .before .before .below .result) (x .before .below2 .result) (x .below3 .result)
+    (search laws) (search laws) (search laws) (search laws) (search laws)))
