@@ -1,4 +1,4 @@
--- The way out that a caller asks for (T-11): by what is lookup of one destination, by settings octets, and by a store. By cases of the record
+-- The way out that a caller asks for (T-11): by what is looked up of one destination, by settings octets, and by a store. By cases of the record
 -- that rules.
 use mathlib.Core.Path.{_≡_, refl, sym, _∙_}
 use mathlib.Core.List.{List}
@@ -25,7 +25,7 @@ use Rattle.stores.proofs.IndexLaws.{good-whole}
 use Rattle.handler.proofs.CallLaws.{settings-none, settings-some, validated-lookup}
 use Rattle.rules.specs.WayOut as W
 
--- T-11, by what is lookup of one destination
+-- T-11, by what is looked up of one destination
 module _ (t : Lookup) (out : List ℕ) where
   abbrev asked : W.WayOut
   asked = wayOutBy (waysBy t) 0 (length out)
@@ -52,7 +52,7 @@ out-fits S q k out out1 w = omega (arith, link-most S q)
 
 pub ruleset way-out-laws = (needs, out-none, out-short, out-written, out-fits)
 
--- and by settings octets or a store, of which it is lookup
+-- and by settings octets or a store, of which it is looked up
 one-asked : (S : Ways) (d room : ℕ) → wayOutBy (onlyFor d S) 0 room ≡ wayOutBy S d room
 unfolding wayOutBy link
 one-asked S d room = refl

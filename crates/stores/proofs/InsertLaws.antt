@@ -1,4 +1,4 @@
--- A record put in its place among records that stand for settings' records: they then stand for those with the record behind them.
+-- A record put in at its index among records that stand for settings' records: they then stand for those with the record behind them.
 -- Its index by what a search by halving comes to, the rest by position, and by `row-slide`, which takes the record from its index to the end.
 use Prim.Native.Nat.{ℕ, zero, suc, _+_, _-_, _*_, _/_, _%_, _≤_, _<_}
 use mathlib.Core.Path.{_≡_, refl, sym, ap, _∙_}
@@ -187,7 +187,7 @@ module _ (w : List ℕ) (n first second p : ℕ) (within : p ≤ n) (room : 6 + 
           let e : j - 2 + 2 ≡ j = omega arith in
           rw e at (s .moved (j - 2) (omega arith) (omega arith) ∙ sym (q .moved (j - 2) (omega arith) (omega arith)))
 
--- a record in its place
+-- a record at its index
 module _ (w : List ℕ) (n first second : ℕ) where
   abbrev rank : ℕ
   rank = first / 65536
@@ -277,7 +277,7 @@ module _ {w : List ℕ} {n first second p : ℕ} {v : List ℕ} (o : Ordered w n
           let moved = rw (← f) at (at-moved (i - 1) (omega (arith, e)) (omega arith)) in
           omega (arith, moved, at-moved i l (omega arith), o .rises (i - 1) i (omega (arith, e)) (omega arith))))
 
-  -- the records with the new one in its place
+  -- the records with the new one at its index
   module _ (r : NextHop) (is-r : hopAt v p ≡ r) where
     hops-with : hopsFrom v 0 (suc n) ≡ hopsFrom w 0 p ++ (r ∷ hopsFrom w p (n - p))
     unfolding hopAt

@@ -1,4 +1,4 @@
-// Settings octets into a store: the fields checked and written in one pass, each record put in its place.
+// Settings octets into a store: the fields checked and written in one pass, each record put in its order.
 use octets::Record;
 use rules::FieldRead;
 ghost use mathlib.Core.Path.{_≡_};
