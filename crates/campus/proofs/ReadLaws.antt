@@ -597,7 +597,7 @@ module _ {s w₀ starts₀ w starts : List ℕ} {n clock at : ℕ} (h : Holding 
                         count = h .count;
                         sixteen = took .starts-size ∙ h .sixteen;
                         span = omega (arith, span-room);
-                        started = omega (arith, its);
+                        entry-in = omega (arith, its);
                       };
                 })
                 (λ b.

@@ -123,7 +123,7 @@ pub record Accepts (s w starts : List ℕ) (n clock place : ℕ) : Type 0 where
   pub count : length switches ≡ n
   pub sixteen : length starts ≡ 16
   pub span : spanOf switches ≤ length w
-  pub started : place + 3 ≤ length s
+  pub entry-in : place + 3 ≤ length s
 
 pub record ReadDone (s w starts : List ℕ) (r : Reading) : Type 0 where
   pub refuses : (r .code ≡ 0 → ⊥) → refused (r .code) ≡ described s
