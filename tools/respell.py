@@ -18,7 +18,9 @@ CAMEL = re.compile(r"[a-z][a-z0-9]*(?:_[a-z0-9]+)*(?:[A-Z][A-Za-z0-9]*)+[₀-₉
 DASHED = re.compile(r"[a-z][A-Za-z0-9_]*(?:-[A-Za-z0-9_]+)+[₀-₉]*'*")
 WORDS = {"crHbH": "cr_hbh", "crItE": "cr_ite"}
 # Names that two crates or a definition and a local value share, which never meet in one file; and one that port.py turned where it is used.
-SAME = {"oneMore", "entryIn", "indexIn", "field-read"}
+SAME = {"oneMore", "entryIn", "indexIn", "entryKnown", "field-read"}
+# Of mathlib's Memᴰ.
+KEPT = {"not-nil"}
 # What Rattle makes, or names of its proof files.
 MADE = re.compile(r"(loop-.*|.*-loop)$")
 
@@ -31,7 +33,7 @@ def imported(text):
     """The names that a file takes from a library."""
     for path, names in USE.findall(text):
         root = path.replace("·", ".").split(".")
-        if root[0] in ("specs", "proofs", "crate") or (root[0] == "Rattle" and root[1] in CRATES):
+        if root[0] in ("specs", "proofs", "crate", *CRATES) or (root[0] == "Rattle" and root[1] in CRATES):
             continue
         if root[0][0].islower() or root[:2] == ["Rattle", "std"] or root[0] in ("Prim",):
             for name in names.split(","):
@@ -50,7 +52,7 @@ def renamed(texts):
         library.update(imported(text))
         code = re.sub(r"^use [^{\n]*", "", re.sub(r"--.*", "", text), flags=re.M)
         used.update(NAME.findall(code))
-    mine = {n for n in used if (CAMEL.fullmatch(n) or DASHED.fullmatch(n)) and n not in library and not MADE.fullmatch(n)}
+    mine = {n for n in used if (CAMEL.fullmatch(n) or DASHED.fullmatch(n)) and n not in library and n not in KEPT and not MADE.fullmatch(n)}
     taken = (set(used) - mine) | library
     new = {}
     for name in sorted(mine, key=lambda n: ("-" in n, n)):

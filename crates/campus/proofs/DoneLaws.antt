@@ -15,8 +15,8 @@ use lib.ListN.{length, take, drop, replicate, length-take, length-drop, length-r
 use Rattle.rules.specs as rules
 use rules.{Octets.be16, Octets.part, Demand.replies_in, Demand.single_run}
 use rules.Settings.{Settings, Ways, ways_of}
-use rules.Campus.{Described, switchNamed, original, run_from, handlingsMost, plainRun, clockOf, someEdition2, traceNeeded, accepted, described, refusal}
-use rules.Campus.{campus, traceAfter}
+use rules.Campus.{Described, switch_named, original, run_from, handlings_most, plain_run, clock_of, some_edition2, trace_needed, accepted, described, refusal}
+use rules.Campus.{campus, trace_after}
 use Rattle.rules.proofs as ruleLaws
 use ruleLaws.{TestLaws.by-test, OctetLaws.put-none, OctetLaws.put_front, RunLaws.named_nickname, RunLaws.few_replies, RunLaws.named_member, StepLaws.hop_most}
 use ruleLaws.DescriptionLaws.{Accepted, accepted-good}
@@ -44,9 +44,9 @@ module _ (s : List ℕ) (clock : ℕ) where
   unfolding clock_from
   clock_none e = rw e
 
-  clock_is : (l : List Settings) (place : ℕ) → clockOf (described_by s l clock place) ≡ clock_from s clock
-  unfolding clockOf clock_at clock_from
-  clock_is l place = by-test (eqb clock 0) (λ t. rw (clockOf, clock_at, clock_from, t)) (λ f. rw (clockOf, clock_at, clock_from, f))
+  clock_is : (l : List Settings) (place : ℕ) → clock_of (described_by s l clock place) ≡ clock_from s clock
+  unfolding clock_of clock_at clock_from
+  clock_is l place = by-test (eqb clock 0) (λ t. rw (clock_of, clock_at, clock_from, t)) (λ f. rw (clock_of, clock_at, clock_from, f))
 
   module _ (six : length (clock_from s clock) ≡ 6) (h : clock ≡ 0 → ⊥) where
     clock_some : clock_from s clock ≡ part s clock 6
@@ -77,11 +77,11 @@ between_drop [] = refl
 between_drop (x ∷ []) = refl
 between_drop (x ∷ y ∷ l) = sym (between_there (x ∷ y ∷ l) 2 (length (x ∷ y ∷ l)) (omega arith) (omega arith)) ∙ lent (x ∷ y ∷ l) 2
 
-plain_none : (d : Described) → d.entry ≡ none → plainRun d ≡ []
-unfolding plainRun
-plain_none d e = rw (plainRun, e)
+plain_none : (d : Described) → d.entry ≡ none → plain_run d ≡ []
+unfolding plain_run
+plain_none d e = rw (plain_run, e)
 
-states_so : (s : List ℕ) (d : Described) → described s ≡ accepted d → states_of s ≡ plainRun d
+states_so : (s : List ℕ) (d : Described) → described s ≡ accepted d → states_of s ≡ plain_run d
 unfolding states_of
 states_so s d e = rw (states_of, e)
 
@@ -109,20 +109,20 @@ module _ {s w starts : List ℕ} {n clock place : ℕ} {trace : List ℕ} (ready
     abbrev l : List Settings
     l = ready.read.switches
 
-    alike : Both (switchNamed l b) (switchNamed (switches_in w starts n) b)
+    alike : Both (switch_named l b) (switch_named (switches_in w starts n) b)
     alike = named_same w starts l ready.read.stores n ready.read.count b
 
     pub run_unknown : found ≡ Unknown → Ran (states_of s) trace trace 0
     run_unknown e =
-        let none_named = both_none (switchNamed l b) (rw (named_none w starts n b found ef e) at alike) in
+        let none_named = both_none (switch_named l b) (rw (named_none w starts n b found ef e) at alike) in
         let none_run = states_so s _ ready.read.is ∙ plain_none (described_by s l clock place) (rw (← ev, ← eb) none_named) in
         rw none_run (record { counted = refl; traced = rw trace_none (sym (put-none trace 0)) })
 
     pub entry_ready : (first : ℕ) → found ≡ At first → EntryReady s w starts n clock place first v trace
     entry_ready first e =
         let there = named_some w starts n b found ef first e in
-        let its = both_some (switchNamed l b) (settings_at w starts first) (rw there.1 at alike) in
-        let entered : switchNamed l (be16 v 0) ≡ some its.0 = rw (← eb) its.1 in
+        let its = both_some (switch_named l b) (settings_at w starts first) (rw there.1 at alike) in
+        let entered : switch_named l (be16 v 0) ≡ some its.0 = rw (← eb) its.1 in
         let named = rw eb at there.1 in
         search
 
@@ -132,7 +132,7 @@ pub ruleset run_laws = (rules, run_started, run_unknown, entry_ready)
 all_small : (w starts : List ℕ) (n : ℕ) → ((i : ℕ) → i < n → SoundAt w starts i) → (S : Settings) → Memᴰ S (switches_in w starts n)
     → S.nickname < 65536
 unfolding switches_in
-all_small w starts zero each S j = absurd (Memᴰ.not_nil j)
+all_small w starts zero each S j = absurd (Memᴰ.not-nil j)
 all_small w starts (suc n) each S j =
     let last = each n (omega arith) in
     elim (Memᴰ.cases_cons j) [
@@ -164,16 +164,16 @@ module _ {s w starts : List ℕ} {n clock place first : ℕ} {v trace : List ℕ
     frame_is : frame ≡ d.frame
     frame_is = ef ∙ between_drop v ∙ ap (drop 2) at.value
 
-    plain : plainRun d ≡ run_from handlingsMost 1 m clock' entry.nickname original frame []
+    plain : plain_run d ≡ run_from handlings_most 1 m clock' entry.nickname original frame []
     plain =
         rw (ec, ← clock_is s clock m place, frame_is, ← ap (λ (x : Ways). x.nickname) at.same)
         (plain-run d at.entry (rw (← at.value) at.entered))
 
-    same : Same (plainRun d) (run_of w starts n first clock' frame)
+    same : Same (plain_run d) (run_of w starts n first clock' frame)
     same =
         rw plain
         (run-alike m all (named_same w starts m at.ready.read.stores n at.ready.read.count) clock'
-        handlingsMost 1 entry.nickname original frame [])
+        handlings_most 1 entry.nickname original frame [])
 
     sound : Sound w starts n
     sound = accepts_sound at.ready.read
@@ -181,8 +181,8 @@ module _ {s w starts : List ℕ} {n clock place first : ℕ} {v trace : List ℕ
     six : length clock' ≡ 6
     six = rw ec clock_six
 
-    named : switchNamed all entry.nickname ≡ some entry
-    named = ap (switchNamed all) (named_nickname all (be16 v 0) entry at.named) ∙ at.named
+    named : switch_named all entry.nickname ≡ some entry
+    named = ap (switch_named all) (named_nickname all (be16 v 0) entry at.named) ∙ at.named
 
     fit : (S : Settings) → Memᴰ S all → S.nickname < 65536
     fit = all_small w starts n sound.each
@@ -196,22 +196,22 @@ module _ {s w starts : List ℕ} {n clock place first : ℕ} {v trace : List ℕ
         let room = plain-room d good in
         search (arith, sound, named, six)
 
-    module _ (two : Bool) (is : two ≡ someEdition2 (switches_in w starts n)) where
+    module _ (two : Bool) (is : two ≡ some_edition2 (switches_in w starts n)) where
       pub loop-2 : two ≡ true → LoopReady w starts n first clock' frame (replicate 36477 0) trace
       loop-2 t =
-          loop-ready 63 (omega (arith, few_replies all clock' six fit handlingsMost 1 entry.nickname original frame, hop_most frame))
+          loop-ready 63 (omega (arith, few_replies all clock' six fit handlings_most 1 entry.nickname original frame, hop_most frame))
           (replicate 36477 0) (omega (arith, length-replicate {A = ℕ} 36477 0))
 
       pub loop-1 : two ≡ false → LoopReady w starts n first clock' frame (replicate 579 0) trace
       loop-1 t =
-          loop-ready 1 (rw one (one-reply all clock' six draft handlingsMost 1 entry original frame (named_member all entry.nickname entry named)))
+          loop-ready 1 (rw one (one-reply all clock' six draft handlings_most 1 entry original frame (named_member all entry.nickname entry named)))
           (replicate 579 0) (omega (arith, length-replicate {A = ℕ} 579 0))
         where
           draft : (S : Settings) → Memᴰ S all → Draft S
           draft S j = record { nickname_fits = fit S j; edition_1 = edition-1-all all (sym is ∙ t) S j }
 
-          one : run_of w starts n first clock' frame ≡ single_run handlingsMost 1 all clock' entry original frame
-          one = single all clock' six draft handlingsMost 1 entry.nickname entry named original frame
+          one : run_of w starts n first clock' frame ≡ single_run handlings_most 1 all clock' entry original frame
+          one = single all clock' six draft handlings_most 1 entry.nickname entry named original frame
 
     pub run_plain : {trace' : List ℕ} {r : ℕ} → Ran (run_of w starts n first clock' frame) trace trace' r → Ran (states_of s) trace trace' r
     run_plain ran =
@@ -223,7 +223,7 @@ pub ruleset run_at_laws = (rules, clock_six, loop-2, loop-1, run_plain)
 -- the outcome, by the room and the description
 module _ (file trace : List ℕ) where
   done_so : {trace' : List ℕ} {code count : ℕ} → code ≡ (campus file (length trace)).code → count ≡ (campus file (length trace)).count
-      → trace' ≡ traceAfter trace (campus file (length trace)) → CampusDone file trace trace' code count
+      → trace' ≡ trace_after trace (campus file (length trace)) → CampusDone file trace trace' code count
   done_so {trace'} {code} {count} c n t =
       let demanded = demand file trace trace' code count c n t in
       search
@@ -248,9 +248,9 @@ module _ (file trace : List ℕ) where
       pub read_sound : Sound w starts r.n
       read_sound = accepts_sound accepts
 
-      module _ (two : Bool) (e : two ≡ someEdition2 (switches_in w starts r.n)) (room : ℕ) (is : room ≡ needed_by two) where
-        needed_so : traceNeeded its ≡ room
-        unfolding traceNeeded
+      module _ (two : Bool) (e : two ≡ some_edition2 (switches_in w starts r.n)) (room : ℕ) (is : room ≡ needed_by two) where
+        needed_so : trace_needed its ≡ room
+        unfolding trace_needed
         needed_so =
             rw (is, edition_same w starts accepts.switches accepts.stores r.n accepts.count ∙ sym e)
             (elim two [ true ↦ refl | false ↦ refl ])

@@ -13,7 +13,7 @@ use lib.Dec.{eqb}
 use lib.ListN.{length, get_or, take, drop, length-take, length-drop, take-append-drop}
 use lib.Seq.{length-take-le, take-append-le, drop-append-le, take-append_seam, drop_at}
 use Rattle.rules.specs.Octets.{be16, put}
-use Rattle.rules.specs.Campus.{switchNamed, Kind, Waiting, writes_reply, in_campus, staying, first_waiting}
+use Rattle.rules.specs.Campus.{switch_named, Kind, Waiting, writes_reply, in_campus, staying, first_waiting}
 use Rattle.rules.proofs.OctetLaws.{length-put, put_front, take_put}
 use Rattle.rules.proofs.{NextLaws.stays_none, NextLaws.stays_in, NextLaws.stays_left, TestLaws.by-test}
 use Rattle.octets.specs.Copy.{Wrote, fitting}
@@ -110,7 +110,7 @@ module _ (waiting : List ℕ) (tail i : ℕ) (f : List ℕ) (free : Free waiting
         let holds = before_put waiting (tail * 579) (slot_octets i f) room (h * 579) size (omega arith) ∙ a.holds in
         search
 
-    module _ (towards : ℕ) (there : (i < n) × (switchNamed (switches_in w starts n) towards ≡ some (settings_at w starts i))) where
+    module _ (towards : ℕ) (there : (i < n) × (switch_named (switches_in w starts n) towards ≡ some (settings_at w starts i))) where
       held_more : (q : List Waiting) (head : ℕ) → Held w starts n waiting q head tail
           → Held w starts n after (q ++ (waiting_by towards f ∷ [])) head (tail + 1)
       held_more [] head e =
@@ -284,9 +284,9 @@ module _ (w starts : List ℕ) (n : ℕ) (a : Answer) where
   unfolding sent_to
   sent_not h = simp ne_eqb
 
-  pub sent_on : a.number ≡ 50 → (found : Named) → found ≡ number_in w starts n a.neighbour → found ≡ sent_to w starts n a
+  pub sent_on_lem : a.number ≡ 50 → (found : Named) → found ≡ number_in w starts n a.neighbour → found ≡ sent_to w starts n a
   unfolding sent_to
-  sent_on h found e = simp eq-eqb e
+  sent_on_lem h found e = simp eq-eqb e
 
   module _ (found : Named) (is : found ≡ sent_to w starts n a) where
     sent_unknown : found ≡ Unknown → (eqb a.number 50 && in_campus (switches_in w starts n) a.neighbour) ≡ false
@@ -297,7 +297,7 @@ module _ (w starts : List ℕ) (n : ℕ) (a : Answer) where
         (λ t. rw t)
 
     sent_at : (i : ℕ) → found ≡ At i
-        → (eqb a.number 50 ≡ true) × ((i < n) × (switchNamed (switches_in w starts n) a.neighbour ≡ some (settings_at w starts i)))
+        → (eqb a.number 50 ≡ true) × ((i < n) × (switch_named (switches_in w starts n) a.neighbour ≡ some (settings_at w starts i)))
     unfolding sent_to
     sent_at i e =
         let fifty : eqb a.number 50 ≡ true = by-test (eqb a.number 50) (λ t. t) (λ t. cc (rw (is, t) at e)) in
@@ -331,7 +331,7 @@ module _ (w starts : List ℕ) (n : ℕ) (a : Answer) where
         pub next_most : length f ≤ 2048
         next_most = rw (held, length-take) (omega arith)
 
-pub ruleset sent_to_laws = (rules, sent_not, sent_on)
+pub ruleset sent_to_laws = (rules, sent_not, sent_on_lem)
 
 pub ruleset next_of_laws = (rules, next_waiting, next_on, next_least, next_most)
 

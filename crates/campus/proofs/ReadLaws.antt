@@ -1,4 +1,4 @@
--- Reading a description. One field more, checked and taken into the stores: by the tests of `fieldRefusal`, and the laws of stores. Then the loop: the words
+-- Reading a description. One field more, checked and taken into the stores: by the tests of `field_refusal`, and the laws of stores. Then the loop: the words
 -- stand for the switches read so far, and the rest of the fields decides as the whole does. One law for each way out and each need.
 use mathlib.Core.Path.{◌≡◌, refl, sym, ap, ◌∙◌}
 use mathlib.Core.List.{List, [], ◌∷◌, ◌++◌}
@@ -12,10 +12,10 @@ use lib.Dec.{eqb, ltb, leb}
 use lib.ListN.{length, get_or, set, take, drop, length-set, length-drop, length-append}
 use Rattle.rules.specs as rules
 use rules.Octets.{if◌then◌else◌, be16, part}
-use rules.Fields.{field, lengthGood, Field, cut, field_at, fieldsFrom, fields}
-use rules.Settings.{Settings, switchOf, opens, switchGood, hopOf, serialMet, withField}
-use rules.Campus.{switchNamed, known, orderGood, valueGood, nicknameNew, roomGood, serialNew, entryKnown, fieldRefusal, with_next, Described, onLatest}
-use rules.Campus.{refused, describedFrom, described, fileMost}
+use rules.Fields.{field, length_good, Field, cut, field_at, fields_from, fields}
+use rules.Settings.{Settings, switch_of, opens, switch_good, hop_of, serial_met, with_field}
+use rules.Campus.{switch_named, known, order_good, value_good, nickname_new, room_good, serial_new, entry_known, field_refusal, with_next, Described, on_latest}
+use rules.Campus.{refused, described_from, described, file_most}
 use rules.declared.FieldRead.{FieldRead}
 use rules.declared.FieldRead.TheVariants.{Taken, Cut}
 use Rattle.rules.proofs.{TestLaws.by-test, TestLaws.and_yes, FrameLaws.none_given, OctetLaws.length_part, Taken.taken}
@@ -71,14 +71,14 @@ module _ (n clock tag : ℕ) where
 pub ruleset order_good_laws = (rules, order_settings, order_4, order_any)
 
 -- the code of one field, by the switches so far
-serial_other : (l : List Settings) (c : Option (List ℕ)) (v : List ℕ) (tag : ℕ) → (tag ≡ 2 → ⊥) → serialNew (so_far l c) tag v ≡ true
-unfolding serialNew
+serial_other : (l : List Settings) (c : Option (List ℕ)) (v : List ℕ) (tag : ℕ) → (tag ≡ 2 → ⊥) → serial_new (so_far l c) tag v ≡ true
+unfolding serial_new
 serial_other [] c v tag h = refl
-serial_other (T ∷ l) c v tag h = rw (serialNew, ne_eqb tag 2 h)
+serial_other (T ∷ l) c v tag h = rw (serial_new, ne_eqb tag 2 h)
 
 order_is : (l : List Settings) (c : Option (List ℕ)) (n clock tag : ℕ) → length l ≡ n → known c ≡ not (eqb clock 0)
-    → orderGood (so_far l c) tag ≡ order_by n clock tag
-unfolding orderGood order_by
+    → order_good (so_far l c) tag ≡ order_by n clock tag
+unfolding order_good order_by
 order_is l c n clock tag h k =
     by-test (eqb tag 2 || eqb tag 3 || eqb tag 6)
     (λ t.
@@ -91,18 +91,18 @@ module _ (T : Settings) (l : List Settings) (c : Option (List ℕ)) (v : List �
   some_switch : eqb (length (T ∷ l)) 0 ≡ false
   some_switch = ne_eqb (suc (length l)) 0 (omega arith)
 
-  code_2 : record_by T v ≡ fieldRefusal (so_far (T ∷ l) c) (field 2 v)
-  unfolding fieldRefusal orderGood valueGood nicknameNew roomGood serialNew entryKnown
-  code_2 = rw (some_switch, not-not (serialMet (hopOf v) T.hops))
+  code_2 : record_by T v ≡ field_refusal (so_far (T ∷ l) c) (field 2 v)
+  unfolding field_refusal order_good value_good nickname_new room_good serial_new entry_known
+  code_2 = rw (some_switch, not-not (serial_met (hop_of v) T.hops))
 
-  code_flag : (tag : ℕ) → (eqb tag 3 || eqb tag 6) ≡ true → flag_by tag v ≡ fieldRefusal (so_far (T ∷ l) c) (field tag v)
-  unfolding fieldRefusal orderGood valueGood nicknameNew roomGood serialNew entryKnown flag_tag flag_value lengthGood
+  code_flag : (tag : ℕ) → (eqb tag 3 || eqb tag 6) ≡ true → flag_by tag v ≡ field_refusal (so_far (T ∷ l) c) (field tag v)
+  unfolding field_refusal order_good value_good nickname_new room_good serial_new entry_known flag_tag flag_value length_good
   code_flag tag t =
       by-test (eqb tag 3) (λ b. rw (eqb-true tag 3 b, some_switch)) (λ b. rw (eqb-true tag 6 (rw b at t), some_switch))
 
 -- the tags of settings
 settings_tag : {tag size : ℕ} → OfSettings tag size → (eqb tag 2 || eqb tag 3 || eqb tag 6) ≡ true
-unfolding lengthGood
+unfolding length_good
 settings_tag {tag} o =
     by-test (eqb tag 2) (λ t. rw t) (λ f.
     by-test (eqb tag 3) (λ t. rw (f, t)) (λ g.
@@ -113,28 +113,28 @@ settings_tag {tag} o =
 module _ (w starts : List ℕ) (n clock tag : ℕ) (v : List ℕ) where
   not_taken : (code : ℕ) (w' : List ℕ) → 0 < code → length w' ≡ length w
       → ((l : List Settings) (c : Option (List ℕ)) → Stores w starts l → length l ≡ n → known c ≡ not (eqb clock 0)
-      → code ≡ fieldRefusal (so_far l c) (field tag v))
+      → code ≡ field_refusal (so_far l c) (field tag v))
       → Took w starts n clock tag v code w' starts
   not_taken code w' z same j = record { size = same; starts_size = refl; checked = j; stored = λ l c s e q. absurd (omega arith) }
 
-  module _ (g : Bool) (a : g ≡ lengthGood tag (length v)) where
+  module _ (g : Bool) (a : g ≡ length_good tag (length v)) where
     pub took_42 : not g ≡ true → Took w starts n clock tag v 42 w starts
-    unfolding fieldRefusal
+    unfolding field_refusal
     took_42 t = not_taken 42 w (omega arith) refl (λ l c s e k. rw (sym a ∙ not-true g t))
 
     module _ (t : not g ≡ false) (p : Bool) (b : p ≡ order_by n clock tag) where
-      pub its_good : lengthGood tag (length v) ≡ true
+      pub its_good : length_good tag (length v) ≡ true
       its_good = sym a ∙ not-false g t
 
       pub took_43 : not p ≡ true → Took w starts n clock tag v 43 w starts
-      unfolding fieldRefusal
+      unfolding field_refusal
       took_43 q = not_taken 43 w (omega arith) refl (λ l c s e k. rw (its_good, order_is l c n clock tag e k ∙ sym b ∙ not-true p q))
 
       module _ (q : not p ≡ false) where
         in_order : order_by n clock tag ≡ true
         in_order = sym b ∙ not-false p q
 
-        pub length_1 : tag ≡ 1 → lengthGood 1 (length v) ≡ true
+        pub length_1 : tag ≡ 1 → length_good 1 (length v) ≡ true
         length_1 e = rw e at its_good
 
         pub took_1 : {r : ℕ} {w' starts' : List ℕ} → tag ≡ 1 → Took w starts n clock 1 v r w' starts'
@@ -142,7 +142,7 @@ module _ (w starts : List ℕ) (n clock tag : ℕ) (v : List ℕ) where
         took_1 e x = rw e x
 
         pub took_4 : tag ≡ 4 → Took w starts n clock tag v 0 w starts
-        unfolding with_next fieldRefusal valueGood nicknameNew roomGood entryKnown
+        unfolding with_next field_refusal value_good nickname_new room_good entry_known
         took_4 e =
             record {
               size = refl;
@@ -153,8 +153,8 @@ module _ (w starts : List ℕ) (n clock tag : ℕ) (v : List ℕ) where
 
         module _ (e : tag ≡ 5) (x : Bool) (is : x ≡ known_in w starts n (be16 v 0)) where
           entry_code : (l : List Settings) (c : Option (List ℕ)) → Stores w starts l → length l ≡ n
-              → (if not x then 48 else 0) ≡ fieldRefusal (so_far l c) (field tag v)
-          unfolding fieldRefusal orderGood valueGood nicknameNew roomGood entryKnown
+              → (if not x then 48 else 0) ≡ field_refusal (so_far l c) (field tag v)
+          unfolding field_refusal order_good value_good nickname_new room_good entry_known
           entry_code l c s m = rw (e, rw e at its_good, serial_other l c v 5 (omega arith), ← Known-is w starts l s n m (be16 v 0), ← is)
 
           pub took_48 : not x ≡ true → Took w starts n clock tag v 48 w starts
@@ -181,20 +181,20 @@ opened_long {w} {v = v} {end = end} o k e =
     (part_long w end _ (omega arith)
     (by-test (opens_in (drop end w) v) (λ t. rw t (switch_long (drop end w) v (rw length-drop (omega arith)))) (λ f. rw f)))
 
-module _ (w starts : List ℕ) (n clock : ℕ) (v : List ℕ) (k : Kept w starts n) (long : lengthGood 1 (length v) ≡ true)
+module _ (w starts : List ℕ) (n clock : ℕ) (v : List ℕ) (k : Kept w starts n) (long : length_good 1 (length v) ≡ true)
     (x : Bool) (is : x ≡ known_in w starts n (be16 v 0)) (end : ℕ) (ends : end ≡ end_of w starts n)
     (r : Bool) (w' : List ℕ) (o : PartOpens w end v r w') where
-  good_is : r ≡ switchGood (switchOf v)
+  good_is : r ≡ switch_good (switch_of v)
   unfolding opens_in opens
   good_is = o.answer ∙ rw (le-leb 4 (length (drop end w)) (rw length-drop (omega arith)), long)
 
   abbrev open_code : ℕ
   open_code = if not r then 44 else if x then 45 else if not (ltb n 16) then 46 else 0
 
-  open_code_is : (l : List Settings) (c : Option (List ℕ)) → Stores w starts l → length l ≡ n → fieldRefusal (so_far l c) (field 1 v) ≡ open_code
-  unfolding fieldRefusal orderGood valueGood nicknameNew roomGood entryKnown
+  open_code_is : (l : List Settings) (c : Option (List ℕ)) → Stores w starts l → length l ≡ n → field_refusal (so_far l c) (field 1 v) ≡ open_code
+  unfolding field_refusal order_good value_good nickname_new room_good entry_known
   open_code_is l c s m =
-      rw (long, serial_other l c v 1 (omega arith), not-not (known (switchNamed l (be16 v 0))), ← good_is, ← Known-is w starts l s n m (be16 v 0), ← is, m)
+      rw (long, serial_other l c v 1 (omega arith), not-not (known (switch_named l (be16 v 0))), ← good_is, ← Known-is w starts l s n m (be16 v 0), ← is, m)
 
   open_refused : (given : ℕ) → 0 < given → given ≡ open_code → Took w starts n clock 1 v given w' starts
   open_refused given z e = not_taken w starts n clock 1 v given w' z (opened_long o k ends) (λ l c s m q. e ∙ sym (open_code_is l c s m))
@@ -247,7 +247,7 @@ module _ (w starts : List ℕ) (n clock tag : ℕ) (v : List ℕ) (k : Kept w st
       room : span_of (T ∷ l) + 6 ≤ length w
       room = omega (arith, ap (end_of w starts) (sym m), end_is w starts (T ∷ l) s)
 
-      latest_code : r ≡ fieldRefusal (so_far (T ∷ l) c) (field tag v)
+      latest_code : r ≡ field_refusal (so_far (T ∷ l) c) (field tag v)
       latest_code =
           let ample = latest_ample w starts T l s room in
           x.code
@@ -265,7 +265,7 @@ module _ (w starts : List ℕ) (n clock tag : ℕ) (v : List ℕ) (k : Kept w st
           (stores_extended w starts T l s room tag v (sym (rw at_is at x.code) ∙ z))
 
     latest : (l : List Settings) (c : Option (List ℕ)) → Stores w starts l → length l ≡ n
-        → (r ≡ fieldRefusal (so_far l c) (field tag v)) × (r ≡ 0 → Stores w' starts (with_next (so_far l c) (field tag v)).switches)
+        → (r ≡ field_refusal (so_far l c) (field tag v)) × (r ≡ 0 → Stores w' starts (with_next (so_far l c) (field tag v)).switches)
     latest [] c s m = absurd (omega arith)
     latest (T ∷ l) c s m = (latest_code T l c s m, latest_stored T l c s m)
 
@@ -298,20 +298,20 @@ pub ruleset between_laws = (rules, between_back, between_past, between_there)
 
 -- what a field that is not refused says
 record Passed (d : Described) (tag : ℕ) (v : List ℕ) : Type 0 where
-  pub its_length : lengthGood tag (length v) ≡ true
-  pub has_room : roomGood d tag ≡ true
-  pub is_known : entryKnown d tag v ≡ true
+  pub its_length : length_good tag (length v) ≡ true
+  pub has_room : room_good d tag ≡ true
+  pub is_known : entry_known d tag v ≡ true
 
-passes : (d : Described) (tag : ℕ) (v : List ℕ) → fieldRefusal d (field tag v) ≡ 0 → Passed d tag v
-unfolding fieldRefusal
+passes : (d : Described) (tag : ℕ) (v : List ℕ) → field_refusal d (field tag v) ≡ 0 → Passed d tag v
+unfolding field_refusal
 passes d tag v e =
-    let p1 = none_given (not (lengthGood tag (length v))) 42 _ (omega arith) e in
-    let p2 = none_given (not (orderGood d tag)) 43 _ (omega arith) p1.1 in
-    let p3 = none_given (not (valueGood tag v)) 44 _ (omega arith) p2.1 in
-    let p4 = none_given (not (nicknameNew d tag v)) 45 _ (omega arith) p3.1 in
-    let p5 = none_given (not (roomGood d tag)) 46 _ (omega arith) p4.1 in
-    let p6 = none_given (not (serialNew d tag v)) 47 _ (omega arith) p5.1 in
-    let p7 = none_given (not (entryKnown d tag v)) 48 _ (omega arith) p6.1 in
+    let p1 = none_given (not (length_good tag (length v))) 42 _ (omega arith) e in
+    let p2 = none_given (not (order_good d tag)) 43 _ (omega arith) p1.1 in
+    let p3 = none_given (not (value_good tag v)) 44 _ (omega arith) p2.1 in
+    let p4 = none_given (not (nickname_new d tag v)) 45 _ (omega arith) p3.1 in
+    let p5 = none_given (not (room_good d tag)) 46 _ (omega arith) p4.1 in
+    let p6 = none_given (not (serial_new d tag v)) 47 _ (omega arith) p5.1 in
+    let p7 = none_given (not (entry_known d tag v)) 48 _ (omega arith) p6.1 in
     record { its_length = not-false _ p1.0; has_room = not-false _ p5.0; is_known = not-false _ p7.0 }
 
 -- the code for what stands behind the entry field
@@ -325,7 +325,7 @@ module _ (s : List ℕ) (at : ℕ) where
     unfolding code_after
     after_cut e = rw (code_after, lt-leb (length s) at h, ← is, e)
 
-    module _ (tag size next : ℕ) (e : read ≡ Taken tag size next) (good : Bool) (its : good ≡ lengthGood tag size) where
+    module _ (tag size next : ℕ) (e : read ≡ Taken tag size next) (good : Bool) (its : good ≡ length_good tag size) where
       pub after_length : not good ≡ true → 42 ≡ code_after s at
       unfolding code_after
       after_length f = rw (code_after, lt-leb (length s) at h, ← is, e, ← its, f)
@@ -338,14 +338,14 @@ pub ruleset code_after_laws = (rules, after_end, after_cut, after_length, after_
 
 module _ (s : List ℕ) (at : ℕ) (h : at < length s) (d : Described) (k : known d.entry ≡ true) (g : ℕ) where
   abbrev Refused : Type 0
-  Refused = (describedFrom d (fieldsFrom (suc g) s at) ≡ refused (code_after s at)) × (code_after s at ≡ 0 → ⊥)
+  Refused = (described_from d (fields_from (suc g) s at) ≡ refused (code_after s at)) × (code_after s at ≡ 0 → ⊥)
 
-  refuses : (f : Field) (fs : List Field) (code : ℕ) → fieldsFrom (suc g) s at ≡ f ∷ fs → fieldRefusal d f ≡ code → code ≡ code_after s at → 0 < code
+  refuses : (f : Field) (fs : List Field) (code : ℕ) → fields_from (suc g) s at ≡ f ∷ fs → field_refusal d f ≡ code → code ≡ code_after s at → 0 < code
       → Refused
   refuses f fs code is r c z = (rw (is, ← c, ← r) (described_refused d f fs (omega arith)), omega arith)
 
   behind : Refused
-  unfolding fieldRefusal orderGood
+  unfolding field_refusal order_good
   behind = go (field_at s at) refl
     where
       go : (w : FieldRead) → w ≡ field_at s at → Refused
@@ -355,18 +355,18 @@ module _ (s : List ℕ) (at : ℕ) (h : at < length s) (d : Described) (k : know
           let v : List ℕ = part s (at + 3) size in
           let l : length v ≡ size = length_part s (at + 3) size (omega arith) in
           let on = fields_on g s at tag size next h (sym e) in
-          by-test (lengthGood tag size)
-          (λ b. refuses (field tag v) (fieldsFrom g s next) 43 on (rw (l, b, k))
+          by-test (length_good tag size)
+          (λ b. refuses (field tag v) (fields_from g s next) 43 on (rw (l, b, k))
           (after_order s at (Taken tag size next) e h tag size next refl true (sym b) refl) (omega arith))
-          (λ b. refuses (field tag v) (fieldsFrom g s next) 42 on (rw (l, b))
+          (λ b. refuses (field tag v) (fields_from g s next) 42 on (rw (l, b))
           (after_length s at (Taken tag size next) e h tag size next refl false (sym b) refl) (omega arith))
 
 clock_known : (s : List ℕ) (clock : ℕ) → known (clock_at s clock) ≡ not (eqb clock 0)
 unfolding clock_at
 clock_known s clock = by-test (eqb clock 0) (λ e. rw e) (λ e. rw e)
 
-hop_long : (k : ℕ) → lengthGood 2 k ≡ true → 14 ≤ k
-unfolding lengthGood
+hop_long : (k : ℕ) → length_good 2 k ≡ true → 14 ≤ k
+unfolding length_good
 hop_long k e = by-test (eqb k 14) (λ t. omega (arith, eqb-true k 14 t)) (λ t. omega (arith, eqb-true k 16 (rw t at e)))
 
 -- the switches with one more field
@@ -374,7 +374,7 @@ module _ (l : List Settings) (c : Option (List ℕ)) (tag : ℕ) (v : List ℕ) 
   abbrev after : List Settings
   after = (with_next (so_far l c) (field tag v)).switches
 
-  after_1 : eqb tag 1 ≡ true → after ≡ switchOf v ∷ l
+  after_1 : eqb tag 1 ≡ true → after ≡ switch_of v ∷ l
   unfolding with_next
   after_1 a = rw (a, after)
 
@@ -382,40 +382,40 @@ module _ (l : List Settings) (c : Option (List ℕ)) (tag : ℕ) (v : List ℕ) 
   abbrev more : ℕ
   more = if eqb tag 2 then 1 else 0
 
-  hops_with : (T : Settings) → length (withField T (field tag v)).hops ≤ length T.hops + more
-  unfolding withField
+  hops_with : (T : Settings) → length (with_field T (field tag v)).hops ≤ length T.hops + more
+  unfolding with_field
   hops_with T =
       by-test (eqb tag 2) (λ a. rw (a, length-append T.hops) (omega arith)) (λ a.
       by-test (eqb tag 3) (λ b. rw (a, b) (omega arith)) (λ b.
       by-test (eqb tag 6) (λ e. rw (a, b, e) (omega arith)) (λ e. rw (a, b, e) (omega arith))))
 
-  on_latest : (m : List Settings) → (length (onLatest (λ T. withField T (field tag v)) m) ≡ length m)
-      × (span_of (onLatest (λ T. withField T (field tag v)) m) ≤ span_of m + 2 * more)
-  on_latest [] = (refl, omega arith)
-  on_latest (T ∷ m) = (refl, omega (arith, span_more T m, span_more (withField T (field tag v)) m, hops_with T))
+  on_latest_lem : (m : List Settings) → (length (on_latest (λ T. with_field T (field tag v)) m) ≡ length m)
+      × (span_of (on_latest (λ T. with_field T (field tag v)) m) ≤ span_of m + 2 * more)
+  on_latest_lem [] = (refl, omega arith)
+  on_latest_lem (T ∷ m) = (refl, omega (arith, span_more T m, span_more (with_field T (field tag v)) m, hops_with T))
 
   after_other : eqb tag 1 ≡ false → (length after ≡ length l) × (span_of after ≤ span_of l + 2 * more)
   unfolding with_next
   after_other a =
       by-test (eqb tag 4) (λ b. rw (a, b, after) (refl, omega arith)) (λ b.
-      by-test (eqb tag 5) (λ e. rw (a, b, e, after) (refl, omega arith)) (λ e. rw (a, b, e, after) (on_latest l)))
+      by-test (eqb tag 5) (λ e. rw (a, b, e, after) (refl, omega arith)) (λ e. rw (a, b, e, after) (on_latest_lem l)))
 
   after_count : length after ≡ counted_by (length l) tag
   unfolding counted_by
   after_count = by-test (eqb tag 1) (λ a. rw (after_1 a, a) (omega arith)) (λ a. rw a (after_other a).0)
 
-  after_span : lengthGood tag (length v) ≡ true → 11 * span_of after ≤ 11 * span_of l + 4 * (3 + length v)
-  unfolding lengthGood
+  after_span : length_good tag (length v) ≡ true → 11 * span_of after ≤ 11 * span_of l + 4 * (3 + length v)
+  unfolding length_good
   after_span good =
       by-test (eqb tag 1)
-      (λ a. omega (arith, ap span_of (after_1 a), span_more (switchOf v) l, eqb-true (length v) 8 (rw a at good)))
+      (λ a. omega (arith, ap span_of (after_1 a), span_more (switch_of v) l, eqb-true (length v) 8 (rw a at good)))
       (λ a.
       by-test (eqb tag 2)
       (λ b. omega (arith, rw b at (after_other a).1, hop_long (length v) (rw (eqb-true tag 2 b) at good)))
       (λ b. omega (arith, rw b at (after_other a).1)))
 
-  after_few : roomGood (so_far l c) tag ≡ true → length l ≤ 16 → counted_by (length l) tag ≤ 16
-  unfolding counted_by roomGood
+  after_few : room_good (so_far l c) tag ≡ true → length l ≤ 16 → counted_by (length l) tag ≤ 16
+  unfolding counted_by room_good
   after_few r h = by-test (eqb tag 1) (λ a. rw a (omega (arith, ltb-true (length l) 16 (rw a at r)))) (λ a. rw a h)
 
 -- what is answered
@@ -428,7 +428,7 @@ module _ {s w starts : List ℕ} {r : Reading} where
 
   pub done_long : 32768 < length s → r ≡ refusing 40 → ReadDone s w starts r
   unfolding described
-  done_long h is = refused_done is (omega arith) (rw (lt-ltb fileMost (length s) h))
+  done_long h is = refused_done is (omega arith) (rw (lt-ltb file_most (length s) h))
 
 -- what the loop keeps
 pub record Holding (s w₀ starts₀ w starts : List ℕ) (n clock at : ℕ) : Type 0 where
@@ -444,7 +444,7 @@ pub record Holding (s w₀ starts₀ w starts : List ℕ) (n clock at : ℕ) : T
   pub span : 11 * span_of switches ≤ 4 * at
   pub fuel : ℕ
   pub enough : length s ≤ at + fuel
-  pub rest : describedFrom (so_far switches (clock_at s clock)) (fieldsFrom (suc fuel) s at) ≡ described s
+  pub rest : described_from (so_far switches (clock_at s clock)) (fields_from (suc fuel) s at) ≡ described s
 
 pub holding_begin : (s w starts : List ℕ) → length s ≤ 32768 → length starts ≡ 16 → words_for (length s) ≤ length w → Holding s w starts w starts 0 0 0
 unfolding described fields clock_at
@@ -462,7 +462,7 @@ holding_begin s w starts h l e =
       span = omega (arith, span_none);
       fuel = length s;
       enough = omega arith;
-      rest = rw (le-ltb fileMost (length s) h);
+      rest = rw (le-ltb file_most (length s) h);
     }
 
 module _ {s w₀ starts₀ w starts : List ℕ} {n clock at : ℕ} (h : Holding s w₀ starts₀ w starts n clock at) where
@@ -488,7 +488,7 @@ module _ {s w₀ starts₀ w starts : List ℕ} {n clock at : ℕ} (h : Holding 
 
     module _ (read : FieldRead) (q : read ≡ field_at s at) where
       pub done_cut : {r : Reading} → read ≡ Cut → r ≡ refusing 41 → ReadDone s w starts r
-      unfolding fieldRefusal
+      unfolding field_refusal
       done_cut e is =
           refused_done is (omega arith)
           (sym (described_refused d cut [] (omega arith)) ∙ (rw (fields_cut h.fuel s at more (sym q ∙ e)) at h.rest))
@@ -507,31 +507,31 @@ module _ {s w₀ starts₀ w starts : List ℕ} {n clock at : ℕ} (h : Holding 
         less : suc (h.fuel - 1) ≡ h.fuel
         less = omega (arith, its)
 
-        first_field : describedFrom d (field tag v ∷ fieldsFrom h.fuel s next) ≡ described s
+        first_field : described_from d (field tag v ∷ fields_from h.fuel s next) ≡ described s
         first_field =
             let its_size : next - (at + 3) ≡ size = omega (arith, its) in
             rw its_size (rw (fields_on h.fuel s at tag size next more (sym q ∙ t)) at h.rest)
 
-        code_is : code ≡ fieldRefusal d (field tag v)
+        code_is : code ≡ field_refusal d (field tag v)
         code_is = took.checked h.switches (clock_at s clock) h.stores h.count (clock_known s clock)
 
         pub done_refused : {r : Reading} → (code ≡ 0 → ⊥) → r ≡ refusing code → ReadDone s w' starts' r
         done_refused z is =
             refused_done is z
-            (rw code_is (sym (described_refused d (field tag v) (fieldsFrom h.fuel s next) (λ y. z (code_is ∙ y))) ∙ first_field))
+            (rw code_is (sym (described_refused d (field tag v) (fields_from h.fuel s next) (λ y. z (code_is ∙ y))) ∙ first_field))
 
         module _ (z : code ≡ 0) where
           passed : Passed d tag v
           passed = passes d tag v (sym code_is ∙ z)
 
-          with_next_lem : describedFrom (with_next d (field tag v)) (fieldsFrom h.fuel s next) ≡ described s
-          with_next_lem = sym (described_on d (field tag v) (fieldsFrom h.fuel s next) (sym code_is ∙ z)) ∙ first_field
+          with_next_lem : described_from (with_next d (field tag v)) (fields_from h.fuel s next) ≡ described s
+          with_next_lem = sym (described_on d (field tag v) (fields_from h.fuel s next) (sym code_is ∙ z)) ∙ first_field
 
           stored : Stores w' starts' (with_next d (field tag v)).switches
           stored = took.stored h.switches (clock_at s clock) h.stores h.count z
 
           next_is : (tag ≡ 5 → ⊥) → so_far (with_next d (field tag v)).switches (clock_at s (clocked_by clock tag at)) ≡ with_next d (field tag v)
-          unfolding with_next clocked_by clock_at lengthGood
+          unfolding with_next clocked_by clock_at length_good
           next_is five =
               by-test (eqb tag 1) (λ a. rw (eqb-true tag 1 a)) (λ a.
               by-test (eqb tag 4)
@@ -563,17 +563,17 @@ module _ {s w₀ starts₀ w starts : List ℕ} {n clock at : ℕ} (h : Holding 
           -- the entry field, and what stands behind it
           module _ (five : tag ≡ 5) where
             abbrev entered : Described
-            entered = record { switches = h.switches; clock = clock_at s clock; entry = switchNamed h.switches (be16 v 0); frame = drop 2 v }
+            entered = record { switches = h.switches; clock = clock_at s clock; entry = switch_named h.switches (be16 v 0); frame = drop 2 v }
 
             entered_is : with_next d (field tag v) ≡ entered
             unfolding with_next
             entered_is = rw five
 
-            entered_rest : describedFrom entered (fieldsFrom (suc (h.fuel - 1)) s next) ≡ described s
+            entered_rest : described_from entered (fields_from (suc (h.fuel - 1)) s next) ≡ described s
             entered_rest = rw (← entered_is, less) with_next_lem
 
             entered_known : known entered.entry ≡ true
-            unfolding entryKnown
+            unfolding entry_known
             entered_known = rw five at passed.is_known
 
             whole_value : length s ≤ next → entry_value s at ≡ v

@@ -12,10 +12,10 @@ use lib.Dec.{eqb}
 use lib.ListN.{length, get_or, take, drop, length-take, length-append}
 use Rattle.rules.specs as rules
 use rules.{Octets.octet, Octets.be16, Octets.put, Settings.Settings, Settings.Ways, Settings.ways_of}
-use rules.Link.{link, linkLength, linkEthertype, ethertypeTag, ethertypeTrill}
-use rules.{Header.hop_count, Header.readFrame, Handling.handling, Answer.Handled, Answer.given, Demand.replies_in}
-use rules.Campus.{hopReceived, egressReceived, kindOctet, entryOctets, Kind, State, Waiting, repliesMade, staying, Next, over, next, sentOn}
-use rules.Campus.{nextAfter, run_from, traceOctets}
+use rules.Link.{link, link_length, link_ethertype, ethertype_tag, ethertype_trill}
+use rules.{Header.hop_count, Header.read_frame, Handling.handling, Answer.Handled, Answer.given, Demand.replies_in}
+use rules.Campus.{hop_received, egress_received, kind_octet, entry_octets, Kind, State, Waiting, replies_made, staying, Next, over, next, sent_on}
+use rules.Campus.{next_after, run_from, trace_octets}
 use rules.declared.{Header.Header, FrameRead.FrameRead}
 use rules.declared.FrameRead.TheVariants.{Trill, Unreadable}
 use Rattle.rules.proofs as ruleLaws
@@ -41,59 +41,59 @@ use specs.Queue.{replies_by, Free, Queue, Holds, Onwards, onward_by, OnwardReady
 use Rattle.campus.proofs.{StoresLaws.lent, StoresLaws.name_here, QueueLaws.copied_begins}
 
 -- a tag at the end of the link header
-module _ (f : List ℕ) (high a : ℕ) (is_high : high ≡ octet f 12) (is_a : a ≡ ethertypeTag / 256 % 256) where
-  pub untagged_high : (high ≡ a → ⊥) → 14 ≡ linkLength f
+module _ (f : List ℕ) (high a : ℕ) (is_high : high ≡ octet f 12) (is_a : a ≡ ethertype_tag / 256 % 256) where
+  pub untagged_high : (high ≡ a → ⊥) → 14 ≡ link_length f
   untagged_high h = length-plain f (be16 f 12) refl (λ e. h (omega arith))
 
-  module _ (low b : ℕ) (is_low : low ≡ octet f 13) (is_b : b ≡ ethertypeTag % 256) where
-    pub untagged_low : (low ≡ b → ⊥) → 14 ≡ linkLength f
+  module _ (low b : ℕ) (is_low : low ≡ octet f 13) (is_b : b ≡ ethertype_tag % 256) where
+    pub untagged_low : (low ≡ b → ⊥) → 14 ≡ link_length f
     untagged_low h = length-plain f (be16 f 12) refl (λ e. h (omega arith))
 
-    pub tagged : high ≡ a → low ≡ b → 18 ≡ linkLength f
+    pub tagged : high ≡ a → low ≡ b → 18 ≡ link_length f
     tagged e g = length-tagged f (be16 f 12) refl (omega arith)
 
 pub ruleset link_length_laws = (rules, untagged_high, untagged_low, tagged)
 
 -- hop count and egress of a frame, by what it is read as
-module _ (f : List ℕ) (read : FrameRead) (is : read ≡ readFrame f) where
+module _ (f : List ℕ) (read : FrameRead) (is : read ≡ read_frame f) where
   pub received_none : {number : ℕ} → read ≡ Unreadable number → record { hop = 0; egress = 0 } ≡ received_of f
-  unfolding received_of hopReceived egressReceived
-  received_none e = rw (received_of, hopReceived, egressReceived, ← is, e)
+  unfolding received_of hop_received egress_received
+  received_none e = rw (received_of, hop_received, egress_received, ← is, e)
 
   pub received_trill : {h : Header} {low hop : ℕ} → read ≡ Trill h → low ≡ h.word % 256 → hop ≡ hop_count (low % 256)
       → record { hop = hop; egress = h.egress } ≡ received_of f
-  unfolding received_of hopReceived egressReceived
+  unfolding received_of hop_received egress_received
   received_trill {h} {hop = hop} e l n =
       let its : hop ≡ hop_count h.word = omega arith in
-      rw (its, received_of, hopReceived, egressReceived, ← is, e)
+      rw (its, received_of, hop_received, egress_received, ← is, e)
 
 pub ruleset in_any_laws = (rules, received_none, received_trill)
 
 -- and where it stands in a frame that is readable
 module _ {f : List ℕ} (r : Readable f) where
-  pub readable_long : linkLength f + 6 ≤ length f
+  pub readable_long : link_length f + 6 ≤ length f
   readable_long =
       let i = frame-read f r.header r.is in
       omega arith
 
-  header_is : readFrame f
-      ≡ Trill (record { place = linkLength f; word = be16 f (linkLength f); egress = be16 f (linkLength f + 2); ingress = be16 f (linkLength f + 4) })
+  header_is : read_frame f
+      ≡ Trill (record { place = link_length f; word = be16 f (link_length f); egress = be16 f (link_length f + 2); ingress = be16 f (link_length f + 4) })
   header_is =
       let i = frame-read f r.header r.is in
-      let n = linkLength f in
+      let n = link_length f in
       let long : 14 ≤ length f = omega arith in
       let whole : n ≤ length f = omega arith in
-      by-test (eqb (linkEthertype f) ethertypeTrill)
+      by-test (eqb (link_ethertype f) ethertype_trill)
       (λ t.
-      let there = read-trill f n refl long whole (linkEthertype f) (eqb-true _ _ t) refl (be16 f n) (be16 f (n + 2)) (be16 f (n + 4)) in
+      let there = read-trill f n refl long whole (link_ethertype f) (eqb-true _ _ t) refl (be16 f n) (be16 f (n + 2)) (be16 f (n + 4)) in
       sym (there readable_long refl refl refl))
-      (λ t. cc (read-other f n refl long whole (linkEthertype f) refl (eqb-false _ _ t), r.is))
+      (λ t. cc (read-other f n refl long whole (link_ethertype f) refl (eqb-false _ _ t), r.is))
 
-  pub in_header : {at hop egress : ℕ} → at ≡ linkLength f → hop ≡ hop_count (get_or f (at + 1) 0 % 256) → egress ≡ be16 f (at + 2)
+  pub in_header : {at hop egress : ℕ} → at ≡ link_length f → hop ≡ hop_count (get_or f (at + 1) 0 % 256) → egress ≡ be16 f (at + 2)
       → record { hop = hop; egress = egress } ≡ received_of f
   unfolding received_of
   in_header {hop = hop} is h e =
-      let its_hop : hop ≡ hopReceived f = omega (arith, hop_read f _ header_is, rw is at h) in
+      let its_hop : hop ≡ hop_received f = omega (arith, hop_read f _ header_is, rw is at h) in
       rw (its_hop, rw is at e, egress_read f _ header_is)
 
 pub ruleset in_header_laws = (rules, in_header)
@@ -101,7 +101,7 @@ pub ruleset in_header_laws = (rules, in_header)
 -- by the answer
 pub is_readable : {f : List ℕ} {number : ℕ} → AnsweredBy f number → 12 ≤ number → Readable f
 is_readable {f} given h =
-    elim (readFrame f) as (λ x. readFrame f ≡ x → Readable f) [
+    elim (read_frame f) as (λ x. read_frame f ≡ x → Readable f) [
       | Trill g ↦ λ e. record { header = g; is = e }
       | Unreadable m ↦ λ e. absurd (omega (arith, given.unread m e, (unread-number f m e).1))
     ] refl
@@ -111,7 +111,7 @@ pub ruleset received_laws = (rules, is_readable)
 -- an entry's eight octets, written where there is room for them
 pub entry_put : {trace' : List ℕ} (trace : List ℕ) (at nickname : ℕ) (replied : Bool) (number : ℕ) (f : List ℕ) {a b kind : ℕ} {h : HopEgress} {x y end : ℕ}
     → Wrote (fitting trace at (a ∷ b ∷ kind ∷ number ∷ h.hop ∷ 0 ∷ x ∷ y ∷ [])) at end trace trace' → h ≡ received_of f → a ≡ nickname / 256 % 256
-    → b ≡ nickname % 256 → kind ≡ kindOctet (kind_by replied) → x ≡ h.egress / 256 % 256 → y ≡ h.egress % 256 → at + 8 ≤ length trace
+    → b ≡ nickname % 256 → kind ≡ kind_octet (kind_by replied) → x ≡ h.egress / 256 % 256 → y ≡ h.egress % 256 → at + 8 ≤ length trace
     → trace' ≡ put trace at (entry_by nickname (kind_by replied) number f)
 unfolding received_of
 entry_put trace at nickname replied number f w r ea eb ek ex ey room =
@@ -172,7 +172,7 @@ module _ {w starts clock : List ℕ} {at : At} {trace : List ℕ} {k : ℕ} (rea
   pub step_done : {trace' : List ℕ}
       → trace' ≡ put trace (k * 8) (entry_by (settings_at w starts at.switch).nickname (kind_by at.replied) a.number frame)
       → Stepped k (state_at w starts clock at cur k) out out' beside beside' trace trace' a
-  unfolding entryOctets
+  unfolding entry_octets
   step_done e =
       let named : T.nickname < 65536 = rw (← nickname_is ready.sound) (nickname_small ready.sound) in
       rw (← is)
@@ -187,17 +187,17 @@ module _ {w starts clock : List ℕ} {at : At} {trace : List ℕ} {k : ℕ} (rea
 
 pub ruleset step_laws = (rules, step_number, step_answers, step_done)
 
-pub trace_none : traceOctets [] ≡ []
-unfolding traceOctets
+pub trace_none : trace_octets [] ≡ []
+unfolding trace_octets
 trace_none = refl
 
-trace_snoc : (l : List State) (s : State) → traceOctets (l ++ (s ∷ [])) ≡ traceOctets l ++ entryOctets s
-unfolding traceOctets
-trace_snoc [] s = append-nil (entryOctets s)
+trace_snoc : (l : List State) (s : State) → trace_octets (l ++ (s ∷ [])) ≡ trace_octets l ++ entry_octets s
+unfolding trace_octets
+trace_snoc [] s = append-nil (entry_octets s)
 trace_snoc (x ∷ l) s = rw (trace_snoc l s, append_assoc)
 
-entry_length : (s : State) → length (entryOctets s) ≡ 8
-unfolding entryOctets
+entry_length : (s : State) → length (entry_octets s) ≡ 8
+unfolding entry_octets
 entry_length s = refl
 
 no_more : (l : List State) → length l ≡ 0 → l ≡ []
@@ -210,13 +210,13 @@ replies_join (s ∷ a) b = omega (arith, replies-on s (a ++ b), replies-on s a, 
 
 -- what was made and what is next, by the answer's numbers and by both buffers
 module _ {h : Handled} {a : Answer} {out out' beside beside' : List ℕ} (b : Both h a out out' beside beside') where
-  replies_are : replies_by a out' beside' ≡ repliesMade h
-  unfolding replies_by repliesMade
+  replies_are : replies_by a out' beside' ≡ replies_made h
+  unfolding replies_by replies_made
   replies_are = rw (b.answer, b.after, b.after_beside, take_put out h.octets, take_put beside h.beside)
 
   next_is : (switches : List Settings) (kind : Kind) (q : List Waiting)
-      → onward_by switches kind a out' (q ++ staying switches (repliesMade h)) ≡ nextAfter switches kind q h
-  unfolding onward_by nextAfter sentOn
+      → onward_by switches kind a out' (q ++ staying switches (replies_made h)) ≡ next_after switches kind q h
+  unfolding onward_by next_after sent_on
   next_is switches kind q = rw (b.answer, b.after, take_put out h.octets)
 
 -- one handling, and what is next
@@ -254,7 +254,7 @@ pub record RunSoFar (w starts : List ℕ) (n first : ℕ) (clock frame waiting�
   pub nickname : ℕ
   pub queue : List Waiting
   pub long : length done ≡ k
-  pub is : trace ≡ put trace₀ 0 (traceOctets done)
+  pub is : trace ≡ put trace₀ 0 (trace_octets done)
   pub remains : done ++ run_from (4097 - k) (suc k) (switches_in w starts n) clock nickname (kind_by at.replied) (take at.size cur) queue
       ≡ run_of w starts n first clock frame
   pub holds : Holds w starts n waiting cur at nickname (kind_by at.replied) (take at.size cur) queue
@@ -315,7 +315,7 @@ module _ {w starts : List ℕ} {n first : ℕ} {clock frame waiting₀ trace₀ 
   module _ (more : k < 4096) where
     -- the handling, and all after it
     later : List State
-    later = rest switches clock (4096 - k) (suc k) (nextAfter switches kind l.queue h)
+    later = rest switches clock (4096 - k) (suc k) (next_after switches kind l.queue h)
 
     rest_is : l.done ++ (state ∷ later) ≡ whole
     unfolding later
@@ -331,34 +331,34 @@ module _ {w starts : List ℕ} {n first : ℕ} {clock frame waiting₀ trace₀ 
     turn_ready =
         let replies = sym (replies_join l.done (state ∷ later)) ∙ ap replies_in rest_is in
         let queue : Queue w starts n waiting at.head at.tail = record { queue = l.queue; held = l.holds.held } in
-        let free : 0 < length (repliesMade h) → Free waiting at.tail = omega (arith, replies-on state later) in
+        let free : 0 < length (replies_made h) → Free waiting at.tail = omega (arith, replies-on state later) in
         let entry_room : k * 8 + 8 ≤ length trace = omega (arith, enough) in
         search
 
     module _ {waiting' trace' cur' : List ℕ} {r : Onward} (did : Turned w starts n clock at cur cur' waiting waiting' trace trace' k r) where
-      entered : trace' ≡ put trace₀ 0 (traceOctets (l.done ++ (state ∷ [])))
+      entered : trace' ≡ put trace₀ 0 (trace_octets (l.done ++ (state ∷ [])))
       entered =
           let long = length-trace l.done in
           did.traced
           ∙ rw (l.is, trace_snoc)
-          (put-put trace₀ 0 (traceOctets l.done) (k * 8) (entryOctets state) (omega arith))
+          (put-put trace₀ 0 (trace_octets l.done) (k * 8) (entry_octets state) (omega arith))
 
       pub trace_same : length trace' ≡ length trace₀
       trace_same =
           rw did.traced
-          (length-put trace (k * 8) (entryOctets state) (omega (arith, entry_length state, enough)) ∙ l.same)
+          (length-put trace (k * 8) (entry_octets state) (omega (arith, entry_length state, enough)) ∙ l.same)
 
       one_more : length (l.done ++ (state ∷ [])) ≡ k + 1
       one_more = rw length-append (omega arith)
 
-      turned : Onwards w starts n waiting' cur' did.tail r (nextAfter switches kind l.queue h)
+      turned : Onwards w starts n waiting' cur' did.tail r (next_after switches kind l.queue h)
       turned = did.leads l.queue l.holds.held
 
       pub run_ends : r ≡ Ends → Ran whole trace₀ trace' (k + 1)
       unfolding later rest
       run_ends e =
-          let last : nextAfter switches kind l.queue h ≡ over =
-          elim (nextAfter switches kind l.queue h) as (λ x. Onwards w starts n waiting' cur' did.tail Ends x → x ≡ over) [
+          let last : next_after switches kind l.queue h ≡ over =
+          elim (next_after switches kind l.queue h) as (λ x. Onwards w starts n waiting' cur' did.tail Ends x → x ≡ over) [
             | over ↦ λ o. refl
             | next n' kind' g q' ↦ λ o. absurd o
           ] (rw e at turned) in
@@ -366,9 +366,9 @@ module _ {w starts : List ℕ} {n first : ℕ} {clock frame waiting₀ trace₀ 
 
       pub run_goes_on : {at' : At} → r ≡ To at' → RunSoFar w starts n first clock frame waiting₀ trace₀ waiting' trace' cur' at' (k + 1)
       unfolding later rest
-      run_goes_on {at'} e = go (nextAfter switches kind l.queue h) refl (rw e at turned)
+      run_goes_on {at'} e = go (next_after switches kind l.queue h) refl (rw e at turned)
         where
-          go : (x : Next) → nextAfter switches kind l.queue h ≡ x → Onwards w starts n waiting' cur' did.tail (To at') x
+          go : (x : Next) → next_after switches kind l.queue h ≡ x → Onwards w starts n waiting' cur' did.tail (To at') x
               → RunSoFar w starts n first clock frame waiting₀ trace₀ waiting' trace' cur' at' (k + 1)
           go over z o = absurd o
           go (next n' kind' g q') z o =

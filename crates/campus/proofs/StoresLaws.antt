@@ -13,8 +13,8 @@ use borrow.Rule.Slice.PartMut.{put_mid, post_of}
 use lib.ListN.{length, get_or, take, drop, length-drop, drop_of_length-le, set, length-append, get_or-append}
 use lib.Seq.{take_all, get_or-drop, get_or-set_same, get_or-set_other, get_or-take, drop_at, length-take-le}
 use lib.Dec.{eqb, ltb}
-use Rattle.rules.specs.{Campus.someEdition2, Campus.switchNamed, Campus.known, Fields.field, Fields.lengthGood}
-use Rattle.rules.specs.Settings.{Settings, Ways, switchOf, withField, opens, switchGood, nicknameValid, macGood, next_hop, ways_of}
+use Rattle.rules.specs.{Campus.some_edition2, Campus.switch_named, Campus.known, Fields.field, Fields.length_good}
+use Rattle.rules.specs.Settings.{Settings, Ways, switch_of, with_field, opens, switch_good, nickname_valid, mac_good, next_hop, ways_of}
 use Rattle.rules.proofs.{TestLaws.by-test, TestLaws.and-true, AlikeLaws.Both}
 use Rattle.stores.specs.Extend.{Opens, Extends, with_switch, extending, extended}
 use Rattle.stores.specs.Store.{unless_withdrawn, Stands}
@@ -61,24 +61,24 @@ pub ruleset find_laws = (rules, seek_end, seek_here, seek_on, seek_within)
 -- looking for a switch of edition 2, from the latest back
 pub record Editions (w starts : List ℕ) (n i : ℕ) : Type 0 where
   pub within : i ≤ n
-  pub same : someEdition2 (switches_in w starts i) ≡ someEdition2 (switches_in w starts n)
+  pub same : some_edition2 (switches_in w starts i) ≡ some_edition2 (switches_in w starts n)
 
 module _ {w starts : List ℕ} {n i : ℕ} (k : Editions w starts n i) where
-  pub edition_end : i ≤ 0 → false ≡ someEdition2 (switches_in w starts n)
-  unfolding someEdition2 switches_in
+  pub edition_end : i ≤ 0 → false ≡ some_edition2 (switches_in w starts n)
+  unfolding some_edition2 switches_in
   edition_end z =
       let none : i ≡ 0 = omega arith in
       rw none at k.same
 
   module _ (more : 0 < i) where
-    last_edition : (eqb (get_or w (get_or starts (i - 1) 0 + 2) 0 / 2 % 2) 1 || someEdition2 (switches_in w starts (i - 1)))
-        ≡ someEdition2 (switches_in w starts n)
-    unfolding someEdition2 switches_in
+    last_edition : (eqb (get_or w (get_or starts (i - 1) 0 + 2) 0 / 2 % 2) 1 || some_edition2 (switches_in w starts (i - 1)))
+        ≡ some_edition2 (switches_in w starts n)
+    unfolding some_edition2 switches_in
     last_edition =
         let last : i ≡ suc (i - 1) = omega arith in
         rw get_or-drop at (rw last at k.same)
 
-    pub edition_here : get_or w (get_or starts (i - 1) 0 + 2) 0 / 2 % 2 ≡ 1 → true ≡ someEdition2 (switches_in w starts n)
+    pub edition_here : get_or w (get_or starts (i - 1) 0 + 2) 0 / 2 % 2 ≡ 1 → true ≡ some_edition2 (switches_in w starts n)
     edition_here e = rw (eq-eqb _ _ e) at last_edition
 
     pub edition_on : (get_or w (get_or starts (i - 1) 0 + 2) 0 / 2 % 2 ≡ 1 → ⊥) → Editions w starts n (i - 1)
@@ -188,8 +188,8 @@ module _ (w : List ℕ) (a : ℕ) (x : List ℕ) (h : a ≤ length w) where
 -- one more switch
 pub stores_opened : (w starts v : List ℕ) (l : List Settings) → Stores w starts l → span_of l + 4 ≤ length w → length l < length starts
     → opens (field 1 v) ≡ true
-    → Stores (take (span_of l) w ++ with_switch (drop (span_of l) w) v) (set starts (length l) (span_of l)) (switchOf v ∷ l)
-unfolding opens switchGood
+    → Stores (take (span_of l) w ++ with_switch (drop (span_of l) w) v) (set starts (length l) (span_of l)) (switch_of v ∷ l)
+unfolding opens switch_good
 stores_opened w starts v l s room few o =
     let h : span_of l ≤ length w = omega arith in
     let x = with_switch (drop (span_of l) w) v in (
@@ -197,15 +197,15 @@ stores_opened w starts v l s room few o =
         start = get_or-set_same starts (length l) (span_of l) 0 few;
         stands = rw (back_is w (span_of l) x h) (switch_stands (drop (span_of l) w) v (rw length-drop (omega arith)));
         valid =
-            (and-true (nicknameValid (switchOf v).nickname) (macGood (switchOf v).mac) (and-true (lengthGood 1 (length v)) (switchGood (switchOf v)) o).1).0;
+            (and-true (nickname_valid (switch_of v).nickname) (mac_good (switch_of v).mac) (and-true (length_good 1 (length v)) (switch_good (switch_of v)) o).1).0;
       },
       stores_front w (span_of l) x h starts (set starts (length l) (span_of l)) l (omega arith)
           (λ i b. get_or-set_other starts (length l) i (span_of l) 0 (omega arith)) s,
     )
 
 -- one more field of the latest
-name_with : (T : Settings) (tag : ℕ) (v : List ℕ) → (withField T (field tag v)).nickname ≡ T.nickname
-unfolding withField
+name_with : (T : Settings) (tag : ℕ) (v : List ℕ) → (with_field T (field tag v)).nickname ≡ T.nickname
+unfolding with_field
 name_with T tag v =
     by-test (eqb tag 2) (λ e. rw e) (λ e.
     by-test (eqb tag 3) (λ f. rw (e, f)) (λ f.
@@ -216,7 +216,7 @@ module _ (w starts : List ℕ) (T : Settings) (l : List Settings) (s : Stores w 
   latest_ample = omega (arith, length-drop (span_of l) w, span_more T l)
 
   pub stores_extended : (tag : ℕ) (v : List ℕ) → extending (drop (span_of l) w) tag v ≡ 0
-      → Stores (take (span_of l) w ++ extended (drop (span_of l) w) tag v) starts (withField T (field tag v) ∷ l)
+      → Stores (take (span_of l) w ++ extended (drop (span_of l) w) tag v) starts (with_field T (field tag v) ∷ l)
   stores_extended tag v z =
       let h : span_of l ≤ length w = omega (arith, span_more T l) in
       let x = extended (drop (span_of l) w) tag v in (
@@ -256,16 +256,16 @@ module _ (w starts : List ℕ) where
         says = rw s.0.start (says words T x ∙ stands_ways words T x);
       }))
 
-  named_alike : (x : ℕ) (l : List Settings) → Stores w starts l → Both (switchNamed l x) (switchNamed (switches_in w starts (length l)) x)
-  unfolding switchNamed switches_in
+  named_alike : (x : ℕ) (l : List Settings) → Stores w starts l → Both (switch_named l x) (switch_named (switches_in w starts (length l)) x)
+  unfolding switch_named switches_in
   named_alike x [] s = tt
   named_alike x (T ∷ l) s =
       let same = ways_at l T s.0 in
       let name : T.nickname ≡ (settings_at w starts (length l)).nickname = ap (λ (y : Ways). y.nickname) same in
       by-test (eqb T.nickname x) (λ t. rw (t, (rw name at t)) same) (λ f. rw (f, (rw name at f)) (named_alike x l s.1))
 
-  edition_alike : (l : List Settings) → Stores w starts l → someEdition2 l ≡ someEdition2 (switches_in w starts (length l))
-  unfolding someEdition2 switches_in
+  edition_alike : (l : List Settings) → Stores w starts l → some_edition2 l ≡ some_edition2 (switches_in w starts (length l))
+  unfolding some_edition2 switches_in
   edition_alike [] s = refl
   edition_alike (T ∷ l) s = rw (ap (λ (y : Ways). y.rfc7179) (ways_at l T s.0), edition_alike l s.1)
 
@@ -278,14 +278,14 @@ module _ (w starts : List ℕ) (n x : ℕ) where
   Lookup Unknown o = o ≡ none
   Lookup (At i) o = (i < n) × (o ≡ some (settings_at w starts i))
 
-  lookup_first : (m : ℕ) → m ≤ n → Lookup (number_in w starts m x) (switchNamed (switches_in w starts m) x)
-  unfolding number_in switchNamed switches_in
+  lookup_first : (m : ℕ) → m ≤ n → Lookup (number_in w starts m x) (switch_named (switches_in w starts m) x)
+  unfolding number_in switch_named switches_in
   lookup_first zero h = refl
   lookup_first (suc m) h =
       let name = name_here w starts m in
       by-test (eqb (settings_at w starts m).nickname x) (λ t. rw (t, (rw name at t)) (h, refl)) (λ f. rw (f, (rw name at f)) (lookup_first m (omega arith)))
 
-  lookup : Lookup (number_in w starts n x) (switchNamed (switches_in w starts n) x)
+  lookup : Lookup (number_in w starts n x) (switch_named (switches_in w starts n) x)
   lookup = lookup_first n (omega arith)
 
   lookup_known : (r : Named) (o : Option Settings) → Lookup r o → found_by r ≡ known o
@@ -293,10 +293,10 @@ module _ (w starts : List ℕ) (n x : ℕ) where
   lookup_known (At i) o t = rw t.1
 
   module _ (found : Named) (is : found ≡ number_in w starts n x) where
-    pub named_none : found ≡ Unknown → switchNamed (switches_in w starts n) x ≡ none
+    pub named_none : found ≡ Unknown → switch_named (switches_in w starts n) x ≡ none
     named_none e = rw (← is, e) at lookup
 
-    pub named_some : (i : ℕ) → found ≡ At i → (i < n) × (switchNamed (switches_in w starts n) x ≡ some (settings_at w starts i))
+    pub named_some : (i : ℕ) → found ≡ At i → (i < n) × (switch_named (switches_in w starts n) x ≡ some (settings_at w starts i))
     named_some i e = rw (← is, e) at lookup
 
 both_known : (o p : Option Settings) → Both o p → known o ≡ known p
@@ -307,16 +307,16 @@ both_known (some S) (some T) b = refl
 
 -- the first n
 module _ (w starts : List ℕ) (l : List Settings) (s : Stores w starts l) (n : ℕ) (count : length l ≡ n) where
-  pub named_same : (x : ℕ) → Both (switchNamed l x) (switchNamed (switches_in w starts n) x)
+  pub named_same : (x : ℕ) → Both (switch_named l x) (switch_named (switches_in w starts n) x)
   named_same x = rw (← count) (named_alike w starts x l s)
 
-  pub edition_same : someEdition2 l ≡ someEdition2 (switches_in w starts n)
+  pub edition_same : some_edition2 l ≡ some_edition2 (switches_in w starts n)
   edition_same = rw (← count) (edition_alike w starts l s)
 
-  pub known_is : (x : ℕ) → found_by (number_in w starts n x) ≡ known (switchNamed l x)
+  pub known_is : (x : ℕ) → found_by (number_in w starts n x) ≡ known (switch_named l x)
   known_is x =
-      let named = switchNamed (switches_in w starts n) x in
-      lookup_known w starts n x (number_in w starts n x) named (lookup w starts n x) ∙ sym (both_known (switchNamed l x) named (named_same x))
+      let named = switch_named (switches_in w starts n) x in
+      lookup_known w starts n x (number_in w starts n x) named (lookup w starts n x) ∙ sym (both_known (switch_named l x) named (named_same x))
 
   pub stores_sound : span_of l ≤ length w → n ≤ length starts → Sound w starts n
   stores_sound room listed =

@@ -2,9 +2,9 @@
 use Rattle.std.specs.Prelude.{ℕ, ◌+◌, ◌-◌, List, [], ◌∷◌, Bool, true, not, ◌&&◌, ◌||◌, length, drop, leb, eqb}
 use Rattle.std.proofs.Math.Option.{Option, none, some}
 use Rattle.rules.specs.Octets.{if◌then◌else◌, be16, part}
-use Rattle.rules.specs.Fields.{field_at, lengthGood}
+use Rattle.rules.specs.Fields.{field_at, length_good}
 use Rattle.rules.specs.Settings.{Settings}
-use Rattle.rules.specs.Campus.{Described, switchNamed}
+use Rattle.rules.specs.Campus.{Described, switch_named}
 use Rattle.rules.specs.declared.FieldRead.TheVariants.{Taken, Cut}
 
 -- the octets from place to place, or none where these are out of order or past the end
@@ -27,7 +27,7 @@ described_by s switches clock place =
     record {
       switches = switches;
       clock = clock_at s clock;
-      entry = switchNamed switches (be16 (entry_value s place) 0);
+      entry = switch_named switches (be16 (entry_value s place) 0);
       frame = drop 2 (entry_value s place);
     }
 
@@ -41,7 +41,7 @@ code_after s at =
     if leb (length s) at then 0 else
     elim (field_at s at) [
       | Cut ↦ 41
-      | Taken tag size next ↦ if not (lengthGood tag size) then 42 else 43
+      | Taken tag size next ↦ if not (length_good tag size) then 42 else 43
     ]
 
 -- the clock and the number of switches once the field at a place is read

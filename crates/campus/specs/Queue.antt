@@ -3,7 +3,7 @@ use Rattle.std.specs.Prelude.{ℕ, suc, ◌+◌, ◌*◌, ◌/◌, ◌%◌, ◌�
 use Rattle.std.proofs.Math.Option.{some}
 use Rattle.rules.specs.Octets.{if◌then◌else◌, put}
 use Rattle.rules.specs.Settings.{Settings}
-use Rattle.rules.specs.Campus.{switchNamed, Kind, Waiting, writes_reply, repliesMade, in_campus, staying, Next, over, next, first_waiting, nextAfter, entryOctets}
+use Rattle.rules.specs.Campus.{switch_named, Kind, Waiting, writes_reply, replies_made, in_campus, staying, Next, over, next, first_waiting, next_after, entry_octets}
 use Rattle.rules.specs.Demand.{replies_in}
 use Rattle.handler.specs.declared.answers.Answer.{Answer}
 use Rattle.campus.specs.Stores.{settings_at, switches_in, number_in, Sound}
@@ -31,7 +31,7 @@ pub record Slot (w starts : List ℕ) (n : ℕ) (waiting : List ℕ) (x : Waitin
   pub short : length x.frame ≤ 576
   pub place : ℕ
   pub within : place < n
-  pub named : switchNamed (switches_in w starts n) x.towards ≡ some (settings_at w starts place)
+  pub named : switch_named (switches_in w starts n) x.towards ≡ some (settings_at w starts place)
   pub holds : take (length (slot_octets place x.frame)) (drop (h * 579) waiting) ≡ slot_octets place x.frame
 
 abbrev pub Held : List ℕ → List ℕ → ℕ → List ℕ → List Waiting → ℕ → ℕ → Type 0
@@ -82,7 +82,7 @@ pub record NextReady (w starts : List ℕ) (n : ℕ) (a : Answer) (waiting : Lis
 -- a place of the run, as the code holds it, is the switch, the kind, the frame and the replies that wait
 pub record Holds (w starts : List ℕ) (n : ℕ) (waiting cur : List ℕ) (at : At) (nickname : ℕ) (kind : Kind) (f : List ℕ)
     (q : List Waiting) : Type 0 where
-  pub named : switchNamed (switches_in w starts n) nickname ≡ some (settings_at w starts at.switch)
+  pub named : switch_named (switches_in w starts n) nickname ≡ some (settings_at w starts at.switch)
   pub within : at.switch < n
   pub is_kind : kind_by at.replied ≡ kind
   pub small : at.size ≤ 2048
@@ -124,22 +124,22 @@ pub record TurnReady (w starts : List ℕ) (n : ℕ) (clock : List ℕ) (at : At
   pub entry_room : k * 8 + 8 ≤ length trace
   pub few : k < 4096
   pub queue : Queue w starts n waiting at.head at.tail
-  pub free : 0 < length (repliesMade (state_at w starts clock at cur k).answer) → Free waiting at.tail
+  pub free : 0 < length (replies_made (state_at w starts clock at cur k).answer) → Free waiting at.tail
 
 pub record Turned (w starts : List ℕ) (n : ℕ) (clock : List ℕ) (at : At) (cur cur' waiting waiting' trace trace' : List ℕ) (k : ℕ)
     (r : Onward) : Type 0 where
-  pub traced : trace' ≡ put trace (k * 8) (entryOctets (state_at w starts clock at cur k))
+  pub traced : trace' ≡ put trace (k * 8) (entry_octets (state_at w starts clock at cur k))
   pub tail : ℕ
-  pub more : tail ≤ at.tail + length (repliesMade (state_at w starts clock at cur k).answer)
+  pub more : tail ≤ at.tail + length (replies_made (state_at w starts clock at cur k).answer)
   pub leads : (q : List Waiting) → Held w starts n waiting q at.head at.tail
-      → Onwards w starts n waiting' cur' tail r (nextAfter (switches_in w starts n) (kind_by at.replied) q (state_at w starts clock at cur k).answer)
+      → Onwards w starts n waiting' cur' tail r (next_after (switches_in w starts n) (kind_by at.replied) q (state_at w starts clock at cur k).answer)
   pub same : length waiting' ≡ length waiting
 
 -- what the loop needs: a frame that fits, room for the entries, and a slot for every reply that arises
 pub record LoopReady (w starts : List ℕ) (n first : ℕ) (clock frame waiting trace : List ℕ) : Type 0 where
   pub sound : Sound w starts n
   pub within : first < n
-  pub named : switchNamed (switches_in w starts n) (settings_at w starts first).nickname ≡ some (settings_at w starts first)
+  pub named : switch_named (switches_in w starts n) (settings_at w starts first).nickname ≡ some (settings_at w starts first)
   pub six : length clock ≡ 6
   pub short : length frame ≤ 2048
   pub most : length (run_of w starts n first clock frame) ≤ 4096

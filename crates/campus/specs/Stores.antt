@@ -2,9 +2,9 @@
 use Rattle.std.specs.Prelude.{ℕ, zero, suc, ◌+◌, ◌*◌, ◌/◌, ◌%◌, ◌≤◌, ◌<◌, ◌≡◌, List, [], ◌∷◌, ◌++◌, Bool, true, false, not, length, get_or, take, drop, leb, eqb}
 use Rattle.std.proofs.Math.Option.{Option, none}
 use Rattle.rules.specs.Octets.{if◌then◌else◌}
-use Rattle.rules.specs.Fields.{field, lengthGood}
-use Rattle.rules.specs.Settings.{Settings, nicknameValid, ways_of}
-use Rattle.rules.specs.Campus.{Described, known, fieldRefusal, with_next, refused, accepted, described}
+use Rattle.rules.specs.Fields.{field, length_good}
+use Rattle.rules.specs.Settings.{Settings, nickname_valid, ways_of}
+use Rattle.rules.specs.Campus.{Described, known, field_refusal, with_next, refused, accepted, described}
 use Rattle.stores.specs.Store.{nickname_in, count_in, hops_from, ways_in, store_good, Stands}
 use Rattle.stores.specs.Extend.{opens_in, with_switch, extending, extended}
 use Rattle.campus.specs.Places.{described_by}
@@ -81,7 +81,7 @@ span_of (S ∷ switches) = span_of switches + (4 + 2 * length S.hops)
 pub record Store (w starts : List ℕ) (before : List Settings) (S : Settings) : Type 0 where
   pub start : get_or starts (length before) 0 ≡ span_of before
   pub stands : Stands (drop (span_of before) w) S
-  pub valid : nicknameValid S.nickname ≡ true
+  pub valid : nickname_valid S.nickname ≡ true
 
 abbrev pub Stores : List ℕ → List ℕ → List Settings → Type 0
 Stores w starts [] = Unit {0}
@@ -93,7 +93,7 @@ so_far switches clock = record { switches = switches; clock = clock; entry = non
 
 -- the tag of a record, a strip flag or an edition, with a good length
 pub record OfSettings (tag size : ℕ) : Type 0 where
-  pub good : lengthGood tag size ≡ true
+  pub good : length_good tag size ≡ true
   pub no_switch : tag ≡ 1 → ⊥
   pub no_clock : tag ≡ 4 → ⊥
   pub no_entry : tag ≡ 5 → ⊥
@@ -103,7 +103,7 @@ pub record Took (w starts : List ℕ) (n clock tag : ℕ) (v : List ℕ) (code :
   pub size : length w' ≡ length w
   pub starts_size : length starts' ≡ length starts
   pub checked : (switches : List Settings) (c : Option (List ℕ)) → Stores w starts switches → length switches ≡ n → known c ≡ not (eqb clock 0)
-      → code ≡ fieldRefusal (so_far switches c) (field tag v)
+      → code ≡ field_refusal (so_far switches c) (field tag v)
   pub stored : (switches : List Settings) (c : Option (List ℕ)) → Stores w starts switches → length switches ≡ n → code ≡ 0
       → Stores w' starts' (with_next (so_far switches c) (field tag v)).switches
 

@@ -1,7 +1,7 @@
 // What a trace entry says of the frame received.
 ghost use Rattle.std.specs.Prelude.{◌≡◌, ◌*◌, ◌+◌, ◌%◌};
 ghost use Rattle.rules.specs.Header as Rules;
-ghost use Rattle.rules.specs.Link.{linkLength};
+ghost use Rattle.rules.specs.Link.{link_length};
 ghost use Rattle.campus.specs.Steps.{received_of, Readable, AnsweredBy};
 
 use rules::FrameRead;
@@ -28,7 +28,7 @@ fn hop_count(low: u8) -> u8
 
 // A tag 0x8100 is tested octet by octet: as one number it would be kept from an earlier reading, which costs more.
 fn link_length(f: &[u8]) -> usize
-    ensures { result ≡ linkLength f.now }
+    ensures { result ≡ link_length f.now }
 {
     if octets::octet(f, 12) != octets::high(rules::ETHERTYPE_TAG) {
         return 14;

@@ -9,7 +9,7 @@ use crate::switches;
 use crate::switches::Named;
 
 pub fn length_good(tag: u8, size: usize) -> bool
-    ensures { result ≡ F.lengthGood tag size }
+    ensures { result ≡ F.length_good tag size }
 {
     if tag == 1 {
         return size == 8;
@@ -66,7 +66,7 @@ fn nickname_known(w: &[u64], starts: &[usize], n: usize, v: &[u8]) -> bool
 
 // Tag 1. The words behind the last store are free, so that a switch refused for its nickname may stand there.
 fn open(w: &mut [u64], starts: &mut [usize], n: usize, clock: usize, v: &[u8]) -> u32
-    requires { Kept w.old starts.old n × (F.lengthGood 1 (length v.now) ≡ true) }
+    requires { Kept w.old starts.old n × (F.length_good 1 (length v.now) ≡ true) }
     ensures { Took w.old starts.old n clock 1 v.now result w.new starts.new }
 {
     let known = nickname_known(w, starts, n, v);

@@ -1,7 +1,7 @@
 // The plain run of an accepted description, with its trace.
 ghost use Rattle.std.specs.Prelude.{◌≡◌, [], ◌∷◌, ◌+◌, ◌*◌, ◌≤◌, ◌<◌, length, take};
 ghost use Rattle.rules.specs.Octets.{put};
-ghost use Rattle.rules.specs.Campus.{kindOctet, first_waiting, writes_reply, someEdition2};
+ghost use Rattle.rules.specs.Campus.{kind_octet, first_waiting, writes_reply, some_edition2};
 ghost use Rattle.handler.specs.Tasks.{Both};
 ghost use Rattle.campus.specs.Places as P;
 ghost use Rattle.campus.specs.Stores.{settings_at, switches_in, Sound, SoundAt};
@@ -65,7 +65,7 @@ fn clock_of(s: &[u8], clock: usize) -> [u8; 6]
 }
 
 fn kind_octet(replied: bool) -> u8
-    ensures { result ≡ kindOctet (kind_by replied) }
+    ensures { result ≡ kind_octet (kind_by replied) }
 {
     if replied { 1 } else { 0 }
 }
@@ -427,7 +427,7 @@ fn run_at(
     trace: &mut [u8],
 ) -> u32
     requires { EntryReady s.now w.now starts.now read.n read.clock read.place first v.now trace.old
-        × (two ≡ someEdition2 (switches_in w.now starts.now read.n)) }
+        × (two ≡ some_edition2 (switches_in w.now starts.now read.n)) }
     ensures { Ran (states_of s.now) trace.old trace.new result }
 {
     let clock = clock_of(s, read.clock);
@@ -450,7 +450,7 @@ pub fn run(
     trace: &mut [u8],
 ) -> u32
     requires { RunReady s.now w.now starts.now read.n read.clock read.place trace.old
-        × (two ≡ someEdition2 (switches_in w.now starts.now read.n)) }
+        × (two ≡ some_edition2 (switches_in w.now starts.now read.n)) }
     ensures { Ran (states_of s.now) trace.old trace.new result }
 {
     let v = between(s, read.place + 3, s.len());

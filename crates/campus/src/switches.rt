@@ -1,7 +1,7 @@
 // The switches of a description: a store for each, one behind the other in one row of words. `starts` says where each begins; what stands behind a
 // store is read as its hints, which any words may be.
 ghost use Rattle.std.specs.Prelude.{◌≡◌, ◌+◌, ◌≤◌, ◌<◌, length};
-ghost use Rattle.rules.specs.Campus.{someEdition2};
+ghost use Rattle.rules.specs.Campus.{some_edition2};
 ghost use Rattle.campus.specs.Stores.{switches_in, number_in, end_of, Started, Sound, Kept, PartOpens, PartExtends};
 
 // The number of a switch, or no such switch.
@@ -56,7 +56,7 @@ pub fn extend(w: &mut [u64], at: usize, tag: u8, v: &[u8]) -> u32
 // Whether one of the first n switches has edition 2.
 pub fn edition_2(w: &[u64], starts: &[usize], n: usize) -> bool
     requires { Sound w.now starts.now n }
-    ensures { result ≡ someEdition2 (switches_in w.now starts.now n) }
+    ensures { result ≡ some_edition2 (switches_in w.now starts.now n) }
 {
     let mut i = n;
     while 0 < i {

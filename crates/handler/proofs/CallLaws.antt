@@ -1,7 +1,7 @@
 -- The whole call on settings octets: what is validated and looked up for one destination says of a frame what the switch does. By one law for each need.
-use Rattle.rules.specs.{Handling.routed, Handling.decapsulated, Handling.transit, Handling.alerted, Handling.handled, Header.opLength, Header.weAreEgress}
-use Rattle.rules.specs.{Settings.Ways, Settings.Settings, Settings.settingsRead, Settings.ways_of, Settings.settingsOf, Campus.known, Channel.channelRead}
-use Rattle.rules.specs.{Header.inner_of, Extension.areaSent, Link.link, Handling.onward, Handling.forwarded, Handling.forwardedRest}
+use Rattle.rules.specs.{Handling.routed, Handling.decapsulated, Handling.transit, Handling.alerted, Handling.handled, Header.op_length, Header.we_are_egress}
+use Rattle.rules.specs.{Settings.Ways, Settings.Settings, Settings.settings_read, Settings.ways_of, Settings.settings_of, Campus.known, Channel.channel_read}
+use Rattle.rules.specs.{Header.inner_of, Extension.area_sent, Link.link, Handling.onward, Handling.forwarded, Handling.forwarded_rest}
 use Rattle.rules.specs.declared.{Alert.Alert, Alert.TheVariants.NoAlert, Header.Header}
 use Rattle.handler.specs
 use specs.declared.handling.{Local.Local, Received.Received}
@@ -26,13 +26,13 @@ use Prim.Native.Nat.{ℕ}
 use borrow.Author.Rules.{rules}
 use borrow.Author.Tests.{not-true, not-false}
 use lib.ListN.{length}
-use Rattle.rules.proofs.{TestLaws.by-test, SettingsLaws.settings_read, HandlingLaws.settings-bad, HandlingLaws.settings_good}
+use Rattle.rules.proofs.{TestLaws.by-test, SettingsLaws.settings_read_lem, HandlingLaws.settings-bad, HandlingLaws.settings_good}
 use Rattle.rules.proofs.HandlingLaws.{routed-egress, routed-transit}
 use Rattle.rules.specs.Answer as A
 
 -- the switch of settings octets
 abbrev switch_at : List ℕ → Ways
-switch_at s = ways_of (settingsRead s)
+switch_at s = ways_of (settings_read s)
 
 -- bad settings, and good ones
 known_none : (o : Option Settings) → known o ≡ false → o ≡ none
@@ -44,14 +44,14 @@ known_some none T is k = absurd (false≢true k)
 known_some (some S) T is k = ap some (sym (is S refl))
 
 module _ (s : List ℕ) (d : ℕ) (j : Validated) (is : ValidatedBy s d j) where
-  pub settings_none : not j.good ≡ true → settingsOf s ≡ none
-  settings_none n = known_none (settingsOf s) (sym is.validated ∙ not-true j.good n)
+  pub settings_none : not j.good ≡ true → settings_of s ≡ none
+  settings_none n = known_none (settings_of s) (sym is.validated ∙ not-true j.good n)
 
-  pub settings_some : not j.good ≡ false → settingsOf s ≡ some (settingsRead s)
-  settings_some n = known_some (settingsOf s) (settingsRead s) (settings_read s) (sym is.validated ∙ not-false j.good n)
+  pub settings_some : not j.good ≡ false → settings_of s ≡ some (settings_read s)
+  settings_some n = known_some (settings_of s) (settings_read s) (settings_read_lem s) (sym is.validated ∙ not-false j.good n)
 
   module _ (own : Own) (o : Owns own (switch_at s)) (t : Lookup) (e : t ≡ lookup_by own j) where
-    pub validated_lookup : known (settingsOf s) ≡ true → ways_by t ≡ only_for d (switch_at s)
+    pub validated_lookup : known (settings_of s) ≡ true → ways_by t ≡ only_for d (switch_at s)
     validated_lookup k = rw e (is.finds (is.validated ∙ k) own o)
 
 -- the call
@@ -65,7 +65,7 @@ module _ (s clock f out beside : List ℕ) (d : ℕ) (j : Validated) (is : Valid
   module _ (n : not j.good ≡ false) (own : Own) (o : Owns own (switch_at s)) (received : Received)
       (x : Receiving own clock f (length out) (length beside) received) where
     comes : answer ≡ received_by (switch_at s) clock f received
-    comes = settings_good s clock (length out) (length beside) f (settingsRead s) (settings_some s d j is n) ∙ x.same (switch_at s) o
+    comes = settings_good s clock (length out) (length beside) f (settings_read s) (settings_some s d j is n) ∙ x.same (switch_at s) o
 
     pub trill_early : (n : ℕ) → received ≡ Refused n → (a : Answer) → a ≡ dropped_by n → Both answer a out out beside beside
     trill_early n e a is = rw (comes, e) (both_of beside (done_dropped n refl is))
@@ -101,31 +101,31 @@ pub ruleset message_by_laws = (rules, message_by, front_count, front_done, front
 pub ruleset plain_by_laws = (rules, quiet_by)
 
 -- a frame without an area asks for one destination only
-module _ (S : Ways) (clock f : List ℕ) (h : Header) (none : opLength h.word ≡ 0) where
+module _ (S : Ways) (clock f : List ℕ) (h : Header) (none : op_length h.word ≡ 0) where
   abbrev only : Ways
   only = only_for (wanted_by S.nickname h) S
 
   same_egress : decapsulated S clock f h ≡ decapsulated (only_for h.ingress S) clock f h
   unfolding decapsulated
-  same_egress = rw (same_channelled S f h clock (channelRead (inner_of f h)))
+  same_egress = rw (same_channelled S f h clock (channel_read (inner_of f h)))
 
   same_onward : transit S clock f h ≡ transit (only_for h.egress S) clock f h
-  unfolding transit alerted onward forwarded forwardedRest areaSent link
+  unfolding transit alerted onward forwarded forwarded_rest area_sent link
   same_onward =
       by_hop (S.hop h.egress) (λ q. rw (transit, q))
       (λ r q. rw (transit, q, none_alert S clock f h none, none_alert (only_for h.egress S) clock f h none))
 
   routed_only : routed S clock f h ≡ routed only clock f h
   routed_only =
-      by-test (weAreEgress S.nickname h)
-      (λ e. routed-egress S clock f h (none_read S clock f h none) (none_stops S clock f h none (weAreEgress S.nickname h)) e
+      by-test (we_are_egress S.nickname h)
+      (λ e. routed-egress S clock f h (none_read S clock f h none) (none_stops S clock f h none (we_are_egress S.nickname h)) e
       ∙ same_egress
       ∙ rw e (sym (routed-egress (only_for h.ingress S) clock f h (none_read (only_for h.ingress S) clock f h none)
-      (none_stops (only_for h.ingress S) clock f h none (weAreEgress S.nickname h)) e)))
-      (λ e. routed-transit S clock f h (none_read S clock f h none) (none_stops S clock f h none (weAreEgress S.nickname h)) e
+      (none_stops (only_for h.ingress S) clock f h none (we_are_egress S.nickname h)) e)))
+      (λ e. routed-transit S clock f h (none_read S clock f h none) (none_stops S clock f h none (we_are_egress S.nickname h)) e
       ∙ same_onward
       ∙ rw e (sym (routed-transit (only_for h.egress S) clock f h (none_read (only_for h.egress S) clock f h none)
-      (none_stops (only_for h.egress S) clock f h none (weAreEgress S.nickname h)) e)))
+      (none_stops (only_for h.egress S) clock f h none (we_are_egress S.nickname h)) e)))
 
 module _ {s : List ℕ} {d : ℕ} (own : Own) (j : Validated) (x : LookupOf s d (lookup_by own j)) where
   pub lookup_owns : Owns own (switch_at s)
@@ -134,10 +134,10 @@ module _ {s : List ℕ} {d : ℕ} (own : Own) (j : Validated) (x : LookupOf s d 
   pub lookup_named : own.nickname ≡ (switch_at s).nickname
   lookup_named = lookup_owns.named
 
-  pub lookup_away : (h : Header) → weAreEgress own.nickname h ≡ false → weAreEgress (switch_at s).nickname h ≡ false
+  pub lookup_away : (h : Header) → we_are_egress own.nickname h ≡ false → we_are_egress (switch_at s).nickname h ≡ false
   lookup_away h away = rw lookup_named at away
 
-  pub lookup_good : known (settingsOf s) ≡ true
+  pub lookup_good : known (settings_of s) ≡ true
   lookup_good = x.good
 
   pub lookup_edition : (rfc7179 : Bool) → rfc7179 ≡ j.rfc7179 → rfc7179 ≡ (switch_at s).rfc7179
@@ -145,7 +145,7 @@ module _ {s : List ℕ} {d : ℕ} (own : Own) (j : Validated) (x : LookupOf s d 
 
 module _ (s f : List ℕ) (h : Header) (own : Own) (j : Validated) (x : LookupOf s (wanted_by own.nickname h) (lookup_by own j)) where
   -- without an area, in transit
-  pub plain_lookup : (egress : Bool) → egress ≡ weAreEgress own.nickname h → egress ≡ false → (n : ℕ) → n ≡ opLength h.word → n ≡ 0
+  pub plain_lookup : (egress : Bool) → egress ≡ we_are_egress own.nickname h → egress ≡ false → (n : ℕ) → n ≡ op_length h.word → n ≡ 0
       → (clock : List ℕ) (r : Answer) (out out1 beside : List ℕ) → Done (transit_quiet (ways_by (lookup_by own j)) f h NoAlert) r out out1
       → Both (routed (switch_at s) clock f h) r out out1 beside beside
   plain_lookup egress e t n is z clock r out out1 beside d =
@@ -156,14 +156,14 @@ module _ (s f : List ℕ) (h : Header) (own : Own) (j : Validated) (x : LookupOf
       ∙ ap (λ (y : Ways). routed y clock f h) (sym x.lookup) in
       both_of beside (rw same (plain_transit T clock f h (sym is ∙ z) own.nickname refl egress e r out out1 t d))
 
-  local_lookup : (local : Local) → weAreEgress own.nickname h ≡ true → (clock : List ℕ) (r : Answer) (out out1 : List ℕ)
+  local_lookup : (local : Local) → we_are_egress own.nickname h ≡ true → (clock : List ℕ) (r : Answer) (out out1 : List ℕ)
       → Done (local_at (ways_by (lookup_by own j)) clock f h local) r out out1 → Done (local_at (switch_at s) clock f h local) r out out1
   local_lookup (Dropped n) ours clock r out out1 d = d
   local_lookup (Answered n start size) ours clock r out out1 d = d
   local_lookup Message ours clock r out out1 d = back_message (switch_at s) f h (lookup_by own j) r out out1 (rw ours at x.lookup) clock d
 
   -- to us
-  pub lookup_arrived : (egress : Bool) → egress ≡ weAreEgress own.nickname h → egress ≡ true → (local : Local) → Arrives j.rfc7179 f h local
+  pub lookup_arrived : (egress : Bool) → egress ≡ we_are_egress own.nickname h → egress ≡ true → (local : Local) → Arrives j.rfc7179 f h local
       → (clock : List ℕ) (r : Answer) (out out1 beside : List ℕ) → Done (local_at (ways_by (lookup_by own j)) clock f h local) r out out1
       → Both (routed (switch_at s) clock f h) r out out1 beside beside
   lookup_arrived egress e t local arrives clock r out out1 beside d =
@@ -179,13 +179,13 @@ edition_by j known e = sym e
 pub lent_switch : (s s' : List ℕ) → s' ≡ s → switch_at s' ≡ switch_at s
 lent_switch s s' e = rw e
 
-module _ (h x : Header) (same : x ≡ h) (own y : Own) (alike : y ≡ own) (egress : Bool) (e : egress ≡ weAreEgress own.nickname h) (f : egress ≡ false) where
-  pub copy_away : weAreEgress y.nickname x ≡ false
+module _ (h x : Header) (same : x ≡ h) (own y : Own) (alike : y ≡ own) (egress : Bool) (e : egress ≡ we_are_egress own.nickname h) (f : egress ≡ false) where
+  pub copy_away : we_are_egress y.nickname x ≡ false
   copy_away = rw (same, alike) (sym e ∙ f)
 
   pub copy_lookup : (s s' : List ℕ) → s' ≡ s → (j : Validated) → LookupOf s (wanted_by own.nickname h) (lookup_by own j)
       → LookupOf s' x.egress (lookup_by y j)
-  copy_lookup s s' lent j k = let away : weAreEgress own.nickname h ≡ false = sym e ∙ f in rw (lent, same, alike) (rw away at k)
+  copy_lookup s s' lent j k = let away : we_are_egress own.nickname h ≡ false = sym e ∙ f in rw (lent, same, alike) (rw away at k)
 
 pub copy_ways : (own y : Own) → y ≡ own → (j : Validated) → ways_by (lookup_by y j) ≡ ways_by (lookup_by own j)
 copy_ways own y e j = rw e
@@ -206,7 +206,7 @@ pub ruleset transit_by_laws = (rules, sends_by, quiet_by)
 
 pub ruleset forward_by_laws = (forward_in_laws, quiet_only, lookup_owns, lookup_good)
 
-pub validated_reply : (s clock f : List ℕ) (h : Header) (j : Validated) → ValidatedBy s h.ingress j → known (settingsOf s) ≡ true → (own : Own)
+pub validated_reply : (s clock f : List ℕ) (h : Header) (j : Validated) → ValidatedBy s h.ingress j → known (settings_of s) ≡ true → (own : Own)
     → Owns own (switch_at s) → (alert : Alert) (a r : Answer) (out out1 beside beside1 : List ℕ)
     → RepliesBy (ways_by (lookup_by own j)) clock f h alert a r out out1 beside beside1 → Replies (switch_at s) clock f h alert a r out out1 beside beside1
 validated_reply s clock f h j is good own o alert a r out out1 beside beside1 x =

@@ -10,7 +10,7 @@ use lib.Bits.{bit_and, and_mask}
 use lib.Dec.{ltb, eqb}
 use lib.ListN.{length, take, drop}
 use Rattle.rules.specs as rules
-use rules.{Octets.octet, Octets.be16, Handling.untagged, Channel.echo_read, Channel.channelRead, Channel.silenced}
+use rules.{Octets.octet, Octets.be16, Handling.untagged, Channel.echo_read, Channel.channel_read, Channel.silenced}
 use rules.declared.ChannelRead.{ChannelRead}
 use rules.declared.ChannelRead.TheVariants.{Fault, BadErr, ErrorHeard, BadEcho, EchoHeard, EchoRequest}
 use Rattle.handler.specs.Shapes.{foreign_by, short_code, silenced_by_sl}
@@ -85,44 +85,44 @@ short_known inner e is_e b is_b f = cc
 pub ruleset short_code_laws = (rules, short_foreign, short_known)
 
 -- a channel message, by its tests in their order
-pub read_short : (inner : List ℕ) → length inner < 22 → (code : ℕ) → code ≡ short_code inner → Fault code ≡ channelRead inner
-unfolding channelRead
+pub read_short : (inner : List ℕ) → length inner < 22 → (code : ℕ) → code ≡ short_code inner → Fault code ≡ channel_read inner
+unfolding channel_read
 read_short inner h code is = by-test (foreign_by (be16 inner 16)) (λ t. rw (is, t)) (λ t. rw (is, t, lt-ltb (length inner) 22 h))
 
 module _ (inner : List ℕ) (e : ℕ) (is_e : e ≡ be16 inner 16) (b : Bool) (is_b : b ≡ foreign_by e) where
-  pub read_foreign : b ≡ true → Fault 2 ≡ channelRead inner
-  unfolding channelRead
+  pub read_foreign : b ≡ true → Fault 2 ≡ channel_read inner
+  unfolding channel_read
   read_foreign t = cc
 
   module _ (f : b ≡ false) (a : 22 ≤ length inner) (w : ℕ) (is_w : w ≡ be16 inner 18) (v : ℕ) (is_v : v ≡ w / 4096 % 16) where
     long : ltb (length inner) 22 ≡ false
     long = le-ltb (length inner) 22 a
 
-    pub read_version : (v ≡ 0 → ⊥) → Fault 3 ≡ channelRead inner
-    unfolding channelRead
+    pub read_version : (v ≡ 0 → ⊥) → Fault 3 ≡ channel_read inner
+    unfolding channel_read
     read_version n = cc (long, ne_eqb v 0 n)
 
     module _ (z : v ≡ 0) (g : ℕ) (is_g : g ≡ be16 inner 20) (n : ℕ) (is_n : n ≡ g / 8192 % 2) where
-      pub read_native : n ≡ 1 → Fault 4 ≡ channelRead inner
-      unfolding channelRead
+      pub read_native : n ≡ 1 → Fault 4 ≡ channel_read inner
+      unfolding channel_read
       read_native one = cc long
 
       module _ (o : n ≡ 1 → ⊥) (p : ℕ) (is_p : p ≡ w % 4096) where
-        pub read_error : p ≡ 0x001 → ErrorHeard ≡ channelRead inner
-        unfolding channelRead
+        pub read_error : p ≡ 0x001 → ErrorHeard ≡ channel_read inner
+        unfolding channel_read
         read_error its = cc (long, ne_eqb n 1 o)
 
-        pub read_unknown : (p ≡ 0x001 → ⊥) → (p ≡ 0xFF8 → ⊥) → Fault 5 ≡ channelRead inner
-        unfolding channelRead
+        pub read_unknown : (p ≡ 0x001 → ⊥) → (p ≡ 0xFF8 → ⊥) → Fault 5 ≡ channel_read inner
+        unfolding channel_read
         read_unknown h k = cc (long, ne_eqb n 1 o, ne_eqb p 0x001 h, ne_eqb p 0xFF8 k)
 
         module _ (echo : p ≡ 0xFF8) (k : ℕ) (is_k : k ≡ g % 16) where
-          pub read_err : (k ≡ 0 → ⊥) → BadErr ≡ channelRead inner
-          unfolding channelRead
+          pub read_err : (k ≡ 0 → ⊥) → BadErr ≡ channel_read inner
+          unfolding channel_read
           read_err h = cc (long, ne_eqb n 1 o, ne_eqb k 0 h)
 
-          pub read_echo : k ≡ 0 → (r : ChannelRead) → r ≡ echo_read (take (length inner - 22) (drop 22 inner)) → r ≡ channelRead inner
-          unfolding channelRead
+          pub read_echo : k ≡ 0 → (r : ChannelRead) → r ≡ echo_read (take (length inner - 22) (drop 22 inner)) → r ≡ channel_read inner
+          unfolding channel_read
           read_echo none r is = cc (long, ne_eqb n 1 o, lent_rest inner 22)
 
 pub ruleset channel_read_laws = (rules, read_foreign, read_short, read_version, read_native, read_error, read_unknown, read_err, read_echo)

@@ -22,22 +22,22 @@ pub ruleset three_laws = (rules, three_1, three_2, three_3)
 
 module _ (w : ℕ) where
   module _ (egress : Bool) (u : Bool) (e : u ≡ E.unknown_hop_by_hop_flag w) where
-    pub stops_unknown : u ≡ true → true ≡ E.extensionStops egress w
-    unfolding E.extensionStops
+    pub stops_unknown : u ≡ true → true ≡ E.extension_stops egress w
+    unfolding E.extension_stops
     stops_unknown t = cc
 
     module _ (f : u ≡ false) (a a' : Bool) (is_a : a ≡ E.cr_hbh w) (is_a' : a' ≡ E.hop_by_hop_flag w) (x : Bool) (tx : x ≡ (a && not a')) where
-      pub stops_bare : x ≡ true → true ≡ E.extensionStops egress w
-      unfolding E.extensionStops
+      pub stops_bare : x ≡ true → true ≡ E.extension_stops egress w
+      unfolding E.extension_stops
       stops_bare t = cc
 
       module _ (g : x ≡ false) where
-        pub stops_egress : egress ≡ true → (i : Bool) → i ≡ E.cr_ite w → i ≡ E.extensionStops egress w
-        unfolding E.extensionStops
+        pub stops_egress : egress ≡ true → (i : Bool) → i ≡ E.cr_ite w → i ≡ E.extension_stops egress w
+        unfolding E.extension_stops
         stops_egress t i is = cc (and_yes i)
 
-        pub stops_not : egress ≡ false → false ≡ E.extensionStops egress w
-        unfolding E.extensionStops
+        pub stops_not : egress ≡ false → false ≡ E.extension_stops egress w
+        unfolding E.extension_stops
         stops_not t = cc (and_no (E.cr_ite w))
 
 pub ruleset stops_laws = (rules, stops_unknown, stops_bare, stops_egress, stops_not)

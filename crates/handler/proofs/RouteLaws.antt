@@ -2,7 +2,7 @@
 use Rattle.handler.proofs
 use proofs.StageLaws.{frame_near, by_hop, ready, inner_held, area_held, area_few, area_words}
 use Rattle.rules.specs as rules
-use rules.Handling.{transit, untagged, toAllEgressRBridges, channelMessage, alertTo, alertOf, decapsulated, routed, handledWith}
+use rules.Handling.{transit, untagged, to_all_egress_rbridges, channel_message, alert_to, alert_of, decapsulated, routed, handled_with}
 use mathlib.Core.Path.{◌≡◌, refl, sym, ap, ◌∙◌}
 use mathlib.Core.List.{List}
 use mathlib.Core.Bool.{Bool, true, false, not, ◌&&◌, ◌||◌, cond}
@@ -15,9 +15,9 @@ use Rattle.rules.proofs as ruleLaws
 use ruleLaws.{TestLaws.by-test, TestLaws.apart, TestLaws.and_yes, TestLaws.and_no, OctetLaws.take_put, OptionLaws.area_number, FrameLaws.header_passed}
 use lib.Dec.{eqb}
 use lib.ListN.{length, length-drop}
-use rules.{Octets.be16, Octets.be32, Settings.Ways, Options.WellFormed, Options.draftRead, Channel.channelRead}
-use rules.Header.{innerStart, areaOf, inner_of, readFrame, headerRefusal, weAreEgress}
-use rules.Extension.{flagsWord, criticalAlert, nonCriticalAlert, flagUnsummarized, summaryBare, extensionRead, extensionStops, areaRead, areaStops}
+use rules.{Octets.be16, Octets.be32, Settings.Ways, Options.WellFormed, Options.draft_read, Channel.channel_read}
+use rules.Header.{inner_start, area_of, inner_of, read_frame, header_refusal, we_are_egress}
+use rules.Extension.{flags_word, critical_alert, non_critical_alert, flag_unsummarized, summary_bare, extension_read, extension_stops, area_read, area_stops}
 use rules.declared.{Header.Header, FrameRead.FrameRead, ChannelRead.ChannelRead, Alert.Alert}
 use rules.declared.FrameRead.TheVariants.{Trill, Unreadable}
 use rules.declared.Ruling.TheVariants.{Absent}
@@ -60,15 +60,15 @@ module _ (rfc7179 strip : Bool) (area kept : List ℕ) where
       })
 
   module _ (two : not rfc7179 ≡ false) (w : ℕ) (word : w ≡ be32 area 0) (b : Bool)
-      (is : b ≡ (flagUnsummarized w || (eqb (length area) 4 && summaryBare w))) where
+      (is : b ≡ (flag_unsummarized w || (eqb (length area) 4 && summary_bare w))) where
     pub read_refused : b ≡ true → ReadBy rfc7179 strip area kept (Faulty 38 0)
-    unfolding extensionRead
+    unfolding extension_read
     read_refused t = record { read = cc (not-false rfc7179 two); aside = λ c e. apart (cc e) }
 
     pub read_extension : b ≡ false → (kept' : List ℕ) (r : AreaRead) → AllKept area kept kept' r → AreaWords area → ReadBy rfc7179 strip area kept' r
-    unfolding extensionRead
+    unfolding extension_read
     read_extension t kept' r x words =
-        let passed : extensionRead area ≡ WellFormed = cc in
+        let passed : extension_read area ≡ WellFormed = cc in
         rw (not-false rfc7179 two)
         (record {
           read = x.read ∙ sym passed;
@@ -79,51 +79,51 @@ module _ (rfc7179 strip : Bool) (area kept : List ℕ) where
 pub ruleset read_area_laws = (rules, read_draft, read_refused, read_extension)
 
 module _ (rfc7179 : Bool) (area : List ℕ) where
-  pub check_draft : not rfc7179 ≡ true → (r : AreaRead) → area_read_of r ≡ draftRead area → area_read_of r ≡ area_read_by rfc7179 area
+  pub check_draft : not rfc7179 ≡ true → (r : AreaRead) → area_read_of r ≡ draft_read area → area_read_of r ≡ area_read_by rfc7179 area
   check_draft e r is = rw (not-true rfc7179 e) is
 
   module _ (two : not rfc7179 ≡ false) (w : ℕ) (word : w ≡ be32 area 0) (b : Bool)
-      (is : b ≡ (flagUnsummarized w || (eqb (length area) 4 && summaryBare w))) where
+      (is : b ≡ (flag_unsummarized w || (eqb (length area) 4 && summary_bare w))) where
     pub check_refused : b ≡ true → O.Faulty 38 0 ≡ area_read_by rfc7179 area
-    unfolding extensionRead
+    unfolding extension_read
     check_refused t = cc (not-false rfc7179 two)
 
     pub check_extension : b ≡ false → WellFormed ≡ area_read_by rfc7179 area
-    unfolding extensionRead
+    unfolding extension_read
     check_extension t = cc (not-false rfc7179 two)
 
 pub ruleset check_area_laws = (rules, check_draft, check_refused, check_extension)
 
 -- an alert
 module _ (inner : List ℕ) where
-  pub message_short : length inner < 18 → false ≡ channelMessage inner
-  unfolding channelMessage
+  pub message_short : length inner < 18 → false ≡ channel_message inner
+  unfolding channel_message
   message_short a = rw (lt-leb 18 (length inner) a)
 
   module _ (a : 18 ≤ length inner) (tag : Bool) (t : tag ≡ untagged inner) where
-    pub message_untagged : tag ≡ true → false ≡ channelMessage inner
-    unfolding channelMessage
+    pub message_untagged : tag ≡ true → false ≡ channel_message inner
+    unfolding channel_message
     message_untagged e = cc (le-leb 18 (length inner) a)
 
-    module _ (e : tag ≡ false) (all : Bool) (m : all ≡ toAllEgressRBridges inner) where
-      pub message_other : not all ≡ true → false ≡ channelMessage inner
-      unfolding channelMessage
+    module _ (e : tag ≡ false) (all : Bool) (m : all ≡ to_all_egress_rbridges inner) where
+      pub message_other : not all ≡ true → false ≡ channel_message inner
+      unfolding channel_message
       message_other n = cc (le-leb 18 (length inner) a, not-true all n)
 
-      pub message_so : not all ≡ false → (w : ℕ) → w ≡ be16 inner 16 → eqb w 0x8946 ≡ channelMessage inner
-      unfolding channelMessage
+      pub message_so : not all ≡ false → (w : ℕ) → w ≡ be16 inner 16 → eqb w 0x8946 ≡ channel_message inner
+      unfolding channel_message
       message_so n w x = cc (le-leb 18 (length inner) a, not-false all n)
 
 pub ruleset channel_message_laws = (rules, message_short, message_untagged, message_other, message_so)
 
 module _ (critical answered : Bool) (read c : ChannelRead) (e : read ≡ c) (a : Alert) where
-  pub to_read : a ≡ alertTo critical answered c → a ≡ alertTo critical answered read
+  pub to_read : a ≡ alert_to critical answered c → a ≡ alert_to critical answered read
   to_read is = rw e is
 
-  pub to_critical : (b : Bool) → critical ≡ b → a ≡ alertTo b answered c → a ≡ alertTo critical answered read
+  pub to_critical : (b : Bool) → critical ≡ b → a ≡ alert_to b answered c → a ≡ alert_to critical answered read
   to_critical b t is = rw (e, t) is
 
-  pub to_answered : (b : Bool) → answered ≡ b → a ≡ alertTo critical b c → a ≡ alertTo critical answered read
+  pub to_answered : (b : Bool) → answered ≡ b → a ≡ alert_to critical b c → a ≡ alert_to critical answered read
   to_answered b t is = rw (e, t) is
 
 pub ruleset alert_to_laws = (rules, to_read, to_critical, to_answered)
@@ -133,19 +133,19 @@ module _ (rfc7179 : Bool) (area inner : List ℕ) where
   unfolding alert_by
   alert_draft e = rw (not-true rfc7179 e)
 
-  module _ (two : not rfc7179 ≡ false) (w : ℕ) (word : w ≡ be32 area 0) (some : Bool) (s : some ≡ (criticalAlert w || nonCriticalAlert w)) where
+  module _ (two : not rfc7179 ≡ false) (w : ℕ) (word : w ≡ be32 area 0) (some : Bool) (s : some ≡ (critical_alert w || non_critical_alert w)) where
     pub alert_none : not some ≡ true → NoAlert ≡ alert_by rfc7179 area inner
     unfolding alert_by
     alert_none e = cc (not-false rfc7179 two, not-true some e)
 
-    module _ (e : not some ≡ false) (message : Bool) (m : message ≡ channelMessage inner) where
+    module _ (e : not some ≡ false) (message : Bool) (m : message ≡ channel_message inner) where
       pub alert_other : not message ≡ true → NoAlert ≡ alert_by rfc7179 area inner
       unfolding alert_by
       alert_other n = cc (not-false rfc7179 two, not-false some e, not-true message n)
 
-      pub alert_so : not message ≡ false → (read : ChannelRead) → read ≡ channelRead inner → (critical : Bool) → critical ≡ criticalAlert w → (stops : Bool)
-          → stops ≡ extensionStops true w
-          → (r : Alert) → r ≡ alertTo critical (not stops) read → r ≡ alert_by rfc7179 area inner
+      pub alert_so : not message ≡ false → (read : ChannelRead) → read ≡ channel_read inner → (critical : Bool) → critical ≡ critical_alert w → (stops : Bool)
+          → stops ≡ extension_stops true w
+          → (r : Alert) → r ≡ alert_to critical (not stops) read → r ≡ alert_by rfc7179 area inner
       unfolding alert_by
       alert_so n read c critical k stops h r is = cc (not-false rfc7179 two, not-false some e, not-false message n)
 
@@ -157,25 +157,25 @@ module _ (f : List ℕ) (h : Header) (inner : List ℕ) (held : inner ≡ inner_
   egress_short a = record { same = λ S clock. inner-short S clock f h (rw held at a); ends = Prim.tt }
 
   -- delivered in whole
-  up : (n start size : ℕ) → Ready f h → start ≡ innerStart h → size ≡ length inner
-      → ((S : Ways) (clock : List ℕ) → decapsulated S clock f h ≡ A.delivered n (innerStart h) (length (inner_of f h))) → Comes f h (Answered n start size)
+  up : (n start size : ℕ) → Ready f h → start ≡ inner_start h → size ≡ length inner
+      → ((S : Ways) (clock : List ℕ) → decapsulated S clock f h ≡ A.delivered n (inner_start h) (length (inner_of f h))) → Comes f h (Answered n start size)
   up n start size is i z e =
-      rw (z, held, i) (record { same = e; ends = (omega (arith, is.area_whole, is.short), omega (arith, length-drop (innerStart h) f, is.short)) })
+      rw (z, held, i) (record { same = e; ends = (omega (arith, is.area_whole, is.short), omega (arith, length-drop (inner_start h) f, is.short)) })
 
   module _ (a : 18 ≤ length inner) (tag : Bool) (t : tag ≡ untagged inner) where
     pub egress_untagged : tag ≡ true → Comes f h (Dropped 23)
     egress_untagged b = record { same = λ S clock. inner-untagged S clock f h (rw held at a) (cc); ends = Prim.tt }
 
-    module _ (b : tag ≡ false) (all : Bool) (m : all ≡ toAllEgressRBridges inner) where
+    module _ (b : tag ≡ false) (all : Bool) (m : all ≡ to_all_egress_rbridges inner) where
       pub egress_any : not all ≡ true → h.egress ≡ 0xFFC0 → Comes f h (Dropped 24)
       egress_any n e = record { same = λ S clock. inner-any S clock f h (rw held at a) (cc) e (cc (not-true all n)); ends = Prim.tt }
 
-      pub egress_delivered : not all ≡ true → (h.egress ≡ 0xFFC0 → ⊥) → Ready f h → (start size : ℕ) → start ≡ innerStart h → size ≡ length inner
+      pub egress_delivered : not all ≡ true → (h.egress ≡ 0xFFC0 → ⊥) → Ready f h → (start size : ℕ) → start ≡ inner_start h → size ≡ length inner
           → Comes f h (Answered 51 start size)
       egress_delivered n e is start size i z = up 51 start size is i z (λ S clock. inner-delivered S clock f h (rw held at a) (cc) e (cc (not-true all n)))
 
       module _ (n : not all ≡ false) (word : ℕ) (w : word ≡ be16 inner 16) where
-        pub egress_up : word ≡ 0x22F4 → Ready f h → (start size : ℕ) → start ≡ innerStart h → size ≡ length inner → Comes f h (Answered 52 start size)
+        pub egress_up : word ≡ 0x22F4 → Ready f h → (start size : ℕ) → start ≡ inner_start h → size ≡ length inner → Comes f h (Answered 52 start size)
         egress_up e is start size i z = up 52 start size is i z (λ S clock. Inner-up S clock f h (rw held at a) (cc) (cc (not-false all n)) (cc))
 
         pub egress_channel : (word ≡ 0x22F4 → ⊥) → Comes f h Message
@@ -186,9 +186,9 @@ pub ruleset decapsulated_laws = (rules, ready, inner_held, egress_short, egress_
 
 -- 30 to 35 or 38, and 20
 area_near : (rfc7179 : Bool) (area : List ℕ) (n p : ℕ) → area_read_by rfc7179 area ≡ O.Faulty n p → p ≤ length area
-unfolding extensionRead
+unfolding extension_read
 area_near false area n p e = (area_number area n p e).near
-area_near true area n p e = extended (flagUnsummarized (flagsWord area) || (eqb (length area) 4 && summaryBare (flagsWord area))) e
+area_near true area n p e = extended (flag_unsummarized (flags_word area) || (eqb (length area) 4 && summary_bare (flags_word area))) e
   where
     extended : (b : Bool) → cond b (O.Faulty 38 0) WellFormed ≡ O.Faulty n p → p ≤ length area
     extended true x = let z : 0 ≡ p = cc x in omega (arith, z)
@@ -198,17 +198,17 @@ pub read_well : (rfc7179 : Bool) (area : List ℕ) (read : AreaRead) → area_re
     → area_read_by rfc7179 area ≡ WellFormed
 read_well rfc7179 area read is c e = sym is ∙ ap area_read_of e
 
-pub area_made : {f : List ℕ} {h : Header} → Ready f h → (area : List ℕ) → area ≡ areaOf f h → AreaWords area
+pub area_made : {f : List ℕ} {h : Header} → Ready f h → (area : List ℕ) → area ≡ area_of f h → AreaWords area
 area_made is area held = rw held (record { few = area_few is; whole = omega (arith, area_words is) })
 
 -- a fault, whatever our role
-module _ (rfc7179 : Bool) (f : List ℕ) (h : Header) (area : List ℕ) (held : area ≡ areaOf f h) (read : AreaRead)
+module _ (rfc7179 : Bool) (f : List ℕ) (h : Header) (area : List ℕ) (held : area ≡ area_of f h) (read : AreaRead)
     (a : area_read_of read ≡ area_read_by rfc7179 area) (n p : ℕ) (e : read ≡ Faulty n p) where
   faulty : area_read_by rfc7179 area ≡ O.Faulty n p
   faulty = sym a ∙ ap area_read_of e
 
   faulty_same : (S : Ways) (clock : List ℕ) → rfc7179 ≡ S.rfc7179 → routed S clock f h ≡ A.dropped_at n p
-  unfolding areaRead
+  unfolding area_read
   faulty_same S clock two = routed-faulty S clock f h n p (cc faulty)
 
   faulty_near : Ready f h → p ≤ 2048
@@ -220,7 +220,7 @@ module _ (rfc7179 : Bool) (f : List ℕ) (h : Header) (area : List ℕ) (held : 
   pub arrives_faulty : Ready f h → Arrives rfc7179 f h (Answered n p 0)
   arrives_faulty is = record { same = λ S clock ours. faulty_same S clock; ends = (faulty_near is, omega arith) }
 
-module _ (rfc7179 strip : Bool) (f : List ℕ) (h : Header) (area kept : List ℕ) (held : area ≡ areaOf f h) (read : AreaRead)
+module _ (rfc7179 strip : Bool) (f : List ℕ) (h : Header) (area kept : List ℕ) (held : area ≡ area_of f h) (read : AreaRead)
     (a : ReadBy rfc7179 strip area kept read) where
   pub route_on : (c : Cursor) → read ≡ Read c → (t : Task) → RoutesRead rfc7179 c.to f h t → Routes rfc7179 strip f h kept t
   route_on c e t x = record { same = x.same; left = x.left; aside = put_aside t x.sized }
@@ -232,25 +232,25 @@ module _ (rfc7179 strip : Bool) (f : List ℕ) (h : Header) (area kept : List �
 pub ruleset route_laws = (rules, ready, area_held, area_made, route_faulty, read_well, route_on)
 
 -- once the area is read
-module _ (rfc7179 : Bool) (f : List ℕ) (h : Header) (area : List ℕ) (held : area ≡ areaOf f h) (well : area_read_by rfc7179 area ≡ WellFormed)
+module _ (rfc7179 : Bool) (f : List ℕ) (h : Header) (area : List ℕ) (held : area ≡ area_of f h) (well : area_read_by rfc7179 area ≡ WellFormed)
     (stops : Bool) where
   module _ (size : ℕ) (b : stops ≡ stops_by rfc7179 false area) where
     pub route_stopped : stops ≡ true → RoutesRead rfc7179 size f h (Stopped 20 0)
-    unfolding areaRead areaStops
+    unfolding area_read area_stops
     route_stopped x = record { same = λ S clock away two. routed-stopped S clock f h (cc) (cc); left = omega arith; sized = Prim.tt }
 
     -- the alert as the rules find it
-    alert_same : (S : Ways) → rfc7179 ≡ S.rfc7179 → (inner : List ℕ) → inner ≡ inner_of f h → alertOf S f h ≡ alert_by rfc7179 area inner
-    unfolding alertOf areaStops alert_by
+    alert_same : (S : Ways) → rfc7179 ≡ S.rfc7179 → (inner : List ℕ) → inner ≡ inner_of f h → alert_of S f h ≡ alert_by rfc7179 area inner
+    unfolding alert_of area_stops alert_by
     alert_same S two inner within = rw (held, within, two)
 
     answers_request : (inner : List ℕ) → inner ≡ inner_of f h → Answerable f h (alert_by rfc7179 area inner)
-    unfolding alert_by alertTo
+    unfolding alert_by alert_to
     answers_request inner within =
-        by-test (rfc7179 && (criticalAlert (flagsWord area) || nonCriticalAlert (flagsWord area)) && channelMessage inner)
-        (λ t. rw t (to (criticalAlert (flagsWord area)) (not (stops_by rfc7179 true area)) (channelRead inner) refl)) (λ t. rw t Prim.tt)
+        by-test (rfc7179 && (critical_alert (flags_word area) || non_critical_alert (flags_word area)) && channel_message inner)
+        (λ t. rw t (to (critical_alert (flags_word area)) (not (stops_by rfc7179 true area)) (channel_read inner) refl)) (λ t. rw t Prim.tt)
       where
-        to : (critical answered : Bool) (c : ChannelRead) → channelRead inner ≡ c → Answerable f h (alertTo critical answered c)
+        to : (critical answered : Bool) (c : ChannelRead) → channel_read inner ≡ c → Answerable f h (alert_to critical answered c)
         to critical answered (Fault code) q = elim critical [ true ↦ rw within at q | false ↦ Prim.tt ]
         to critical answered BadErr q = elim critical [ true ↦ Prim.tt | false ↦ Prim.tt ]
         to critical answered ErrorHeard q = Prim.tt
@@ -260,7 +260,7 @@ module _ (rfc7179 : Bool) (f : List ℕ) (h : Header) (area : List ℕ) (held : 
 
     pub route_transit : stops ≡ false → Ready f h → (inner : List ℕ) → inner ≡ inner_of f h → (alert : Alert) → alert ≡ alert_by rfc7179 area inner
         → RoutesRead rfc7179 size f h (Forward alert size)
-    unfolding areaRead areaStops transit_at transit
+    unfolding area_read area_stops transit_at transit
     route_transit x ready inner within alert is =
         record {
           same = λ S clock away two.
@@ -274,11 +274,11 @@ module _ (rfc7179 : Bool) (f : List ℕ) (h : Header) (area : List ℕ) (held : 
   -- a frame to us
   module _ (b : stops ≡ stops_by rfc7179 true area) where
     pub arrives_stopped : stops ≡ true → Arrives rfc7179 f h (Dropped 20)
-    unfolding areaRead areaStops
+    unfolding area_read area_stops
     arrives_stopped x = record { same = λ S clock ours two. routed-stopped S clock f h (cc) (cc); ends = Prim.tt }
 
     pub arrives_read : stops ≡ false → (local : Local) → Comes f h local → Arrives rfc7179 f h local
-    unfolding areaRead areaStops
+    unfolding area_read area_stops
     arrives_read x local d =
         record { same = λ S clock ours two. routed-egress S clock f h (cc) (cc) ours ∙ d.same S clock; ends = d.ends }
 
@@ -287,16 +287,16 @@ pub ruleset route_read_laws = (rules, ready, inner_held, route_stopped, route_tr
 pub ruleset arrived_laws = (rules, arrives_stopped, arrives_read)
 
 -- 12 to 18
-module _ (f : List ℕ) (h : Header) (is : readFrame f ≡ Trill h) (own : Own) where
-  module _ (refusal : Refusal) (is_refusal : refusal ≡ refusal_by (headerRefusal (own.word / 65536) f h)) where
+module _ (f : List ℕ) (h : Header) (is : read_frame f ≡ Trill h) (own : Own) where
+  module _ (refusal : Refusal) (is_refusal : refusal ≡ refusal_by (header_refusal (own.word / 65536) f h)) where
     pub frame_refused : (n : ℕ) → refusal ≡ Refused n → Receives own f (R.Refused n)
     frame_refused n e =
-        let x = refused_is (headerRefusal (own.word / 65536) f h) (sym is_refusal ∙ e) in
+        let x = refused_is (header_refusal (own.word / 65536) f h) (sym is_refusal ∙ e) in
         record { same = λ S clock o. handling-refused S clock f h is (rw o.addressed at x.1) ∙ rw (rw o.addressed at x.0); got = Prim.tt }
 
     pub frame_passed : refusal ≡ Passed → length f ≤ 2048 → Receives own f (R.Trill h)
     frame_passed e short =
-        let z = passed_is (headerRefusal (own.word / 65536) f h) (sym is_refusal ∙ e) in
+        let z = passed_is (header_refusal (own.word / 65536) f h) (sym is_refusal ∙ e) in
         let S : Ways = record { nickname = own.nickname; mac = own.word / 65536; strip = false; rfc7179 = false; hop = λ d. Absent } in
         let p = header_passed S f h z in
         record {
@@ -307,18 +307,18 @@ module _ (f : List ℕ) (h : Header) (is : readFrame f ≡ Trill h) (own : Own) 
 pub ruleset passed_laws = (rules, frame_near, frame_refused, frame_passed)
 
 -- 10 and 11
-module _ (f : List ℕ) (read : FrameRead) (is : read ≡ readFrame f) (own : Own) where
+module _ (f : List ℕ) (read : FrameRead) (is : read ≡ read_frame f) (own : Own) where
   pub frame_unread : (n : ℕ) → read ≡ Unreadable n → Receives own f (R.Refused n)
   frame_unread n e = record { same = λ S clock o. handling-unread S clock f n (sym is ∙ e); got = Prim.tt }
 
-  pub frame_trill : (h : Header) → read ≡ Trill h → readFrame f ≡ Trill h
+  pub frame_trill : (h : Header) → read ≡ Trill h → read_frame f ≡ Trill h
   frame_trill h e = sym is ∙ e
 
 pub ruleset read_laws = (rules, frame_unread, frame_trill)
 
 -- 1, 2, 37 and 3
 module _ (own : Own) (clock f : List ℕ) (room beside_room : ℕ) where
-  pub received_dropped : (n : ℕ) → ((S : Ways) → handledWith S clock room beside_room f ≡ A.dropped n) → Receiving own clock f room beside_room (R.Refused n)
+  pub received_dropped : (n : ℕ) → ((S : Ways) → handled_with S clock room beside_room f ≡ A.dropped n) → Receiving own clock f room beside_room (R.Refused n)
   received_dropped n w = record { same = λ S o. w S; got = Prim.tt; lent = Prim.tt }
 
   pub received_read : (r : Received) → Receives own f r → length clock ≡ 6 → 2048 ≤ room → 576 ≤ beside_room → length f ≤ 2048
@@ -349,7 +349,7 @@ module _ {own : Own} {clock f : List ℕ} {room beside_room : ℕ} {received : R
 pub ruleset received_lent = (lent_ready, lent_clock, lent_room, lent_beside)
 
 -- the destination
-module _ (nickname : ℕ) (h : Header) (egress : Bool) (e : egress ≡ weAreEgress nickname h) where
+module _ (nickname : ℕ) (h : Header) (egress : Bool) (e : egress ≡ we_are_egress nickname h) where
   pub wanted_back : egress ≡ true → h.ingress ≡ wanted_by nickname h
   wanted_back t = rw (← e, t)
 

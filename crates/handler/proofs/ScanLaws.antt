@@ -1,6 +1,6 @@
 -- One pass over settings octets that validates them and finds the record that rules for a destination: what the loop keeps is what validation keeps and what
 -- two folds over the fields keep, and what the folds say of the settings read. By one law of fields for each step, and by induction on the fields.
-use Rattle.rules.specs.Settings.{Ways, Settings, newer, ruling, switchOf, hopOf, withField, opened, settingsRead, ways_of, opens, settingsOf}
+use Rattle.rules.specs.Settings.{Ways, Settings, newer, ruling, switch_of, hop_of, with_field, opened, settings_read, ways_of, opens, settings_of}
 use Rattle.rules.specs.declared.{NextHop.NextHop, Ruling.Ruling, FieldRead.FieldRead}
 use Rattle.handler.specs
 use specs.Shapes.{Owns, ruled_by, no_flags, flagged_by, FoldedFrom}
@@ -35,7 +35,7 @@ use Rattle.handler.proofs.ValidationLaws as J
 
 -- the switch of settings octets
 abbrev switch_at : List ℕ → Ways
-switch_at s = ways_of (settingsRead s)
+switch_at s = ways_of (settings_read s)
 
 -- the record that rules once one more is seen, as the code finds it
 module _ (d : ℕ) (best : Ruling) (x r : NextHop) (is : r ≡ x) where
@@ -86,25 +86,25 @@ module _ {A : Type 0} {step : A → Field → A} {start : A} {s : List ℕ} {fro
 
 -- the settings read, by the first field
 module _ (s : List ℕ) where
-  read_cut : field_at s 0 ≡ Cut → settingsRead s ≡ switchOf []
-  unfolding settingsRead fields opened
+  read_cut : field_at s 0 ≡ Cut → settings_read s ≡ switch_of []
+  unfolding settings_read fields opened
   read_cut e =
       by-test (ltb 0 (length s))
-      (λ t. rw (settingsRead, fields-at-cut s 0 (ltb-true 0 (length s) t) e))
-      (λ t. rw (settingsRead, fields-at-end s 0 (ltb-false 0 (length s) t)))
+      (λ t. rw (settings_read, fields-at-cut s 0 (ltb-true 0 (length s) t) e))
+      (λ t. rw (settings_read, fields-at-end s 0 (ltb-false 0 (length s) t)))
 
   module _ {tag size next : ℕ} (e : field_at s 0 ≡ Taken tag size next) where
-    read_on : settingsRead s ≡ foldl withField (switchOf (part s 3 (next - 3))) (fields_at s next)
-    unfolding settingsRead
-    read_on = rw (settingsRead, first s e, opened-field tag (part s 3 (next - 3)))
+    read_on : settings_read s ≡ foldl with_field (switch_of (part s 3 (next - 3))) (fields_at s next)
+    unfolding settings_read
+    read_on = rw (settings_read, first s e, opened-field tag (part s 3 (next - 3)))
 
 -- what one more field does to the nickname and MAC, the flags and the record that rules
 abbrev pub flags_of : Settings → Flags
 flags_of S = record { strip = S.strip; rfc7179 = S.rfc7179 }
 
 module _ (S : Settings) where
-  flags_with : (f : Field) → flags_of (withField S f) ≡ flagged_by (flags_of S) f
-  unfolding withField flagged_by
+  flags_with : (f : Field) → flags_of (with_field S f) ≡ flagged_by (flags_of S) f
+  unfolding with_field flagged_by
   flags_with cut = refl
   flags_with (field tag v) =
       by-test (eqb tag 2)
@@ -115,30 +115,30 @@ ruling_none : (d : ℕ) → ruling [] d ≡ Absent
 unfolding ruling
 ruling_none d = refl
 
-ruling_with : (d : ℕ) (S : Settings) (f : Field) → ruling (withField S f).hops d ≡ ruled_by d (ruling S.hops d) f
-unfolding withField ruled_by ruling
+ruling_with : (d : ℕ) (S : Settings) (f : Field) → ruling (with_field S f).hops d ≡ ruled_by d (ruling S.hops d) f
+unfolding with_field ruled_by ruling
 ruling_with d S cut = refl
 ruling_with d S (field tag v) =
     by-test (eqb tag 2)
-    (λ e. rw e (foldl-append (newer d) Absent S.hops (hopOf v ∷ [])))
+    (λ e. rw e (foldl-append (newer d) Absent S.hops (hop_of v ∷ [])))
     (λ e. by-test (eqb tag 3) (λ f. rw (e, f)) (λ f. by-test (eqb tag 6) (λ g. rw (e, f, g)) (λ g. rw (e, f, g))))
 
 -- and what all do
-fold_along : {A : Type 0} (said : Settings → A) (step : A → Field → A) → ((S : Settings) (f : Field) → said (withField S f) ≡ step (said S) f)
-    → (S : Settings) (fs : List Field) → said (foldl withField S fs) ≡ foldl step (said S) fs
+fold_along : {A : Type 0} (said : Settings → A) (step : A → Field → A) → ((S : Settings) (f : Field) → said (with_field S f) ≡ step (said S) f)
+    → (S : Settings) (fs : List Field) → said (foldl with_field S fs) ≡ foldl step (said S) fs
 fold_along said step with S [] = refl
-fold_along said step with S (f ∷ fs) = fold_along said step with (withField S f) fs ∙ ap (λ (a : _). foldl step a fs) (with S f)
+fold_along said step with S (f ∷ fs) = fold_along said step with (with_field S f) fs ∙ ap (λ (a : _). foldl step a fs) (with S f)
 
 -- of settings whose first field is taken
 module _ (s : List ℕ) {tag size next : ℕ} (e : field_at s 0 ≡ Taken tag size next) where
-  pub flags_read : (r : Flags) → FoldedFrom flagged_by no_flags s next r → r ≡ flags_of (settingsRead s)
-  flags_read r f = cc (read_on s e, fold_along flags_of flagged_by flags_with (switchOf (part s 3 (next - 3))) (fields_at s next))
+  pub flags_read : (r : Flags) → FoldedFrom flagged_by no_flags s next r → r ≡ flags_of (settings_read s)
+  flags_read r f = cc (read_on s e, fold_along flags_of flagged_by flags_with (switch_of (part s 3 (next - 3))) (fields_at s next))
 
-  pub rules : (d : ℕ) (b : Ruling) → FoldedFrom (ruled_by d) Absent s next b → ruling (settingsRead s).hops d ≡ b
+  pub rules : (d : ℕ) (b : Ruling) → FoldedFrom (ruled_by d) Absent s next b → ruling (settings_read s).hops d ≡ b
   rules d b f =
       cc (
         read_on s e,
-        fold_along (λ S. ruling S.hops d) (ruled_by d) (ruling_with d) (switchOf (part s 3 (next - 3))) (fields_at s next),
+        fold_along (λ S. ruling S.hops d) (ruled_by d) (ruling_with d) (switch_of (part s 3 (next - 3))) (fields_at s next),
         ruling_none d,
       )
 
@@ -150,7 +150,7 @@ module _ (s : List ℕ) (read : FieldRead) (is : read ≡ field_at s 0) where
   pub own_read : (tag size next : ℕ) → read ≡ Taken tag size next → (n m : ℕ) → n ≡ be16 (part s 3 (next - 3)) 0 → m ≡ be64 (part s 3 (next - 3)) 0
       → Owns (record { nickname = n; word = m * 65536 % 18446744073709551616 }) (switch_at s)
   own_read tag size next e n m en em =
-      let v = switchOf (part s 3 (next - 3)) in
+      let v = switch_of (part s 3 (next - 3)) in
       let high : m * 65536 % 18446744073709551616 / 65536 ≡ be48 (part s 3 (next - 3)) 2 = omega arith in
       rw (read_on s (sym is ∙ e))
       (record {
@@ -183,10 +183,10 @@ module _ (s : List ℕ) (from d : ℕ) (seen : List ℕ) (n : ℕ) (best : Rulin
 
       module _ (two : tag ≡ 2) (r : Record) (its : r ≡ record_of v) (taken : Bool) (seen' : List ℕ)
           (k : Taking (hop_taken (ranks_met s from n) n (length v) (hop_by r)) (with_rank (ranks_met s from n) (hop_by r)) taken seen') where
-        hop_is : hop_by r ≡ hopOf v
+        hop_is : hop_by r ≡ hop_of v
         hop_is = rw its (hop_same v)
 
-        step : Taking (hop_taken (ranks_met s from n) n (length v) (hopOf v)) (with_rank (ranks_met s from n) (hopOf v)) taken seen'
+        step : Taking (hop_taken (ranks_met s from n) n (length v) (hop_of v)) (with_rank (ranks_met s from n) (hop_of v)) taken seen'
         step =
             subst (λ (x : NextHop). Taking (hop_taken (ranks_met s from n) n (length v) x) (with_rank (ranks_met s from n) x) taken seen') hop_is k
 
@@ -230,7 +230,7 @@ withdrawn_by r best c e is = rw e is
 pub ruleset unless_withdrawn_laws = (if_laws, withdrawn_by)
 
 -- the whole
-bad_validated : {s : List ℕ} {d : ℕ} {r : Validated} → r.good ≡ false → false ≡ known (settingsOf s) → ValidatedBy s d r
+bad_validated : {s : List ℕ} {d : ℕ} {r : Validated} → r.good ≡ false → false ≡ known (settings_of s) → ValidatedBy s d r
 bad_validated b k = record { validated = b ∙ k; finds = λ t. absurd (false≢true (sym b ∙ t)) }
 
 module _ (s : List ℕ) (d : ℕ) (read : FieldRead) (q : read ≡ field_at s 0) where
@@ -249,7 +249,7 @@ module _ (s : List ℕ) (d : ℕ) (read : FieldRead) (q : read ≡ field_at s 0)
           finds = λ g own o.
               let said = flags_read s (sym q ∙ t) scan.flags (y.flagged g) in
               finds (switch_at s) d own scan.flags.strip scan.flags.rfc7179 hop o (cc) (cc)
-              (cc (rules s (sym q ∙ t) d scan.best (y.ruled g), next_hop_lem (settingsRead s) d));
+              (cc (rules s (sym q ∙ t) d scan.best (y.ruled g), next_hop_lem (settings_read s) d));
         }
 
 pub ruleset validate_laws = (rules, taken, taken_first, validated_cut, validated_shut, validated_scan)

@@ -1,7 +1,7 @@
 -- What is forwarded and what is replied as the code writes it: what is ready gives what each call asks, and each way out is the answer and the
 -- buffer that the rules define. One law for each need, over what the calls before it ensure, for `search` to cite.
 use Rattle.rules.specs as rules
-use rules.Header.{readFrame, opLength, innerStart, areaOf, inner_of}
+use rules.Header.{read_frame, op_length, inner_start, area_of, inner_of}
 use rules.declared.FrameRead.TheVariants.{Trill}
 use rules.declared.{NextHop.NextHop, Header.Header, Ruling.Ruling}
 use rules.declared.Ruling.TheVariants.{Found, Absent}
@@ -15,8 +15,8 @@ use native.Mathlib.Omega.{arith}
 use native.Mathlib.Nat.{zero-add}
 use borrow.Author.Rules.{rules}
 use lib.ListN.{length, length-append, length-take, take, drop, length-drop}
-use rules.{Octets.octet, Settings.Ways, Link.link, Extension.areaSent}
-use rules.Channel.{errorBody, echoBody, errorReply, echoReply, replyRest, replyInner, body_of, returnPath, silenced}
+use rules.{Octets.octet, Settings.Ways, Link.link, Extension.area_sent}
+use rules.Channel.{error_body, echo_body, error_reply, echo_reply, reply_rest, reply_inner, body_of, return_path, silenced}
 use Rattle.rules.proofs as ruleLaws
 use ruleLaws.FrameLaws.{link-most, frame-read, link-length, length-link}
 use ruleLaws.{ReplyLaws.echo_body_length, OptionLaws.stripped_word}
@@ -27,13 +27,13 @@ use specs.declared.answers.Answer.{Answer}
 use specs.Shapes.{Owns, Sends, reply_octets, Replied, answer_of, wrote_by, link_size, rest_with, ways_by, Fits, Ready, Done}
 use mathlib.Core.Bool.{Bool, true, false, not, ◌&&◌}
 use lib.Seq.{drop-drop}
-use rules.Handling.{forwarded, forwardedRest, onward, faulted, echoed}
+use rules.Handling.{forwarded, forwarded_rest, onward, faulted, echoed}
 use ruleLaws.TestLaws.{by-test}
 use ruleLaws.HandlingLaws.{onward-long, onward-sent, faulted-silent, faulted-none, faulted-over, echoed-mode, echoed-none, echoed-over}
 use Rattle.rules.specs.Answer as A
 
 -- a frame that was read
-module _ (f : List ℕ) (h : Header) (is : readFrame f ≡ Trill h) where
+module _ (f : List ℕ) (h : Header) (is : read_frame f ≡ Trill h) where
   pub frame_near : h.place ≤ 18
   frame_near = omega (arith, (frame-read f h is).its_place, link-length f)
 
@@ -46,18 +46,18 @@ module _ (f : List ℕ) (h : Header) (is : readFrame f ≡ Trill h) where
 pub ruleset ready = (frame_near, frame_from, frame_place)
 
 -- the parts of a frame that the code holds
-module _ (f : List ℕ) (h : Header) (start : ℕ) (i : start ≡ innerStart h) where
+module _ (f : List ℕ) (h : Header) (start : ℕ) (i : start ≡ inner_start h) where
   pub inner_held : take (length f - start) (drop start f) ≡ inner_of f h
-  inner_held = rw i (lent_rest f (innerStart h))
+  inner_held = rw i (lent_rest f (inner_start h))
 
   pub body_held : take (length f - (start + 22)) (drop (start + 22) f) ≡ body_of (inner_of f h)
-  body_held = rw i (lent_rest f (innerStart h + 22) ∙ sym (drop-drop 22 (innerStart h) f))
+  body_held = rw i (lent_rest f (inner_start h + 22) ∙ sym (drop-drop 22 (inner_start h) f))
 
   pub body_within : 18 ≤ length (body_of (inner_of f h)) → start + 22 ≤ length f
-  body_within b = let n : length (body_of (inner_of f h)) ≡ length f - innerStart h - 22 = simp length-drop in omega arith
+  body_within b = let n : length (body_of (inner_of f h)) ≡ length f - inner_start h - 22 = simp length-drop in omega arith
 
-  pub area_held : take (start - (h.place + 6)) (drop (h.place + 6) f) ≡ areaOf f h
-  area_held = let n : start - (h.place + 6) ≡ 4 * opLength h.word = omega arith in rw n
+  pub area_held : take (start - (h.place + 6)) (drop (h.place + 6) f) ≡ area_of f h
+  area_held = let n : start - (h.place + 6) ≡ 4 * op_length h.word = omega arith in rw n
 
 -- and how long they are
 pub held_least : (k : ℕ) (lent whole : List ℕ) → k ≤ length whole → lent ≡ whole → k ≤ length lent
@@ -86,7 +86,7 @@ by_hop (Found r) lost found = found r refl
 
 -- the next hop back
 abbrev back : Ways → Header → Ruling
-back S h = returnPath S h.ingress
+back S h = return_path S h.ingress
 
 pub link_room : (r : NextHop) (out : List ℕ) → 18 ≤ length out → link_size r.vlan ≤ length out
 link_room r out h = omega (arith, link_sized r.vlan)
@@ -95,15 +95,15 @@ pub room_18 : (out : List ℕ) → 2048 ≤ length out → 18 ≤ length out
 room_18 out h = omega arith
 
 -- 29 and 50, with the area as it is sent
-pub sends_area : {S : Ways} {f : List ℕ} {h : Header} {area : List ℕ} → Sends S f h area → areaSent S (areaOf f h) ≡ area
+pub sends_area : {S : Ways} {f : List ℕ} {h : Header} {area : List ℕ} → Sends S f h area → area_sent S (area_of f h) ≡ area
 sends_area x = x.goes
 
 pub sends_few : {S : Ways} {f : List ℕ} {h : Header} {area : List ℕ} → Sends S f h area → length area ≤ 124
 sends_few x = x.few
 
-module _ (S : Ways) (r : NextHop) (f : List ℕ) (h : Header) (out area : List ℕ) (goes : areaSent S (areaOf f h) ≡ area) where
+module _ (S : Ways) (r : NextHop) (f : List ℕ) (h : Header) (out area : List ℕ) (goes : area_sent S (area_of f h) ≡ area) where
   forwards : link S r ++ rest_with area f h ≡ forwarded S r f h
-  unfolding forwarded forwardedRest rest_with
+  unfolding forwarded forwarded_rest rest_with
   forwards = rw goes
 
   forwards_long : length (forwarded S r f h) ≡ link_size r.vlan + length (rest_with area f h)
@@ -136,14 +136,14 @@ pub ruleset onward_laws = (rules, ready, link_room, room_18, onward_over, onward
 
 -- how long it is
 module _ {f : List ℕ} {h : Header} (ready : Ready f h) where
-  pub area_words : length (areaOf f h) ≡ 4 * opLength h.word
-  area_words = length_part f (h.place + 6) (4 * opLength h.word) ready.area_whole
+  pub area_words : length (area_of f h) ≡ 4 * op_length h.word
+  area_words = length_part f (h.place + 6) (4 * op_length h.word) ready.area_whole
 
-  pub area_few : length (areaOf f h) ≤ 124
+  pub area_few : length (area_of f h) ≤ 124
   area_few = omega (arith, area_words)
 
-  pub whole_long : length f - h.place ≡ length (rest_with (areaOf f h) f h)
-  whole_long = omega (arith, rest_long f h (areaOf f h), area_words)
+  pub whole_long : length f - h.place ≡ length (rest_with (area_of f h) f h)
+  whole_long = omega (arith, rest_long f h (area_of f h), area_words)
 
   pub whole_add : (r : NextHop) (k : ℕ) → k ≡ link_size r.vlan → k + (length f - h.place) < 18446744073709551616
   whole_add r k e = omega (arith, link_sized r.vlan)
@@ -151,7 +151,7 @@ module _ {f : List ℕ} {h : Header} (ready : Ready f h) where
 pub ruleset send_whole_laws = (onward_laws, area_few, whole_long, whole_add)
 
 -- with another area
-pub with_long : (f : List ℕ) (h : Header) (area : List ℕ) (inner : ℕ) → inner ≡ innerStart h
+pub with_long : (f : List ℕ) (h : Header) (area : List ℕ) (inner : ℕ) → inner ≡ inner_start h
     → 6 + length area + (length f - inner) ≡ length (rest_with area f h)
 with_long f h area inner start = omega (arith, rest_long f h area)
 
@@ -165,12 +165,12 @@ module _ {f : List ℕ} {h : Header} (is : Ready f h) {S : Ways} {area : List �
 pub ruleset send_with_laws = (onward_laws, sends_area, sends_few, with_long, with_size, with_sum)
 
 -- a frame without an area goes on as it is
-module _ (S : Ways) {f : List ℕ} {h : Header} (is : Ready f h) (none : opLength h.word ≡ 0) where
-  pub plain_sent : areaSent S (areaOf f h) ≡ areaOf f h
-  unfolding areaSent
+module _ (S : Ways) {f : List ℕ} {h : Header} (is : Ready f h) (none : op_length h.word ≡ 0) where
+  pub plain_sent : area_sent S (area_of f h) ≡ area_of f h
+  unfolding area_sent
   plain_sent =
-      let word : length (areaOf f h) ≤ 4 = omega (arith, area_words is) in
-      by-test (S.strip && not S.rfc7179) (λ u. rw (u, stripped_word (areaOf f h) word)) (λ u. rw u)
+      let word : length (area_of f h) ≤ 4 = omega (arith, area_words is) in
+      by-test (S.strip && not S.rfc7179) (λ u. rw (u, stripped_word (area_of f h) word)) (λ u. rw u)
 
 -- a reply is short
 pub reply_short : {reply out out1 : List ℕ} {n : ℕ} → Replied reply n out out1 → n ≤ 2048
@@ -186,7 +186,7 @@ module _ (S : Ways) (f : List ℕ) (h : Header) (code : ℕ) (inner : List ℕ) 
     pub fault_lost : a ≡ answer_of (A.dropped 25) → R ≡ Absent → Done (faulted S f h code) a out out
     fault_lost is e = done_dropped 25 (faulted-none S f h code (cc) (cc)) is
 
-    pub fault_sent : (hop : NextHop) → R ≡ Found hop → (n : ℕ) (out1 : List ℕ) → Replied (errorReply S hop f h code) n out out1
+    pub fault_sent : (hop : NextHop) → R ≡ Found hop → (n : ℕ) (out1 : List ℕ) → Replied (error_reply S hop f h code) n out out1
         → a ≡ wrote_by 53 n hop.neighbour → Done (faulted S f h code) a out out1
     fault_sent hop e n out1 p = done_wrote 53 hop.neighbour n (faulted-over S f h code (cc) hop (cc)) p.wrote
 
@@ -202,7 +202,7 @@ module _ (S : Ways) (f : List ℕ) (h : Header) (clock body : List ℕ) (held : 
     pub echo_lost : a ≡ answer_of (A.dropped 28) → R ≡ Absent → Done (echoed S clock f h) a out out
     echo_lost is e = done_dropped 28 (echoed-none S f h clock (cc) (cc)) is
 
-    pub echo_sent : (hop : NextHop) → R ≡ Found hop → (n : ℕ) (out1 : List ℕ) → Replied (echoReply S hop h clock body) n out out1
+    pub echo_sent : (hop : NextHop) → R ≡ Found hop → (n : ℕ) (out1 : List ℕ) → Replied (echo_reply S hop h clock body) n out out1
         → a ≡ wrote_by 54 n hop.neighbour → Done (echoed S clock f h) a out out1
     echo_sent hop e n out1 p = done_wrote 54 hop.neighbour n (echoed-over S f h clock (cc) hop (cc)) (rw held at p.wrote)
 
@@ -219,16 +219,16 @@ module _ (S : Ways) (r : NextHop) (out : List ℕ) (roomy : 576 ≤ length out) 
           let size = length-append (reply_octets own h.ingress number code) body in
           rw (← is) (record { wrote = all; few = omega (arith, link-most S r, all.ends) })
 
-      pub error_made : (f : List ℕ) (code : ℕ) → Wrote (reply_octets own h.ingress 0x001 code ++ errorBody f h) k end out1 out2
-          → Replied (errorReply S r f h code) end out out2
-      unfolding errorReply replyRest replyInner
-      error_made f code = reply_made 0x001 code (errorBody f h) (errorReply S r f h code) (rw (owned.named, owned.addressed)) (rw length-take (omega arith))
+      pub error_made : (f : List ℕ) (code : ℕ) → Wrote (reply_octets own h.ingress 0x001 code ++ error_body f h) k end out1 out2
+          → Replied (error_reply S r f h code) end out out2
+      unfolding error_reply reply_rest reply_inner
+      error_made f code = reply_made 0x001 code (error_body f h) (error_reply S r f h code) (rw (owned.named, owned.addressed)) (rw length-take (omega arith))
 
       pub echo_made : (clock body : List ℕ) → length clock ≡ 6 → 18 ≤ length body → length body ≤ 530
-          → Wrote (reply_octets own h.ingress 0xFF8 0 ++ echoBody body clock) k end out1 out2 → Replied (echoReply S r h clock body) end out out2
-      unfolding echoReply replyRest replyInner
+          → Wrote (reply_octets own h.ingress 0xFF8 0 ++ echo_body body clock) k end out1 out2 → Replied (echo_reply S r h clock body) end out out2
+      unfolding echo_reply reply_rest reply_inner
       echo_made clock body six enough few =
-          reply_made 0xFF8 0 (echoBody body clock) (echoReply S r h clock body) (rw (owned.named, owned.addressed))
+          reply_made 0xFF8 0 (echo_body body clock) (echo_reply S r h clock body) (rw (owned.named, owned.addressed))
           (rw (echo_body_length body clock enough six) few)
 
     module _ (same : length out1 ≡ length out) where

@@ -1,9 +1,9 @@
 -- A buffer written in stages: what fits is written, and writes to places side by side are one write. So a link header, a forwarded frame behind
 -- it (its header and the rest in one, or another area before the inner frame), and the two replies. By laws of parts and of `put`.
 use Rattle.rules.specs as rules
-use rules.{Settings.Ways, Channel.echoBody, Channel.ethertype_channel, Channel.all_egress_rbridges}
-use rules.Link.{outerTag, link, ethertypeTag, ethertypeTrill}
-use rules.Header.{opLength, innerStart, readFrame, areaOf, inner_of}
+use rules.{Settings.Ways, Channel.echo_body, Channel.ethertype_channel, Channel.all_egress_rbridges}
+use rules.Link.{outer_tag, link, ethertype_tag, ethertype_trill}
+use rules.Header.{op_length, inner_start, read_frame, area_of, inner_of}
 use Rattle.rules.proofs.{TestLaws.and_left, TestLaws.and_right, TestLaws.by-test}
 use borrow.Author.Tests.{eq-eqb, ne_eqb}
 use borrow.Author.Rules.{rules}
@@ -101,12 +101,12 @@ module _ (S : Ways) (r : NextHop) (word : ℕ) (own : word / 65536 ≡ S.mac) (d
       over macs (octets16 word) first refl (copied q e (omega (arith, wrote_long first (omega arith)))) more (omega arith)
 
   pub plain_written : r.vlan ≡ 0 → end ≡ octets16 0x22F3 → Wrote (link S r) 0 n d d2
-  unfolding link outerTag macs
+  unfolding link outer_tag macs
   plain_written z e = rw (z, ← own) (behind e (rw z at room) (omega arith))
 
-  pub tagged_written : (r.vlan ≡ 0 → ⊥) → (s : List ℕ) → s ≡ octets16 ethertypeTag ++ octets16 r.vlan ++ octets16 ethertypeTrill ++ octets16 0
+  pub tagged_written : (r.vlan ≡ 0 → ⊥) → (s : List ℕ) → s ≡ octets16 ethertype_tag ++ octets16 r.vlan ++ octets16 ethertype_trill ++ octets16 0
       → end ≡ take 6 s → Wrote (link S r) 0 n d d2
-  unfolding link outerTag macs
+  unfolding link outer_tag macs
   tagged_written z s is e = rw (ne_eqb r.vlan 0 z, ← own) (behind (e ∙ ap (take 6) is) (rw (ne_eqb r.vlan 0 z) at room) (omega arith))
 
 pub six_of_eight : (a b c d : ℕ) (s : List ℕ) → s ≡ octets16 a ++ octets16 b ++ octets16 c ++ octets16 d → 6 ≡ length (take 6 s)
@@ -122,14 +122,14 @@ module _ (f : List ℕ) (h : Header) (area : List ℕ) where
   abbrev word : List ℕ
   word = octets16 (sent_by h.word (length area / 4))
 
-  pub rest_long : length (rest_with area f h) ≡ 6 + length area + (length f - innerStart h)
+  pub rest_long : length (rest_with area f h) ≡ 6 + length area + (length f - inner_start h)
   unfolding rest_with
   rest_long =
       let head = word ++ octets16 h.egress ++ octets16 h.ingress in
-      length-append (head ++ area) (inner_of f h) ∙ rw (length-append head area, length-drop (innerStart h) f)
+      length-append (head ++ area) (inner_of f h) ∙ rw (length-append head area, length-drop (inner_start h) f)
 
 -- its header: the nicknames go on as they were received
-module _ (f : List ℕ) (h : Header) (read : readFrame f ≡ Trill h) (small : (i : ℕ) → Val.Fits w8 (get_or f i 0)) where
+module _ (f : List ℕ) (h : Header) (read : read_frame f ≡ Trill h) (small : (i : ℕ) → Val.Fits w8 (get_or f i 0)) where
   nicknames : octets16 h.egress ++ octets16 h.ingress ≡ part f (h.place + 2) 4
   nicknames =
       let is = frame-read f h read in
@@ -163,7 +163,7 @@ module _ (f : List ℕ) (h : Header) (whole : h.place + 6 ≤ length f) where
 
 -- another area than the one received, then the inner frame
 module _ (area f : List ℕ) (h : Header) (d : List ℕ) (at : ℕ) (fits : Fits area f h d at) (small : (i : ℕ) → Val.Fits w8 (get_or f i 0)) where
-  pub with_written : (d1 d2 d3 : List ℕ) (here there inner words end : ℕ) → words ≡ length area / 4 → inner ≡ innerStart h
+  pub with_written : (d1 d2 d3 : List ℕ) (here there inner words end : ℕ) → words ≡ length area / 4 → inner ≡ inner_start h
       → Wrote (header_sent f h words) at here d d1 → Wrote (fitting d1 here area) here there d1 d2
       → Wrote (fitting d2 there (take (length f - inner) (drop inner f))) there end d2 d3 → Wrote (rest_with area f h) at end d d3
   with_written d1 d2 d3 here there inner words end ew ei p q r =
@@ -172,24 +172,24 @@ module _ (area f : List ℕ) (h : Header) (d : List ℕ) (at : ℕ) (fits : Fits
       let head = header_sent f h (length area / 4) in
       let two = copied_on (rw ew at p) q refl (omega (arith, fits.room, long, six)) in
       rw (rest_is f h fits.read small area)
-      (copied_on two r (lent_rest f inner ∙ rw ei) (omega (arith, fits.room, long, six, length-drop (innerStart h) f, length-append head area)))
+      (copied_on two r (lent_rest f inner ∙ rw ei) (omega (arith, fits.room, long, six, length-drop (inner_start h) f, length-append head area)))
 
 -- all behind the first word as it was received
-module _ (f : List ℕ) (h : Header) (d : List ℕ) (at : ℕ) (fits : Fits (areaOf f h) f h d at) (small : (i : ℕ) → Val.Fits w8 (get_or f i 0)) where
-  area_long : length (areaOf f h) ≡ 4 * opLength h.word
-  area_long = length_part f (h.place + 6) (4 * opLength h.word) fits.area_whole
+module _ (f : List ℕ) (h : Header) (d : List ℕ) (at : ℕ) (fits : Fits (area_of f h) f h d at) (small : (i : ℕ) → Val.Fits w8 (get_or f i 0)) where
+  area_long : length (area_of f h) ≡ 4 * op_length h.word
+  area_long = length_part f (h.place + 6) (4 * op_length h.word) fits.area_whole
 
-  pub whole_written : (octets d1 d2 : List ℕ) (here words n end : ℕ) → words ≡ opLength h.word → n ≡ sent_by h.word words → octets ≡ octets16 n
+  pub whole_written : (octets d1 d2 : List ℕ) (here words n end : ℕ) → words ≡ op_length h.word → n ≡ sent_by h.word words → octets ≡ octets16 n
       → Wrote (fitting d at octets) at here d d1
-      → Wrote (fitting d1 here (take (length f - (h.place + 2)) (drop (h.place + 2) f))) here end d1 d2 → Wrote (rest_with (areaOf f h) f h) at end d d2
+      → Wrote (fitting d1 here (take (length f - (h.place + 2)) (drop (h.place + 2) f))) here end d1 d2 → Wrote (rest_with (area_of f h) f h) at end d d2
   whole_written octets d1 d2 here words n end ew en eo p q =
-      let area = areaOf f h in
+      let area = area_of f h in
       let four = part f (h.place + 2) 4 in
       let word = octets16 (sent_by h.word (length area / 4)) in
       let quarter : words ≡ length area / 4 = omega (arith, area_long, ew) in
       let next : h.place + 2 + 4 ≡ h.place + 6 = omega arith in
       let behind : four ++ (area ++ inner_of f h) ≡ drop (h.place + 2) f =
-      rw (drop_part f (h.place + 6) (4 * opLength h.word)) (rw next at (drop_part f (h.place + 2) 4)) in
+      rw (drop_part f (h.place + 6) (4 * op_length h.word)) (rw next at (drop_part f (h.place + 2) 4)) in
       let first : Wrote word at here d d1 = copied p (rw (en, quarter) at eo) (omega (arith, fits.room, rest_long f h area)) in
       rw (rest_is f h fits.read small area, append_assoc (word ++ four) area (inner_of f h), append_assoc word four (area ++ inner_of f h), behind)
       (copied_on first q (lent_rest f (h.place + 2)) (omega (arith, fits.room, length-drop (h.place + 2) f, rest_long f h area, area_long)))
@@ -216,11 +216,11 @@ module _ (own : Own) (ingress number code : ℕ) where
   pub reply_written : (at i j end : ℕ) (d d1 d2 d3 d4 a b c : List ℕ) → at + 28 ≤ length d
       → a ≡ octets16 0x003F ++ octets16 ingress ++ octets16 own.nickname ++ octets16 0 → Wrote (fitting d at a) at i d d1
       → Wrote (octets48 all_egress_rbridges ++ octets64 own.word) (at + 6) (at + 6 + 14) d1 d2
-      → b ≡ octets16 ethertypeTag ++ octets16 0x0001 ++ octets16 ethertype_channel ++ octets16 number → Wrote (fitting d2 (at + 18) b) (at + 18) j d2 d3
+      → b ≡ octets16 ethertype_tag ++ octets16 0x0001 ++ octets16 ethertype_channel ++ octets16 number → Wrote (fitting d2 (at + 18) b) (at + 18) j d2 d3
       → c ≡ octets16 (0xC000 + code) → Wrote (fitting d3 (at + 26) c) (at + 26) end d3 d4 → Wrote reply at end d d4
   reply_written at i j end d d1 d2 d3 d4 a b c room ea p q eb r ec s =
       let header = octets16 0x003F ++ octets16 ingress ++ octets16 own.nickname in
-      let channel = octets16 ethertypeTag ++ octets16 0x0001 ++ octets16 ethertype_channel ++ octets16 number in
+      let channel = octets16 ethertype_tag ++ octets16 0x0001 ++ octets16 ethertype_channel ++ octets16 number in
       let macs = octets48 all_egress_rbridges ++ octets48 (own.word / 65536) in
       let one : Wrote (header ++ octets16 0) at i d d1 = copied p ea (omega arith) in
       let two : Wrote (header ++ macs ++ octets16 own.word) at (at + 6 + 14) d d2 = over header (octets16 0) one refl q (omega arith) (omega arith) in
@@ -241,7 +241,7 @@ module _ (own : Own) (ingress number code : ℕ) where
       pub echo_fits : length d1 ≡ length d → here + length body ≤ length d1
       echo_fits same = omega (arith, p.ends)
 
-      pub echo_written : (clock : List ℕ) → Wrote (echoBody body clock) here end d1 d2 → Wrote (reply ++ echoBody body clock) at end d d2
+      pub echo_written : (clock : List ℕ) → Wrote (echo_body body clock) here end d1 d2 → Wrote (reply ++ echo_body body clock) at end d d2
       echo_written clock = joined p
 
 pub ruleset write_head_laws = (rules, head_room, reply_written)
@@ -284,8 +284,8 @@ module _ (body clock : List ℕ) (long : 18 ≤ length body) (six : length clock
     (room : at + length body ≤ length d) where
   pub body_written : Wrote (fitting d at body) at end d d1 → Wrote (fitting d1 at (a ∷ [])) at here d1 d2
       → Wrote (fitting d2 (at + 12) (get_or clock 0 0 ∷ get_or clock 1 0 ∷ get_or clock 2 0 ∷ get_or clock 3 0 ∷ get_or clock 4 0 ∷ get_or clock 5 0 ∷ []))
-      (at + 12) there d2 d3 → a ≡ 64 + o % 16 → o ≡ octet body 0 → Wrote (echoBody body clock) at end d d3
-  unfolding echoBody
+      (at + 12) there d2 d3 → a ≡ 64 + o % 16 → o ≡ octet body 0 → Wrote (echo_body body clock) at end d d3
+  unfolding echo_body
   body_written p q r ea eo =
       let whole = copied p refl room in
       let kept = wrote_long whole (omega (arith, whole.ends)) in

@@ -11,7 +11,7 @@ use borrow.Author.Tests.{lt-ltb, le-ltb, le-leb, lt-leb, eq-eqb, ne_eqb, not-tru
 use lib.Dec.{leb, eqb}
 use lib.ListN.{length, get_or}
 use Rattle.rules.specs as rules
-use rules.{Settings.nicknameValid, Header.weAreEgress, Handling.routed}
+use rules.{Settings.nickname_valid, Header.we_are_egress, Handling.routed}
 use rules.declared.{Header.Header, NextHop.NextHop, Ruling.Ruling}
 use rules.declared.Ruling.TheVariants.{Found, Absent}
 use Rattle.rules.proofs.TestLaws.{and_no}
@@ -23,7 +23,7 @@ use specs.declared.handling.Received.TheVariants.{Refused, Trill}
 use specs.{Shapes.dropped_by, Shapes.Owns, Shapes.only_for, Shapes.ways_by, Tasks.received_by, Tasks.Receiving, Tasks.Both}
 use proofs.TaskLaws.{both_of, finds, back_message, both_plain, copies, front_count, front_done, front_room, task_laws}
 use Rattle.stores.proofs.IndexLaws.{good_whole, step_past, step_up, step_stay, index_hinted, index_searched, for_past, for_other}
-use Rattle.stores.specs.Store.{nickname_in, count_in, dest_at, hopOf, hop_at, last_at, hint_at, index_in, hop_for, ways_in, store_good, handled_in, Whole}
+use Rattle.stores.specs.Store.{nickname_in, count_in, dest_at, hop_of, hop_at, last_at, hint_at, index_in, hop_for, ways_in, store_good, handled_in, Whole}
 use Rattle.rules.specs.Answer as A
 
 -- which words are good
@@ -42,7 +42,7 @@ module _ (w : List ℕ) where
     good_above h = rw (le-leb 4 (length w) a, lt-leb (get_or w 0 0) 0xFFBF h, and_no)
 
     module _ (b : get_or w 0 0 ≡ 0 → ⊥) (c : get_or w 0 0 ≤ 0xFFBF) where
-      named : nicknameValid (nickname_in w) ≡ true
+      named : nickname_valid (nickname_in w) ≡ true
       named = rw (le-leb 1 (get_or w 0 0) (omega (arith, b)), le-leb (get_or w 0 0) 0xFFBF c)
 
       pub good_many : 64 < get_or w 3 0 → false ≡ store_good w
@@ -94,7 +94,7 @@ pub ruleset hint_at_laws = (rules, hint_none, hint_so)
 
 -- the record there
 module _ (w : List ℕ) (n d i : ℕ) (a : i < n) (dest : ℕ) (is : dest ≡ dest_at w i) (b : dest ≡ d)
-    (r : NextHop) (e : r ≡ hopOf (get_or w (4 + 2 * i) 0) (get_or w (5 + 2 * i) 0)) where
+    (r : NextHop) (e : r ≡ hop_of (get_or w (4 + 2 * i) 0) (get_or w (5 + 2 * i) 0)) where
   pub for_withdrawn : r.neighbour ≡ 0 → Absent ≡ hop_for w n d i
   unfolding hop_for
   for_withdrawn h = cc (lt-ltb i n a, eq-eqb dest d b)
@@ -156,8 +156,8 @@ pub ruleset message_in_laws = (rules, lent_whole, lent_index, back_message, fron
 
 pub ruleset apart_in_laws = (rules, lent_whole, lent_ways, copies)
 
-pub away_in : (w : List ℕ) (h : Header) (own : Own) → Owns own (ways_in w) → (egress : Bool) → egress ≡ weAreEgress own.nickname h → egress ≡ false
-    → weAreEgress (nickname_in w) h ≡ false
+pub away_in : (w : List ℕ) (h : Header) (own : Own) → Owns own (ways_in w) → (egress : Bool) → egress ≡ we_are_egress own.nickname h → egress ≡ false
+    → we_are_egress (nickname_in w) h ≡ false
 away_in w h own x egress e f = rw (← x.named) (sym e ∙ f)
 
 pub ruleset area_in_laws = (task_laws, away_in)

@@ -1,10 +1,10 @@
 -- A task carried out: the answer without what is replied to an alert, the reply to one, and both together as the rules have them. By one law for each need.
 use Rattle.rules.specs as rules
-use rules.Handling.{forwardedRest, forwarded, onward, faulted, echoed, routed, transit, alerted, alertOf, channelled}
-use rules.{Settings.Ways, Options.WellFormed, Options.draftStops, Link.link}
-use rules.{Header.opLength, Header.areaOf, Header.inner_of, Header.weAreEgress}
-use rules.Extension.{areaSent, areaRead, areaStops, flagUnsummarized, summaryBare, extensionRead, extensionStops}
-use rules.Channel.{replyInner, body_of, replyMode, silenced, returnPath, errorReply, echoReply, replyRest, channelRead}
+use rules.Handling.{forwarded_rest, forwarded, onward, faulted, echoed, routed, transit, alerted, alert_of, channelled}
+use rules.{Settings.Ways, Options.WellFormed, Options.draft_stops, Link.link}
+use rules.{Header.op_length, Header.area_of, Header.inner_of, Header.we_are_egress}
+use rules.Extension.{area_sent, area_read, area_stops, flag_unsummarized, summary_bare, extension_read, extension_stops}
+use rules.Channel.{reply_inner, body_of, reply_mode, silenced, return_path, error_reply, echo_reply, reply_rest, channel_read}
 use Rattle.handler.proofs
 use proofs.StageLaws.{by_hop, ready, inner_held, area_held, done_dropped, done_unwritten, plain_sent}
 use proofs.RouteLaws.{area_made, read_well, arrives_faulty}
@@ -61,19 +61,19 @@ pub ruleset transit_laws = (rules, transit_lost, transit_refused, transit_sent)
 pub ruleset forward_laws = (rules, plain_sent, transit_lost, plain_forwarded)
 
 -- what a channel message comes to, by what it is found to be
-module _ (S : Ways) (clock f : List ℕ) (h : Header) (inner : List ℕ) (held : inner ≡ inner_of f h) (read : ChannelRead) (is : read ≡ channelRead inner)
+module _ (S : Ways) (clock f : List ℕ) (h : Header) (inner : List ℕ) (held : inner ≡ inner_of f h) (read : ChannelRead) (is : read ≡ channel_read inner)
     (r : Answer) (out : List ℕ) where
   pub message_fault : (code : ℕ) → read ≡ Fault code → (out1 : List ℕ) → Done (faulted S f h code) r out out1 → Done (messaged S clock f h) r out out1
   unfolding channelled
-  message_fault code e out1 d = let found : channelRead (inner_of f h) ≡ Fault code = cc in rw found d
+  message_fault code e out1 d = let found : channel_read (inner_of f h) ≡ Fault code = cc in rw found d
 
   pub message_request : read ≡ EchoRequest → (out1 : List ℕ) → Done (echoed S clock f h) r out out1 → Done (messaged S clock f h) r out out1
   unfolding channelled
-  message_request e out1 d = let found : channelRead (inner_of f h) ≡ EchoRequest = cc in rw found d
+  message_request e out1 d = let found : channel_read (inner_of f h) ≡ EchoRequest = cc in rw found d
 
   unanswered : (n : ℕ) (c : ChannelRead) → channelled S clock f h c ≡ A.dropped n → read ≡ c
       → r ≡ answer_of (A.dropped n) → Done (messaged S clock f h) r out out
-  unanswered n c so e made = let found : channelRead (inner_of f h) ≡ c = cc in done_dropped n (rw found so) made
+  unanswered n c so e made = let found : channel_read (inner_of f h) ≡ c = cc in done_dropped n (rw found so) made
 
   pub message_err : read ≡ BadErr → r ≡ answer_of (A.dropped 26) → Done (messaged S clock f h) r out out
   unfolding channelled
@@ -91,7 +91,7 @@ module _ (S : Ways) (clock f : List ℕ) (h : Header) (inner : List ℕ) (held :
   unfolding channelled
   message_echo = unanswered 56 EchoHeard refl
 
-module _ (f : List ℕ) (h : Header) (inner : List ℕ) (held : inner ≡ inner_of f h) (read : ChannelRead) (is : read ≡ channelRead inner)
+module _ (f : List ℕ) (h : Header) (inner : List ℕ) (held : inner ≡ inner_of f h) (read : ChannelRead) (is : read ≡ channel_read inner)
     (e : read ≡ EchoRequest) where
   ranged : (18 ≤ length (body_of (inner_of f h))) × (length (body_of (inner_of f h)) ≤ 530)
   ranged = echo_ranged (body_of (inner_of f h)) (channel_echo (inner_of f h) (cc))
@@ -149,7 +149,7 @@ numbered d = ap (λ (x : Answer). x.number) d.answer
 -- what is looked up for one destination says as much of it as the switch: of the ingress for a message, of the egress for a frame in transit
 module _ (S : Ways) (f : List ℕ) (h : Header) where
   pub same_channelled : (clock : List ℕ) (c : ChannelRead) → channelled S clock f h c ≡ channelled (only_for h.ingress S) clock f h c
-  unfolding channelled faulted echoed returnPath errorReply echoReply replyRest replyInner link
+  unfolding channelled faulted echoed return_path error_reply echo_reply reply_rest reply_inner link
   same_channelled clock (Fault code) = refl
   same_channelled clock BadErr = refl
   same_channelled clock ErrorHeard = refl
@@ -158,11 +158,11 @@ module _ (S : Ways) (f : List ℕ) (h : Header) where
   same_channelled clock EchoRequest = refl
 
   same_quiet : (alert : Alert) → transit_quiet S f h alert ≡ transit_quiet (only_for h.egress S) f h alert
-  unfolding transit_quiet onward forwarded forwardedRest areaSent link
+  unfolding transit_quiet onward forwarded forwarded_rest area_sent link
   same_quiet alert = refl
 
   pub same_message : (t : Lookup) → ways_by t ≡ only_for h.ingress S → (clock : List ℕ) → messaged S clock f h ≡ messaged (ways_by t) clock f h
-  same_message t said clock = rw (same_channelled clock (channelRead (inner_of f h)), ← said)
+  same_message t said clock = rw (same_channelled clock (channel_read (inner_of f h)), ← said)
 
   module _ (t : Lookup) (r : Answer) (out out1 : List ℕ) where
     pub back_message : ways_by t ≡ only_for h.ingress S → (clock : List ℕ) → Done (messaged (ways_by t) clock f h) r out out1
@@ -174,47 +174,47 @@ module _ (S : Ways) (f : List ℕ) (h : Header) where
     quiet_lookup said alert d = rw (same_quiet alert, ← said) d
 
   pub sends_lookup : (t : Lookup) (d : ℕ) → ways_by t ≡ only_for d S → (area : List ℕ) → Sends S f h area → Sends (ways_by t) f h area
-  unfolding areaSent
+  unfolding area_sent
   sends_lookup t d said area x = rw said (record { goes = x.goes; few = x.few })
 
 -- a frame without an area
-area_none : (f : List ℕ) (h : Header) → opLength h.word ≡ 0 → areaOf f h ≡ []
+area_none : (f : List ℕ) (h : Header) → op_length h.word ≡ 0 → area_of f h ≡ []
 area_none f h e = rw e
 
 nil_octet : (i : ℕ) → get_or {A = ℕ} [] i 0 ≡ 0
 nil_octet i = get_or-eq_default [] 0 {n = i} (omega arith)
 
-module _ (S : Ways) (clock f : List ℕ) (h : Header) (none : opLength h.word ≡ 0) where
-  pub none_read : areaRead S (areaOf f h) ≡ WellFormed
-  unfolding areaRead extensionRead flagUnsummarized summaryBare
+module _ (S : Ways) (clock f : List ℕ) (h : Header) (none : op_length h.word ≡ 0) where
+  pub none_read : area_read S (area_of f h) ≡ WellFormed
+  unfolding area_read extension_read flag_unsummarized summary_bare
   none_read = rw (area_none f h none) (by-test S.rfc7179 (λ e. simp (e, nil_octet)) (λ e. rw e (sym (area_short [] (omega arith)))))
 
-  pub none_stops : (egress : Bool) → areaStops S egress (areaOf f h) ≡ false
-  unfolding areaStops extensionStops draftStops
+  pub none_stops : (egress : Bool) → area_stops S egress (area_of f h) ≡ false
+  unfolding area_stops extension_stops draft_stops
   none_stops egress = rw (area_none f h none) (by-test S.rfc7179 (λ e. simp (e, nil_octet)) (λ e. simp (e, nil_octet)))
 
-  pub none_alert : alertOf S f h ≡ NoAlert
-  unfolding alertOf
+  pub none_alert : alert_of S f h ≡ NoAlert
+  unfolding alert_of
   none_alert = rw (area_none f h none) (by-test S.rfc7179 (λ e. simp (e, nil_octet)) (λ e. rw e))
 
-  module _ (nickname : ℕ) (named : nickname ≡ S.nickname) (egress : Bool) (e : egress ≡ weAreEgress nickname h) (r : Answer) (out out1 : List ℕ) where
+  module _ (nickname : ℕ) (named : nickname ≡ S.nickname) (egress : Bool) (e : egress ≡ we_are_egress nickname h) (r : Answer) (out out1 : List ℕ) where
     pub plain_egress : egress ≡ true → (local : Local) → Comes f h local → Done (local_at S clock f h local) r out out1 → Done (routed S clock f h) r out out1
     plain_egress t local x d =
-        rw (routed-egress S clock f h none_read (none_stops (weAreEgress S.nickname h)) (cc), x.same S clock) d
+        rw (routed-egress S clock f h none_read (none_stops (we_are_egress S.nickname h)) (cc), x.same S clock) d
 
     pub plain_transit : egress ≡ false → Done (transit_quiet S f h NoAlert) r out out1 → Done (routed S clock f h) r out out1
     unfolding transit transit_quiet alerted
     plain_transit t d =
-        rw (routed-transit S clock f h none_read (none_stops (weAreEgress S.nickname h)) (cc))
+        rw (routed-transit S clock f h none_read (none_stops (we_are_egress S.nickname h)) (cc))
         (by_hop (S.hop h.egress) (λ q. rw (transit, q) (rw (transit_quiet, q) at d)) (λ hop q. rw (transit, q, none_alert) (rw (transit_quiet, q) at d)))
 
 -- and to us
-pub arrives_plain : (rfc7179 : Bool) (f : List ℕ) (h : Header) (n : ℕ) → n ≡ opLength h.word → n ≡ 0 → (local : Local) → Comes f h local
+pub arrives_plain : (rfc7179 : Bool) (f : List ℕ) (h : Header) (n : ℕ) → n ≡ op_length h.word → n ≡ 0 → (local : Local) → Comes f h local
     → Arrives rfc7179 f h local
 arrives_plain rfc7179 f h n is z local x =
     record {
       same = λ S clock ours two.
-          routed-egress S clock f h (none_read S clock f h (sym is ∙ z)) (none_stops S clock f h (sym is ∙ z) (weAreEgress S.nickname h)) ours
+          routed-egress S clock f h (none_read S clock f h (sym is ∙ z)) (none_stops S clock f h (sym is ∙ z) (we_are_egress S.nickname h)) ours
           ∙ x.same S clock;
       ends = x.ends;
     }
@@ -364,7 +364,7 @@ finds S d own strip rfc7179 hop o s t p = rw (o.named, o.addressed, s, t, p)
 
 -- a frame in transit with an area, by its task
 module _ (S : Ways) (clock f : List ℕ) (h : Header) {rfc7179 strip : Bool} {kept : List ℕ} {task : Task} (x : Routes rfc7179 strip f h kept task)
-    (away : weAreEgress S.nickname h ≡ false) (two : rfc7179 ≡ S.rfc7179) (r : Answer) (out beside : List ℕ) where
+    (away : we_are_egress S.nickname h ≡ false) (two : rfc7179 ≡ S.rfc7179) (r : Answer) (out beside : List ℕ) where
   pub task_stopped : (number place : ℕ) → task ≡ Stopped number place → r ≡ answer_of (A.dropped_at number place)
       → Both (routed S clock f h) r out out beside beside
   task_stopped number place e is = rw (x.same S clock away two, e) (both_of beside (done_unwritten number place 0 refl is))
@@ -375,7 +375,7 @@ module _ (S : Ways) (clock f : List ℕ) (h : Header) {rfc7179 strip : Bool} {ke
 
 -- and one to us
 pub task_arrived : (S : Ways) (clock f : List ℕ) (h : Header) {rfc7179 : Bool} {local : Local} → Arrives rfc7179 f h local → rfc7179 ≡ S.rfc7179
-    → (nickname : ℕ) → nickname ≡ S.nickname → (egress : Bool) → egress ≡ weAreEgress nickname h → egress ≡ true
+    → (nickname : ℕ) → nickname ≡ S.nickname → (egress : Bool) → egress ≡ we_are_egress nickname h → egress ≡ true
     → (r : Answer) (out out1 beside : List ℕ) → Done (local_at S clock f h local) r out out1 → Both (routed S clock f h) r out out1 beside beside
 task_arrived S clock f h x two nickname named egress e t r out out1 beside d =
     both_of beside (rw (x.same S clock (rw (e, named) at t) two) d)
@@ -391,7 +391,7 @@ module _ {rfc7179 strip : Bool} {f : List ℕ} {h : Header} {kept : List ℕ} {t
     pub left_onward : Forwardable f h alert
     left_onward = rw e at x.left
 
-    put_aside : PutAside (sent_of (strip && not rfc7179) (areaOf f h)) kept size
+    put_aside : PutAside (sent_of (strip && not rfc7179) (area_of f h)) kept size
     put_aside = rw e at x.aside
 
     pub aside_within : size ≤ length kept
@@ -401,7 +401,7 @@ module _ {rfc7179 strip : Bool} {f : List ℕ} {h : Header} {kept : List ℕ} {t
     aside_count = sym (length-take-le size kept aside_within)
 
     pub aside_sent : (S : Ways) → strip ≡ S.strip → rfc7179 ≡ S.rfc7179 → Sends S f h (take size kept)
-    unfolding areaSent
+    unfolding area_sent
     aside_sent S s two =
         record { goes = rw (← s, ← two) put_aside.stands; few = omega (arith, length-take size kept, put_aside.few) }
 
@@ -443,14 +443,14 @@ Bare a = answer_of a ≡ wrote_by a.number (length a.octets) a.via
 message_bare : (S : Ways) (clock f : List ℕ) (h : Header) (c : ChannelRead) → Bare (channelled S clock f h c)
 unfolding channelled faulted echoed
 message_bare S clock f h (Fault code) =
-    by-test (silenced code (inner_of f h)) (λ t. rw t refl) (λ t. by_hop (returnPath S h.ingress) (λ q. rw (t, q) refl) (λ r q. rw (t, q) refl))
+    by-test (silenced code (inner_of f h)) (λ t. rw t refl) (λ t. by_hop (return_path S h.ingress) (λ q. rw (t, q) refl) (λ r q. rw (t, q) refl))
 message_bare S clock f h BadErr = refl
 message_bare S clock f h ErrorHeard = refl
 message_bare S clock f h BadEcho = refl
 message_bare S clock f h EchoHeard = refl
 message_bare S clock f h EchoRequest =
-    by-test (not (eqb (replyMode (body_of (inner_of f h))) 2)) (λ t. rw t refl)
-    (λ t. by_hop (returnPath S h.ingress) (λ q. rw (t, q) refl) (λ r q. rw (t, q) refl))
+    by-test (not (eqb (reply_mode (body_of (inner_of f h))) 2)) (λ t. rw t refl)
+    (λ t. by_hop (return_path S h.ingress) (λ q. rw (t, q) refl) (λ r q. rw (t, q) refl))
 
 -- what is lent in a copy, or lent on
 pub lent_clock : (clock clock' : List ℕ) → clock' ≡ clock → length clock ≡ 6 → length clock' ≡ 6
@@ -469,7 +469,7 @@ module _ (f f' : List ℕ) (lent : f' ≡ f) (h x : Header) (same : x ≡ h) whe
   copy_done r a made S S' ways clock clock' timed out out1 d =
       rw (← same, ← lent, ← ways, ← timed)
       (record {
-        answer = made ∙ rw d.answer (sym (message_bare S' clock' f' x (channelRead (inner_of f' x))));
+        answer = made ∙ rw d.answer (sym (message_bare S' clock' f' x (channel_read (inner_of f' x))));
         after = d.after;
         alone = d.alone;
       })

@@ -5,7 +5,7 @@ use mathlib.Core.Bool.{Bool, true, false, not, ◌&&◌, ◌||◌, false≢true}
 use Prim.Native.Nat.{ℕ, ◌%◌, ◌<◌}
 use borrow.Author.{Needs.needs, Tests.eq-eqb, Tests.ne_eqb, Tests.not-true, Tests.not-false}
 use lib.Dec.{eqb}
-use Rattle.rules.specs.Options.{hopByHopCritical, ingressToEgressCritical, implemented, strippable}
+use Rattle.rules.specs.Options.{hop_by_hop_critical, ingress_to_egress_critical, implemented, strippable}
 use Rattle.rules.proofs.TestLaws.{and_no, and_yes, by_equal, every_below, each_below}
 use Rattle.handler.specs.Treatment.{entry_in, Treats, transit_discards, egress_discards, strip_applies, is_flow_id, stripped_by}
 
@@ -22,8 +22,8 @@ is_same false true e = absurd (false≢true e)
 -- an entry says what the definitions say of its key, for Length 2 and for another
 abbrev pub agrees : List ℕ → ℕ → Bool
 agrees table key =
-    same (transit_discards (entry_in table key)) (hopByHopCritical key)
-    && same (egress_discards (entry_in table key)) (hopByHopCritical key || ingressToEgressCritical key)
+    same (transit_discards (entry_in table key)) (hop_by_hop_critical key)
+    && same (egress_discards (entry_in table key)) (hop_by_hop_critical key || ingress_to_egress_critical key)
     && same (not (eqb key 0x083) && strip_applies (entry_in table key)) (strippable key 2)
     && same (strip_applies (entry_in table key)) (strippable key 0)
 

@@ -14,8 +14,8 @@ use lib.ListN.{length, get_or, take, set, length-set, replicate, length-append}
 use lib.Seq.{get_or-set_same, get_or-set_other, take-nil, take-append-add}
 use Rattle.rules.specs as rules
 use rules.{Octets.part, Campus.known}
-use rules.Fields.{hopSize, field, cut, field_at, fields_at, lengthGood}
-use rules.Settings.{hopGood, hopOf, Settings, serialMet, withField, opens, opened, continues, settingsFrom, settingsOf}
+use rules.Fields.{hop_size, field, cut, field_at, fields_at, length_good}
+use rules.Settings.{hop_good, hop_of, Settings, serial_met, with_field, opens, opened, continues, settings_from, settings_of}
 use Rattle.rules.proofs as ruleLaws
 use ruleLaws.TestLaws.{and_no, or_no, or_yes, by-test, by_equal, by_order}
 use Rattle.octets.specs.Flags.{flag_by}
@@ -45,7 +45,7 @@ module _ (s : List ℕ) (at : ℕ) where
         let the_size : next - (at + 3) ≡ size = omega (arith, i) in
         rw the_size (fields-at-on s at tag size next (omega (arith, i)) t)
 
-    ranks_hop : tag ≡ 2 → ranks_in (fields_at s at) ≡ rank_of (hopOf value) ∷ ranks_in (fields_at s next)
+    ranks_hop : tag ≡ 2 → ranks_in (fields_at s at) ≡ rank_of (hop_of value) ∷ ranks_in (fields_at s next)
     unfolding ranks_in
     ranks_hop two = rw (fields_next, two)
 
@@ -78,7 +78,7 @@ module _ (s : List ℕ) (from n rank left at : ℕ) (l : Looking s from n rank l
       pub look_past : (tag ≡ 2 → ⊥) → Looking s from n rank left next
       look_past other = record { same = rw (ranks_flag s at tag size next (sym q ∙ t) other) at l.same }
 
-      module _ (two : tag ≡ 2) (some : left ≡ 0 → ⊥) (k : ℕ) (is : k ≡ rank_of (hopOf (part s (at + 3) (next - (at + 3))))) where
+      module _ (two : tag ≡ 2) (some : left ≡ 0 → ⊥) (k : ℕ) (is : k ≡ rank_of (hop_of (part s (at + 3) (next - (at + 3))))) where
         split : (fewer : ℕ) → left ≡ suc fewer → (eqb k rank || rank_met rank (take fewer (ranks_in (fields_at s next)))) ≡ rank_met rank (ranks_met s from n)
         unfolding rank_met
         split fewer more = rw is (rw (ranks_hop s at tag size next (sym q ∙ t) two, more) at l.same)
@@ -162,11 +162,11 @@ module _ (met seen : List ℕ) (n size : ℕ) (r : NextHop) where
   abbrev pub AdmitTo : Bool → List ℕ → Type 0
   AdmitTo taken = Taking (hop_taken met n size r) (with_rank met r) taken
 
-  pub admit_short : (sized : Bool) → sized ≡ hopSize size → not sized ≡ true → AdmitTo false seen
+  pub admit_short : (sized : Bool) → sized ≡ hop_size size → not sized ≡ true → AdmitTo false seen
   unfolding hop_taken
   admit_short sized is t = refused (rw (← is, not-true sized t))
 
-  pub admit_bad : (good : Bool) → good ≡ hopGood r → not good ≡ true → AdmitTo false seen
+  pub admit_bad : (good : Bool) → good ≡ hop_good r → not good ≡ true → AdmitTo false seen
   unfolding hop_taken
   admit_bad good is t = refused (rw (← is, not-true good t, and_no))
 
@@ -184,7 +184,7 @@ module _ (met seen : List ℕ) (n size : ℕ) (r : NextHop) where
     unfolding hop_taken
     admit_met new is t = refused (rw (← its_rank, ← is, not-true new t, and_no, and_no))
 
-    module _ (sized : Bool) (e_s : sized ≡ hopSize size) (s : not sized ≡ false) (good : Bool) (e_g : good ≡ hopGood r) (g : not good ≡ false)
+    module _ (sized : Bool) (e_s : sized ≡ hop_size size) (s : not sized ≡ false) (good : Bool) (e_g : good ≡ hop_good r) (g : not good ≡ false)
         (room : n < 64) where
       admitted : rank_met rank met ≡ false → AdmitTo true (set seen slot (marked_by (get_or seen slot 0) mark))
       unfolding hop_taken
@@ -208,52 +208,52 @@ module _ (met seen : List ℕ) (n size : ℕ) (r : NextHop) where
 pub ruleset admit_laws = (rules, admit_short, admit_bad, admit_full, admit_shows, admit_met, admit_first, admit_new)
 
 serial_snoc : (r q : NextHop) (hops : List NextHop)
-    → serialMet r (hops ++ (q ∷ [])) ≡ (serialMet r hops || (eqb q.destination r.destination && eqb q.serial r.serial))
-unfolding serialMet
+    → serial_met r (hops ++ (q ∷ [])) ≡ (serial_met r hops || (eqb q.destination r.destination && eqb q.serial r.serial))
+unfolding serial_met
 serial_snoc r q [] = or_no (eqb q.destination r.destination && eqb q.serial r.serial)
 serial_snoc r q (p ∷ hops) = rw (serial_snoc r q hops, or_assoc)
 
 -- as many ranks as records, and a rank met where a serial is
 pub record Agree (hops : List NextHop) (met : List ℕ) : Type 0 where
   pub count : length hops ≡ length met
-  pub alike : (r : NextHop) → r.serial < 4294967296 → serialMet r hops ≡ rank_met (rank_of r) met
+  pub alike : (r : NextHop) → r.serial < 4294967296 → serial_met r hops ≡ rank_met (rank_of r) met
 
-agree_more : (hops : List NextHop) (met v : List ℕ) → Agree hops met → Agree (hops ++ (hopOf v ∷ [])) (with_rank met (hopOf v))
+agree_more : (hops : List NextHop) (met v : List ℕ) → Agree hops met → Agree (hops ++ (hop_of v ∷ [])) (with_rank met (hop_of v))
 agree_more hops met v a =
     record {
       count = rw (length-append, length-append, a.count);
       alike = λ r h.
           rw (
-            serial_snoc r (hopOf v) hops,
-            met_snoc (rank_of r) (rank_of (hopOf v)) met,
+            serial_snoc r (hop_of v) hops,
+            met_snoc (rank_of r) (rank_of (hop_of v)) met,
             a.alike r h,
-            rank_same (hopOf v).destination (hopOf v).serial r.destination r.serial (omega arith) h,
+            rank_same (hop_of v).destination (hop_of v).serial r.destination r.serial (omega arith) h,
           );
     }
 
-agree_with : (T : Settings) (tag : ℕ) (v met : List ℕ) → Agree T.hops met → Agree (withField T (field tag v)).hops (ranks_with met tag v)
-unfolding withField ranks_with
+agree_with : (T : Settings) (tag : ℕ) (v met : List ℕ) → Agree T.hops met → Agree (with_field T (field tag v)).hops (ranks_with met tag v)
+unfolding with_field ranks_with
 agree_with T tag v met a =
     by-test (eqb tag 2)
     (λ e. rw e (agree_more T.hops met v a))
     (λ e. by-test (eqb tag 3) (λ f. rw (e, f) a) (λ f. by-test (eqb tag 6) (λ g. rw (e, f, g) a) (λ g. rw (e, f, g) a)))
 
 module _ (T : Settings) (v met : List ℕ) (n : ℕ) where
-  continues_hop : length T.hops ≡ n → serialMet (hopOf v) T.hops ≡ rank_met (rank_of (hopOf v)) met → continues T (field 2 v) ≡ field_taken met n 2 v
-  unfolding continues lengthGood field_taken hop_taken
+  continues_hop : length T.hops ≡ n → serial_met (hop_of v) T.hops ≡ rank_met (rank_of (hop_of v)) met → continues T (field 2 v) ≡ field_taken met n 2 v
+  unfolding continues length_good field_taken hop_taken
   continues_hop c e = rw (c, e)
 
   continues_taken : (tag : ℕ) → length met ≡ n → Agree T.hops met → continues T (field tag v) ≡ field_taken met n tag v
   unfolding field_taken
   continues_taken tag c a =
       by_equal tag 2
-      (λ two. rw two (continues_hop (a.count ∙ c) (a.alike (hopOf v) (omega arith))))
+      (λ two. rw two (continues_hop (a.count ∙ c) (a.alike (hop_of v) (omega arith))))
       (λ other. rw (ne_eqb tag 2 other) (sym (flag_continues T tag v other)))
 
 -- some settings with these ranks, from which the fields from `at` on decide as the whole does
 pub record Rest (s : List ℕ) (whole : Option Settings) (met : List ℕ) (at : ℕ) : Type 0 where
   pub read : Settings
-  pub decides : settingsFrom read (fields_at s at) ≡ whole
+  pub decides : settings_from read (fields_at s at) ≡ whole
   pub agree : Agree read.hops met
 
 -- what the loop keeps
@@ -262,10 +262,10 @@ pub record Validating (s : List ℕ) (from : ℕ) (seen : List ℕ) (n at : ℕ)
   pub few : n ≤ 64
   pub many : length (ranks_met s from n) ≡ n
   pub split : ranks_in (fields_at s from) ≡ ranks_met s from n ++ ranks_in (fields_at s at)
-  pub rest : (T : Settings) → T.hops ≡ [] → Rest s (settingsFrom T (fields_at s from)) (ranks_met s from n) at
+  pub rest : (T : Settings) → T.hops ≡ [] → Rest s (settings_from T (fields_at s from)) (ranks_met s from n) at
 
 pub begins : (s : List ℕ) (from : ℕ) → Validating s from (replicate 256 0) 0 from
-unfolding serialMet rank_met
+unfolding serial_met rank_met
 begins s from =
     record {
       kept = record { seen_long = refl; marked = λ rank e. absurd (false≢true e) };
@@ -284,7 +284,7 @@ module _ {s : List ℕ} {from : ℕ} {seen : List ℕ} {n at : ℕ} (j : Validat
   met = ranks_met s from n
 
   pub ends : length s ≤ at → Verdict s from true
-  unfolding settingsFrom
+  unfolding settings_from
   ends h T e = let w = j.rest T e in rw (← w.decides, fields-at-end s at h)
 
   module _ (h : at < length s) {read : FieldRead} (q : read ≡ field_at s at) where
@@ -308,28 +308,28 @@ module _ {s : List ℕ} {from : ℕ} {seen : List ℕ} {n at : ℕ} (j : Validat
           let w = j.rest T e in
           rw (← w.decides, on, from-bad w.read (field tag v) (fields_at s next) (validated_so T e g))
 
-      rest_on : field_taken met n tag v ≡ true → (T : Settings) → T.hops ≡ [] → Rest s (settingsFrom T (fields_at s from)) (ranks_with met tag v) next
+      rest_on : field_taken met n tag v ≡ true → (T : Settings) → T.hops ≡ [] → Rest s (settings_from T (fields_at s from)) (ranks_with met tag v) next
       rest_on g T e =
           let w = j.rest T e in
           record {
-            read = withField w.read (field tag v);
+            read = with_field w.read (field tag v);
             decides = rw (← from_on w.read (field tag v) (fields_at s next) (validated_so T e g), ← on) w.decides;
             agree = agree_with w.read tag v met w.agree;
           }
 
       -- a record
       module _ (two : tag ≡ 2) where
-        pub hop_stops : hop_taken met n (length v) (hopOf v) ≡ false → Verdict s from false
+        pub hop_stops : hop_taken met n (length v) (hop_of v) ≡ false → Verdict s from false
         unfolding field_taken
         hop_stops g = stops (rw two g)
 
-        pub hop_on : {seen' : List ℕ} → hop_taken met n (length v) (hopOf v) ≡ true → Kept (with_rank met (hopOf v)) seen' → Validating s from seen' (n + 1) next
+        pub hop_on : {seen' : List ℕ} → hop_taken met n (length v) (hop_of v) ≡ true → Kept (with_rank met (hop_of v)) seen' → Validating s from seen' (n + 1) next
         unfolding field_taken ranks_with hop_taken
         hop_on g k =
             let ranks = ranks_in (fields_at s from) in
             let rest = ranks_in (fields_at s next) in
-            let parts : ranks ≡ met ++ (rank_of (hopOf v) ∷ rest) = rw (ranks_hop s at tag size next (sym q ∙ taken) two) at j.split in
-            let more = grown ranks met rest (rank_of (hopOf v)) n parts j.many in
+            let parts : ranks ≡ met ++ (rank_of (hop_of v) ∷ rest) = rw (ranks_hop s at tag size next (sym q ∙ taken) two) at j.split in
+            let more = grown ranks met rest (rank_of (hop_of v)) n parts j.many in
             record {
               kept = rw more k;
               few = by_order n 64 (λ h. omega arith) (λ h. absurd (false≢true (rw (le-ltb n 64 h, and_no, and_no) at g)));
@@ -357,7 +357,7 @@ module _ {s : List ℕ} {from : ℕ} {seen : List ℕ} {n at : ℕ} (j : Validat
 
 -- the first field
 module _ (s : List ℕ) {tag size next : ℕ} (e : field_at s 0 ≡ Taken tag size next) where
-  pub settings_so : (r : Bool) → opens (field tag (part s 3 (next - 3))) ≡ true → Verdict s next r → r ≡ known (settingsOf s)
+  pub settings_so : (r : Bool) → opens (field tag (part s 3 (next - 3))) ≡ true → Verdict s next r → r ≡ known (settings_of s)
   unfolding opened
   settings_so r o d =
       let f = field tag (part s 3 (next - 3)) in

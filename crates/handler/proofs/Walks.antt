@@ -10,9 +10,9 @@ use lib.ListN.{length, take, drop, get_or, replicate, take-append-drop, drop_of_
 use lib.Seq.{drop-cons, take_all, length-take-le}
 use Rattle.rules.specs as rules
 use rules.Octets.{if◌then◌else◌, be16, part, put}
-use rules.Options.{Taken, Fault, TlvOption, Options, options, fault, key_of, length_of, optionSize, optionFirst, optionAt, optionsFrom, optionsOf}
-use rules.Options.{some_key, ie, hopByHopCritical, ingressToEgressCritical, chbh, cite, summarized, draftRead, draftStops}
-use rules.Options.{strippable, octetsOf}
+use rules.Options.{Taken, Fault, TlvOption, Options, options, fault, key_of, length_of, option_size, option_first, option_at, options_from, options_of}
+use rules.Options.{some_key, ie, hop_by_hop_critical, ingress_to_egress_critical, chbh, cite, summarized, draft_read, draft_stops}
+use rules.Options.{strippable, octets_of}
 use Rattle.rules.proofs.TestLaws.{by-test, and_left, and_no, and_yes, or_no, or_assoc, apart}
 use Rattle.rules.proofs.OctetLaws.{length_part, length-put, be16_part}
 use Rattle.rules.proofs.OptionLaws.{option_reserved, option_past, option_below, option_equal, option_taken, option_read, options_end, options_fault}
@@ -32,22 +32,22 @@ egress_alone : (h e : Bool) → (h ≡ true → e ≡ false) → ((h || e) && no
 egress_alone false e x = and_yes e
 egress_alone true e x = sym (x refl)
 
-critical_kinds : (key : ℕ) → hopByHopCritical key ≡ true → ingressToEgressCritical key ≡ false
+critical_kinds : (key : ℕ) → hop_by_hop_critical key ≡ true → ingress_to_egress_critical key ≡ false
 critical_kinds key e = let i = eqb-true (ie key) 0 (search and_left) in rw (ne_eqb (ie key) 1 (omega arith))
 
 -- what the table says of an option
 module _ {c : Cursor} {key n : ℕ} (b : WholeOption c key n) (table : List ℕ) (t : Treats table) (strip : Bool)
-    (size : ℕ) (sized : size ≡ optionSize n) (entry : ℕ) (found : entry ≡ entry_in table key) where
+    (size : ℕ) (sized : size ≡ option_size n) (entry : ℕ) (found : entry ≡ entry_in table key) where
   pub behind_is : (gone : Bool) → gone ≡ (strip && stripped_by entry key n) → (to : ℕ) → to ≡ (if gone then c.to else c.to + size)
       → (transit : Bool) → transit ≡ transit_discards entry → (hop : Bool) → hop ≡ (c.hop || transit)
       → (alone : Bool) → alone ≡ (egress_discards entry && not (transit_discards entry)) → (egress : Bool) → egress ≡ (c.egress || alone)
-      → record { at = c.at + size; to = to; floor = key + 1; hop = hop; egress = egress } ≡ cursor_by strip c key n (c.at + optionSize n)
+      → record { at = c.at + size; to = to; floor = key + 1; hop = hop; egress = egress } ≡ cursor_by strip c key n (c.at + option_size n)
   behind_is gone g to e transit tr hop h alone a egress eg =
       cc (
         t.strip key n b.its_key,
         t.transit key b.its_key,
         t.egress key b.its_key,
-        egress_alone (hopByHopCritical key) (ingressToEgressCritical key) (critical_kinds key),
+        egress_alone (hop_by_hop_critical key) (ingress_to_egress_critical key) (critical_kinds key),
       )
 
 pub ruleset behind_laws = (rules, behind_is)
@@ -58,9 +58,9 @@ module _ {area : List ℕ} {c : Cursor} (o : CursorIn area c) (more : c.at < len
   option_there = omega arith
 
   module _ (strip : Bool) (w : ℕ) (word : w ≡ be16 (part area c.at (c.at + 4 - c.at)) 0) (n : ℕ) (its_length : n ≡ length_of w) (size : ℕ)
-      (sized : size ≡ optionSize n) where
+      (sized : size ≡ option_size n) where
     abbrev found : O.OptionRead
-    found = optionAt area c.floor c.at
+    found = option_at area c.floor c.at
 
     here : be16 area c.at ≡ w
     here = sym (word ∙ be16_part area c.at (c.at + 4 - c.at) (omega arith))
@@ -68,7 +68,7 @@ module _ {area : List ℕ} {c : Cursor} (o : CursorIn area c) (more : c.at < len
     long : length_of (be16 area c.at) ≡ n
     long = rw (here, its_length)
 
-    taken : c.at + optionSize (length_of (be16 area c.at)) ≡ c.at + size
+    taken : c.at + option_size (length_of (be16 area c.at)) ≡ c.at + size
     taken = rw (long, ← sized)
 
     pub at_reserved : 119 ≤ n → Faulty 30 c.at ≡ read_by strip c found
@@ -81,7 +81,7 @@ module _ {area : List ℕ} {c : Cursor} (o : CursorIn area c) (more : c.at < len
       small : length_of (be16 area c.at) < 119
       small = rw long (omega arith)
 
-      fits : c.at + optionSize (length_of (be16 area c.at)) ≤ length area
+      fits : c.at + option_size (length_of (be16 area c.at)) ≤ length area
       fits = rw taken (omega arith)
 
       keyed : key_of (be16 area c.at) ≡ key
@@ -96,7 +96,7 @@ module _ {area : List ℕ} {c : Cursor} (o : CursorIn area c) (more : c.at < len
       pub at_whole : WholeOption c key n
       at_whole = record { its_key = omega (arith, its_key); short = omega arith; inside = omega arith; fewer = o.fewer }
 
-      pub at_read : c.floor < key + 1 → (d : Cursor) → d ≡ cursor_by strip c key n (c.at + optionSize n) → Read d ≡ read_by strip c found
+      pub at_read : c.floor < key + 1 → (d : Cursor) → d ≡ cursor_by strip c key n (c.at + option_size n) → Read d ≡ read_by strip c found
       at_read k d is = cc (option_taken area c.floor c.at small fits (rw keyed (omega arith)), keyed, long)
 
 pub ruleset option_at_laws = (rules, option_there, at_reserved, at_past, at_below, at_equal, at_whole, at_read)
@@ -106,13 +106,13 @@ abbrev sent_if : Bool → List ℕ → List ℕ
 sent_if gone octets = if gone then [] else octets
 
 sent_first : (strip : Bool) (o : TlvOption) (os : List TlvOption)
-    → octetsOf (options_sent strip (o ∷ os)) ≡ sent_if (strip && strippable o.key o.size) o.octets ++ octetsOf (options_sent strip os)
-unfolding octetsOf
+    → octets_of (options_sent strip (o ∷ os)) ≡ sent_if (strip && strippable o.key o.size) o.octets ++ octets_of (options_sent strip os)
+unfolding octets_of
 sent_first false o os = refl
 sent_first true o os = by-test (strippable o.key o.size) (λ e. rw (kept_not o os e, e)) (λ e. rw (kept_too o os e, e))
 
-sent_none : (strip : Bool) → octetsOf (options_sent strip []) ≡ []
-unfolding octetsOf
+sent_none : (strip : Bool) → octets_of (options_sent strip []) ≡ []
+unfolding octets_of
 sent_none false = refl
 sent_none true = rw kept_nothing
 
@@ -138,20 +138,20 @@ pub record Walking (strip : Bool) (area kept₀ kept : List ℕ) (c : Cursor) : 
   pub place : CursorIn area c
   pub written : List ℕ
   pub wrote : Wrote written 4 c.to kept₀ kept
-  pub rest : walk_of strip c.hop c.egress written (optionsFrom (suc fuel) area c.floor c.at) ≡ walk_of strip false false [] (optionsOf area)
+  pub rest : walk_of strip c.hop c.egress written (options_from (suc fuel) area c.floor c.at) ≡ walk_of strip false false [] (options_of area)
 
 -- an option in front
 walk_first : (strip hop egress : Bool) (written : List ℕ) (o : TlvOption) (w : Options)
-    → walk_of strip hop egress written (optionFirst o w)
-    ≡ walk_of strip (hop || hopByHopCritical o.key) (egress || ingressToEgressCritical o.key)
+    → walk_of strip hop egress written (option_first o w)
+    ≡ walk_of strip (hop || hop_by_hop_critical o.key) (egress || ingress_to_egress_critical o.key)
     (written ++ sent_if (strip && strippable o.key o.size) o.octets) w
 unfolding some_key
 walk_first strip hop egress written o (options os) =
     rw (
-      or_assoc hop (hopByHopCritical o.key) (some_key hopByHopCritical os),
-      or_assoc egress (ingressToEgressCritical o.key) (some_key ingressToEgressCritical os),
+      or_assoc hop (hop_by_hop_critical o.key) (some_key hop_by_hop_critical os),
+      or_assoc egress (ingress_to_egress_critical o.key) (some_key ingress_to_egress_critical os),
       sent_first strip o os,
-      append_assoc written (sent_if (strip && strippable o.key o.size) o.octets) (octetsOf (options_sent strip os)),
+      append_assoc written (sent_if (strip && strippable o.key o.size) o.octets) (octets_of (options_sent strip os)),
     )
 walk_first strip hop egress written o (fault number place) = refl
 
@@ -161,7 +161,7 @@ walk_none strip hop egress written = rw (or_no hop, or_no egress, sent_none stri
 
 pub walk_begin : (strip : Bool) (area kept : List ℕ) → AreaWords area → 4 < length area
     → Walking strip area kept kept (record { at = 4; to = 4; floor = 0; hop = false; egress = false })
-unfolding optionsOf
+unfolding options_of
 walk_begin strip area kept words h =
     record {
       fuel = length area;
@@ -210,13 +210,13 @@ module _ {strip : Bool} {area kept₀ kept : List ℕ} {c : Cursor} (w : Walking
         wide = wide;
       }
 
-  module _ (h : c.at < length area) (read : AreaRead) (r : read ≡ read_by strip c (optionAt area c.floor c.at)) where
+  module _ (h : c.at < length area) (read : AreaRead) (r : read ≡ read_by strip c (option_at area c.floor c.at)) where
     pub walk_stop : (number place : ℕ) → read ≡ Faulty number place → AreaWalked strip area kept₀ kept read
     walk_stop number place e =
         record {
           written = [];
           found =
-              by_read (optionAt area c.floor c.at)
+              by_read (option_at area c.floor c.at)
               (λ m q f. cc (options_fault w.fuel area c.floor c.at m q h f))
               (λ key size next f. apart cc);
           wrote = λ d f. apart cc;
@@ -227,14 +227,14 @@ module _ {strip : Bool} {area kept₀ kept : List ℕ} {c : Cursor} (w : Walking
     module _ (d : Cursor) (e : read ≡ Read d) where
       next : Next strip area kept₀ kept c d
       next =
-          by_read (optionAt area c.floor c.at)
+          by_read (option_at area c.floor c.at)
           (λ m q f. apart cc)
           (λ key size to f.
           let its = option_read area c.floor c.at key size to f in
           let gone = strip && strippable key size in
-          let a = adds gone area c.at c.to (optionSize size) (omega arith) in
+          let a = adds gone area c.at c.to (option_size size) (omega arith) in
           let fuel : suc (w.fuel - 1) ≡ w.fuel = omega arith in
-          let step : to - c.at ≡ optionSize size = omega arith in
+          let step : to - c.at ≡ option_size size = omega arith in
           let o : TlvOption = record { key = key; size = size; octets = part area c.at (to - c.at) } in
           rw (← read_same (ap (read_by strip c) (sym f) ∙ sym r ∙ e))
           record {
@@ -248,13 +248,13 @@ module _ {strip : Bool} {area kept₀ kept : List ℕ} {c : Cursor} (w : Walking
                   fuel = w.fuel - 1;
                   enough = omega arith;
                   place = record { words = w.place.words; from = omega arith; aligned = omega arith; inside = omega arith; fewer = omega arith };
-                  written = w.written ++ sent_if gone (part area c.at (optionSize size));
+                  written = w.written ++ sent_if gone (part area c.at (option_size size));
                   wrote = joined w.wrote (record { ends = a.long; after = is ∙ rw a.lent });
                   rest =
                       cc (
                         fuel,
                         step,
-                        walk_first strip c.hop c.egress w.written o (optionsFrom w.fuel area (key + 1) to),
+                        walk_first strip c.hop c.egress w.written o (options_from w.fuel area (key + 1) to),
                         options_on w.fuel area c.floor c.at key size to h f,
                       );
                 };
@@ -299,7 +299,7 @@ module _ {area : List ℕ} {c : Cursor} (w : Checking area c) where
   pub check_end : length area ≤ c.at → OptionsChecked area (Read c)
   check_end h = let x = walk_end w.walking w.entry h in record { written = x.written; found = x.found }
 
-  module _ (h : c.at < length area) (read : AreaRead) (r : read ≡ read_by false c (optionAt area c.floor c.at)) where
+  module _ (h : c.at < length area) (read : AreaRead) (r : read ≡ read_by false c (option_at area c.floor c.at)) where
     pub check_stop : (number place : ℕ) → read ≡ Faulty number place → OptionsChecked area read
     check_stop number place e = let x = walk_stop w.walking w.entry h read r number place e in record { written = x.written; found = x.found }
 
@@ -349,8 +349,8 @@ summed_is strip area written (Read c) (options os) e =
     (λ t. by-test (c.egress && not (cite area)) (λ u. cc) (λ u. cc))
 
 -- an area of one word, or none, has no option
-pub area_short : (area : List ℕ) → length area ≤ 4 → O.WellFormed ≡ draftRead area
-unfolding draftRead summarized optionsOf some_key
+pub area_short : (area : List ℕ) → length area ≤ 4 → O.WellFormed ≡ draft_read area
+unfolding draft_read summarized options_of some_key
 area_short area h = rw (options_end (length area) area 0 4 h)
 
 module _ (strip : Bool) (area : List ℕ) (h : length area ≤ 4) where
@@ -378,14 +378,14 @@ all_kept area kept kept' is words wide =
 
 pub ruleset keep_all_laws = (rules, all_kept)
 
-pub area_checked : (area : List ℕ) (read r : AreaRead) → OptionsChecked area read → r ≡ summarized_by area read → area_read_of r ≡ draftRead area
-unfolding draftRead
-area_checked area read r x is = rw is (summed_is false area x.written read (optionsOf area) x.found)
+pub area_checked : (area : List ℕ) (read r : AreaRead) → OptionsChecked area read → r ≡ summarized_by area read → area_read_of r ≡ draft_read area
+unfolding draft_read
+area_checked area read r x is = rw is (summed_is false area x.written read (options_of area) x.found)
 
 pub ruleset check_area_laws = (rules, area_short, area_checked)
 
 -- all of an area without a fault is kept
-module _ (area : List ℕ) (read : AreaRead) (is : area_read_of read ≡ draftRead area) where
+module _ (area : List ℕ) (read : AreaRead) (is : area_read_of read ≡ draft_read area) where
   pub checked_fault : (number place : ℕ) → read ≡ Faulty number place → (kept : List ℕ) → AreaKept false area kept kept read
   checked_fault number place e kept = record { read = is; wrote = λ c f. apart cc; few = λ c f. apart cc; wide = λ c f. apart cc }
 
@@ -403,9 +403,9 @@ pub ruleset keep_checked_laws = (rules, checked_fault, checked_kept)
 
 -- another is its first word and its options
 module _ (strip : Bool) (area : List ℕ) (h : 4 < length area) where
-  area_sent : (os : List TlvOption) → optionsOf area ≡ options os → sent_of strip area ≡ take 4 area ++ octetsOf (options_sent strip os)
-  unfolding optionsOf
-  area_sent os is =
+  area_sent_lem : (os : List TlvOption) → options_of area ≡ options os → sent_of strip area ≡ take 4 area ++ octets_of (options_sent strip os)
+  unfolding options_of
+  area_sent_lem os is =
       by-test strip
       (λ e. rw e (stripped_is area os is))
       (λ e. rw (e, ← (walk_laid (suc (length area)) area 0 4 os (omega arith) (omega arith) is).1, take-append-drop))
@@ -421,18 +421,18 @@ module _ (strip : Bool) (area : List ℕ) (h : 4 < length area) where
 
   pub area_kept : (kept kept1 kept2 : List ℕ) (read r : AreaRead) → AreaWalked strip area kept1 kept2 read → kept1 ≡ put kept 0 (take 4 area)
       → r ≡ summarized_by area read → AreaKept strip area kept kept2 r
-  unfolding draftRead
+  unfolding draft_read
   area_kept kept kept1 kept2 read r w first is =
       let word : Wrote (take 4 area) 0 4 kept kept1 = record { ends = omega (arith, word_lent); after = first } in
       record {
-        read = rw is (summed_is strip area w.written read (optionsOf area) w.found);
+        read = rw is (summed_is strip area w.written read (options_of area) w.found);
         wrote = λ c e.
             let before = summed_read area read c (sym is ∙ e) in
-            by_options (optionsOf area)
+            by_options (options_of area)
             (λ m q f. apart cc)
             (λ os f.
-            let written : w.written ≡ octetsOf (options_sent strip os) = cc in
-            rw (area_sent os f, ← written) (joined word (w.wrote c before)));
+            let written : w.written ≡ octets_of (options_sent strip os) = cc in
+            rw (area_sent_lem os f, ← written) (joined word (w.wrote c before)));
         few = λ c e. w.few c (summed_read area read c (sym is ∙ e));
         wide = λ c e. w.wide;
       }
@@ -449,17 +449,17 @@ pub ruleset read_area_laws = (rules, kept_plain, kept_stripped, short_kept, word
 
 -- 20, as the code finds it
 module _ (egress : Bool) (area : List ℕ) (b : Bool) (is : b ≡ chbh area) where
-  pub stops_hop : b ≡ true → true ≡ draftStops egress area
-  unfolding draftStops
+  pub stops_hop : b ≡ true → true ≡ draft_stops egress area
+  unfolding draft_stops
   stops_hop t = cc
 
   module _ (f : b ≡ false) where
-    pub stops_egress : egress ≡ true → (c : Bool) → c ≡ cite area → c ≡ draftStops egress area
-    unfolding draftStops
+    pub stops_egress : egress ≡ true → (c : Bool) → c ≡ cite area → c ≡ draft_stops egress area
+    unfolding draft_stops
     stops_egress t c its = cc (and_yes c)
 
-    pub stops_none : egress ≡ false → false ≡ draftStops egress area
-    unfolding draftStops
+    pub stops_none : egress ≡ false → false ≡ draft_stops egress area
+    unfolding draft_stops
     stops_none t = cc (and_no (cite area))
 
 pub ruleset area_stops_laws = (rules, stops_hop, stops_egress, stops_none)

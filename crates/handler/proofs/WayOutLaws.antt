@@ -11,7 +11,7 @@ use borrow.Author.Tests.{lt-ltb, le-ltb, not-true, not-false}
 use lib.ListN.{length}
 use Rattle.rules.specs as rules
 use rules.{Link.link, WayOut.way_out_by, WayOut.way_out}
-use rules.Settings.{Ways, ways_of, settingsRead}
+use rules.Settings.{Ways, ways_of, settings_read}
 use rules.declared.NextHop.{NextHop}
 use rules.declared.Ruling.TheVariants.{Found, Absent}
 use Rattle.rules.proofs.{OctetLaws.put-none, FrameLaws.length-link, FrameLaws.link-most}
@@ -66,12 +66,12 @@ module _ (settings : List ℕ) (d : ℕ) (out : List ℕ) (j : Validated) (is : 
   unfolding way_out
   settings_no_way n e = rw (way_out, settings_none settings d j is n) (record { answer = e; after = sym (put-none out 0) })
 
-  pub settings_way : not j.good ≡ false → (own : Own) → Owns own (ways_of (settingsRead settings)) → (t : Lookup) → t ≡ lookup_by own j
+  pub settings_way : not j.good ≡ false → (own : Own) → Owns own (ways_of (settings_read settings)) → (t : Lookup) → t ≡ lookup_by own j
       → (out' : List ℕ) → WayDone (way_out_by (ways_by t) 0 (length out)) r out out' → WayDone (way_out settings d (length out)) r out out'
   unfolding way_out
   settings_way n own o t e out' w =
       let said = validated_lookup settings d j is own o t e (sym is.validated ∙ not-false j.good n) in
-      rw (way_out, settings_some settings d j is n) (lookup_way t d (ways_of (settingsRead settings)) said out r out' w)
+      rw (way_out, settings_some settings d j is n) (lookup_way t d (ways_of (settings_read settings)) said out r out' w)
 
 pub store_whole : (store : List ℕ) {ok : Bool} → ok ≡ store_good store → not ok ≡ false → Whole store
 store_whole store {ok} is n = good_whole store (sym is ∙ not-false ok n)

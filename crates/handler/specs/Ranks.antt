@@ -1,8 +1,8 @@
 -- The ranks of the records met so far, and the filter that stands for them: how settings are validated in one pass.
 use Rattle.std.specs.Prelude.{ℕ, ◌+◌, ◌*◌, ◌/◌, ◌%◌, ◌≡◌, List, [], ◌∷◌, ◌++◌, Bool, true, false, not, ◌&&◌, ◌||◌, length, get_or, take, ltb, eqb}
 use Rattle.rules.specs.Octets.{if◌then◌else◌}
-use Rattle.rules.specs.Fields.{Field, field, cut, fields_at, hopSize}
-use Rattle.rules.specs.Settings.{Settings, hopGood, hopOf, hops_most, settingsFrom, settingsOf, settingsRead, ways_of}
+use Rattle.rules.specs.Fields.{Field, field, cut, fields_at, hop_size}
+use Rattle.rules.specs.Settings.{Settings, hop_good, hop_of, hops_most, settings_from, settings_of, settings_read, ways_of}
 use Rattle.rules.specs.Campus.{known}
 use Rattle.rules.specs.declared.NextHop.{NextHop}
 use Rattle.rules.specs.declared.Ruling.TheVariants.{Absent}
@@ -42,7 +42,7 @@ rank_met rank (k ∷ ranks) = eqb k rank || rank_met rank ranks
 unfoldable pub ranks_in : List Field → List ℕ
 ranks_in [] = []
 ranks_in (cut ∷ fs) = ranks_in fs
-ranks_in (field tag v ∷ fs) = if eqb tag 2 then rank_of (hopOf v) ∷ ranks_in fs else ranks_in fs
+ranks_in (field tag v ∷ fs) = if eqb tag 2 then rank_of (hop_of v) ∷ ranks_in fs else ranks_in fs
 
 abbrev pub ranks_met : List ℕ → ℕ → ℕ → List ℕ
 ranks_met s from n = take n (ranks_in (fields_at s from))
@@ -54,17 +54,17 @@ pub record Kept (met seen : List ℕ) : Type 0 where
 
 -- whether one more record, or field, goes with the n ranks met so far
 unfoldable pub hop_taken : List ℕ → ℕ → ℕ → NextHop → Bool
-hop_taken ranks n size r = hopSize size && (hopGood r && ltb n hops_most && not (rank_met (rank_of r) ranks))
+hop_taken ranks n size r = hop_size size && (hop_good r && ltb n hops_most && not (rank_met (rank_of r) ranks))
 
 unfoldable pub field_taken : List ℕ → ℕ → ℕ → List ℕ → Bool
-field_taken ranks n tag v = if eqb tag 2 then hop_taken ranks n (length v) (hopOf v) else eqb (flag_by tag v) 0
+field_taken ranks n tag v = if eqb tag 2 then hop_taken ranks n (length v) (hop_of v) else eqb (flag_by tag v) 0
 
 -- the ranks met once one more record, or field, is taken
 abbrev pub with_rank : List ℕ → NextHop → List ℕ
 with_rank ranks r = ranks ++ (rank_of r ∷ [])
 
 unfoldable pub ranks_with : List ℕ → ℕ → List ℕ → List ℕ
-ranks_with ranks tag v = if eqb tag 2 then with_rank ranks (hopOf v) else ranks
+ranks_with ranks tag v = if eqb tag 2 then with_rank ranks (hop_of v) else ranks
 
 -- whether a record is taken; then these ranks are met
 pub record Taking (good : Bool) (met : List ℕ) (taken : Bool) (seen : List ℕ) : Type 0 where
@@ -73,7 +73,7 @@ pub record Taking (good : Bool) (met : List ℕ) (taken : Bool) (seen : List ℕ
 
 -- r: whether the fields from a place on go with settings that have no records yet
 abbrev pub Verdict : List ℕ → ℕ → Bool → Type 0
-Verdict s from r = (T : Settings) → T.hops ≡ [] → r ≡ known (settingsFrom T (fields_at s from))
+Verdict s from r = (T : Settings) → T.hops ≡ [] → r ≡ known (settings_from T (fields_at s from))
 
 -- one pass over the fields from a place on: the verdict, and what the fields say if they are good
 pub record Scanned (s : List ℕ) (from d : ℕ) (r : Scan) : Type 0 where
@@ -87,5 +87,5 @@ lookup_by own r = record { own = own; strip = r.strip; rfc7179 = r.rfc7179; hop 
 
 -- settings octets validated, and what they say of one destination if they are good
 pub record ValidatedBy (s : List ℕ) (d : ℕ) (r : Validated) : Type 0 where
-  pub validated : r.good ≡ known (settingsOf s)
-  pub finds : r.good ≡ true → (own : Own) → Owns own (ways_of (settingsRead s)) → ways_by (lookup_by own r) ≡ only_for d (ways_of (settingsRead s))
+  pub validated : r.good ≡ known (settings_of s)
+  pub finds : r.good ≡ true → (own : Own) → Owns own (ways_of (settings_read s)) → ways_by (lookup_by own r) ≡ only_for d (ways_of (settings_read s))

@@ -3,13 +3,13 @@ use Rattle.std.specs.Prelude.{ℕ, ◌+◌, ◌-◌, ◌/◌, ◌%◌, ◌≤◌
 use mathlib.Core.List.{List, [], ◌++◌, foldl}
 use Rattle.rules.specs.Octets.{if◌then◌else◌, octet, be16, octets16, octets48, part, put}
 use Rattle.rules.specs.Fields.{Field, field, cut, fields_at}
-use Rattle.rules.specs.Settings.{Ways, newer, hopOf}
-use Rattle.rules.specs.Link.{ethertypeTag}
-use Rattle.rules.specs.Header.{version, reserved, multi, hop_count, header_word, readFrame, innerStart, areaOf, inner_of}
-use Rattle.rules.specs.Extension.{areaSent}
+use Rattle.rules.specs.Settings.{Ways, newer, hop_of}
+use Rattle.rules.specs.Link.{ethertype_tag}
+use Rattle.rules.specs.Header.{version, reserved, multi, hop_count, header_word, read_frame, inner_start, area_of, inner_of}
+use Rattle.rules.specs.Extension.{area_sent}
 use Rattle.rules.specs.Options as O
-use Rattle.rules.specs.Options.{OptionRead, Taken, Fault, TlvOption, Options, options, fault, some_key, hopByHopCritical, ingressToEgressCritical}
-use Rattle.rules.specs.Options.{optionSize, strippable, kept_options, octetsOf, stripped}
+use Rattle.rules.specs.Options.{OptionRead, Taken, Fault, TlvOption, Options, options, fault, some_key, hop_by_hop_critical, ingress_to_egress_critical}
+use Rattle.rules.specs.Options.{option_size, strippable, kept_options, octets_of, stripped}
 use Rattle.rules.specs.Channel.{all_egress_rbridges, ethertype_channel, ethertype_is_is}
 use Rattle.rules.specs.Answer as A
 use Rattle.octets.specs.Copy.{Wrote}
@@ -84,7 +84,7 @@ ways_by t = record { nickname = t.own.nickname; mac = t.own.word / 65536; strip 
 -- the record that rules, and the flags, once one more field is read
 unfoldable pub ruled_by : ℕ → Ruling → Field → Ruling
 ruled_by d best cut = best
-ruled_by d best (field tag v) = if eqb tag 2 then newer d best (hopOf v) else best
+ruled_by d best (field tag v) = if eqb tag 2 then newer d best (hop_of v) else best
 
 abbrev pub no_flags : Flags
 no_flags = record { strip = false; rfc7179 = false }
@@ -122,7 +122,7 @@ pub record CursorIn (area : List ℕ) (c : Cursor) : Type 0 where
 pub record WholeOption (c : Cursor) (key size : ℕ) : Type 0 where
   pub its_key : key < 512
   pub short : size < 119
-  pub inside : c.at + optionSize size ≤ 124
+  pub inside : c.at + option_size size ≤ 124
   pub fewer : c.to ≤ c.at
 
 -- the cursor behind an option that was read, or the fault
@@ -130,10 +130,10 @@ abbrev pub cursor_by : Bool → Cursor → ℕ → ℕ → ℕ → Cursor
 cursor_by strip c key size next =
     record {
       at = next;
-      to = if strip && strippable key size then c.to else c.to + optionSize size;
+      to = if strip && strippable key size then c.to else c.to + option_size size;
       floor = key + 1;
-      hop = c.hop || hopByHopCritical key;
-      egress = c.egress || ingressToEgressCritical key;
+      hop = c.hop || hop_by_hop_critical key;
+      egress = c.egress || ingress_to_egress_critical key;
     }
 
 abbrev pub read_by : Bool → Cursor → OptionRead → AreaRead
@@ -160,12 +160,12 @@ found_by written (Faulty number place) = stopped number place
 abbrev pub walk_of : Bool → Bool → Bool → List ℕ → Options → Walk
 walk_of strip hop egress written (fault number place) = stopped number place
 walk_of strip hop egress written (options os) =
-    ended (hop || some_key hopByHopCritical os) (egress || some_key ingressToEgressCritical os) (written ++ octetsOf (options_sent strip os))
+    ended (hop || some_key hop_by_hop_critical os) (egress || some_key ingress_to_egress_critical os) (written ++ octets_of (options_sent strip os))
 
 -- all options read, and those that are sent written behind the first word
 pub record AreaWalked (strip : Bool) (area kept kept' : List ℕ) (r : AreaRead) : Type 0 where
   pub written : List ℕ
-  pub found : found_by written r ≡ walk_of strip false false [] (O.optionsOf area)
+  pub found : found_by written r ≡ walk_of strip false false [] (O.options_of area)
   pub wrote : (c : Cursor) → r ≡ Read c → Wrote written 4 c.to kept kept'
   pub few : (c : Cursor) → r ≡ Read c → c.to ≤ 124
   pub wide : length kept' ≡ 124
@@ -173,7 +173,7 @@ pub record AreaWalked (strip : Bool) (area kept kept' : List ℕ) (r : AreaRead)
 -- the same with nothing written
 pub record OptionsChecked (area : List ℕ) (r : AreaRead) : Type 0 where
   pub written : List ℕ
-  pub found : found_by written r ≡ walk_of false false false [] (O.optionsOf area)
+  pub found : found_by written r ≡ walk_of false false false [] (O.options_of area)
 
 -- 34 and 35
 abbrev pub summarized_by : List ℕ → AreaRead → AreaRead
@@ -189,7 +189,7 @@ area_read_of (Faulty number place) = O.Faulty number place
 
 -- an area read, and what is sent of it put aside; what is put aside of a faulty one does not matter
 pub record AreaKept (strip : Bool) (area kept kept' : List ℕ) (r : AreaRead) : Type 0 where
-  pub read : area_read_of r ≡ O.draftRead area
+  pub read : area_read_of r ≡ O.draft_read area
   pub wrote : (c : Cursor) → r ≡ Read c → Wrote (sent_of strip area) 0 c.to kept kept'
   pub few : (c : Cursor) → r ≡ Read c → c.to ≤ 124
   pub wide : (c : Cursor) → r ≡ Read c → length kept' ≡ 124
@@ -206,7 +206,7 @@ reply_octets own ingress number code =
     ++ octets16 own.nickname
     ++ octets48 all_egress_rbridges
     ++ octets48 (own.word / 65536)
-    ++ octets16 ethertypeTag
+    ++ octets16 ethertype_tag
     ++ octets16 0x0001
     ++ octets16 ethertype_channel
     ++ octets16 number
@@ -225,13 +225,13 @@ rest_with area f h = octets16 (sent_by h.word (length area / 4)) ++ octets16 h.e
 
 -- the area that goes on
 pub record Sends (S : Ways) (f : List ℕ) (h : Header) (area : List ℕ) : Type 0 where
-  pub goes : areaSent S (areaOf f h) ≡ area
+  pub goes : area_sent S (area_of f h) ≡ area
   pub few : length area ≤ 124
 
 -- a frame whose area is whole and whose hop count is not 0, and room to forward it from `at` on with an area as it is sent
 pub record Fits (area f : List ℕ) (h : Header) (out : List ℕ) (at : ℕ) : Type 0 where
-  pub read : readFrame f ≡ Trill h
-  pub area_whole : innerStart h ≤ length f
+  pub read : read_frame f ≡ Trill h
+  pub area_whole : inner_start h ≤ length f
   pub hops_left : 0 < hop_count h.word
   pub area_short : length area ≤ 124
   pub room : at + length (rest_with area f h) ≤ length out
@@ -250,9 +250,9 @@ silenced_by_sl code = eqb code 4 || eqb code 5
 
 -- a frame that was read and of which neither 17 nor 18 is given
 pub record Ready (f : List ℕ) (h : Header) : Type 0 where
-  pub read : readFrame f ≡ Trill h
+  pub read : read_frame f ≡ Trill h
   pub hops_left : 0 < hop_count h.word
-  pub area_whole : innerStart h ≤ length f
+  pub area_whole : inner_start h ≤ length f
   pub short : length f ≤ 2048
 
 -- a reply written at the start of a buffer, and its length

@@ -2,12 +2,12 @@
 use Rattle.std.specs.Prelude.{ℕ, ◌≤◌, ◌≡◌, List, [], Bool, true, false, not, ◌&&◌, ◌||◌, length, take}
 use Rattle.rules.specs.Octets.{if◌then◌else◌, put}
 use Rattle.rules.specs.Settings.{Ways}
-use Rattle.rules.specs.Header.{areaOf, inner_of, weAreEgress}
+use Rattle.rules.specs.Header.{area_of, inner_of, we_are_egress}
 use Rattle.rules.specs.Options as O
-use Rattle.rules.specs.Options.{draftRead, draftStops}
-use Rattle.rules.specs.Extension.{flagsWord, criticalAlert, nonCriticalAlert, extensionRead, extensionStops}
-use Rattle.rules.specs.Channel.{body_of, channelRead}
-use Rattle.rules.specs.Handling.{onward, channelMessage, alertTo, alerted, channelled, decapsulated, routed, handling, handledWith}
+use Rattle.rules.specs.Options.{draft_read, draft_stops}
+use Rattle.rules.specs.Extension.{flags_word, critical_alert, non_critical_alert, extension_read, extension_stops}
+use Rattle.rules.specs.Channel.{body_of, channel_read}
+use Rattle.rules.specs.Handling.{onward, channel_message, alert_to, alerted, channelled, decapsulated, routed, handling, handled_with}
 use Rattle.rules.specs.Answer as A
 use Rattle.rules.specs.declared.NextHop.{NextHop}
 use Rattle.rules.specs.declared.Header.{Header}
@@ -32,7 +32,7 @@ use Rattle.handler.specs.Shapes.{answer_of, Owns, area_read_of, sent_of, Ready, 
 
 -- the area by the edition
 abbrev pub area_read_by : Bool → List ℕ → O.AreaRead
-area_read_by rfc7179 area = if rfc7179 then extensionRead area else draftRead area
+area_read_by rfc7179 area = if rfc7179 then extension_read area else draft_read area
 
 -- an area as it is sent put aside, in so many octets
 pub record PutAside (sent kept : List ℕ) (size : ℕ) : Type 0 where
@@ -45,12 +45,12 @@ pub record ReadBy (rfc7179 strip : Bool) (area kept : List ℕ) (r : AreaRead) :
   pub aside : (c : Cursor) → r ≡ Read c → PutAside (sent_of (strip && not rfc7179) area) kept c.to
 
 abbrev pub stops_by : Bool → Bool → List ℕ → Bool
-stops_by rfc7179 egress area = if rfc7179 then extensionStops egress (flagsWord area) else draftStops egress area
+stops_by rfc7179 egress area = if rfc7179 then extension_stops egress (flags_word area) else draft_stops egress area
 
 unfoldable pub alert_by : Bool → List ℕ → List ℕ → Alert
 alert_by rfc7179 area inner =
-    if rfc7179 && (criticalAlert (flagsWord area) || nonCriticalAlert (flagsWord area)) && channelMessage inner
-    then alertTo (criticalAlert (flagsWord area)) (not (stops_by rfc7179 true area)) (channelRead inner)
+    if rfc7179 && (critical_alert (flags_word area) || non_critical_alert (flags_word area)) && channel_message inner
+    then alert_to (critical_alert (flags_word area)) (not (stops_by rfc7179 true area)) (channel_read inner)
     else NoAlert
 
 -- transit, with an alert
@@ -59,7 +59,7 @@ transit_at S clock f h alert = elim (S.hop h.egress) [ Absent ↦ A.dropped 21 |
 
 -- a channel message to us
 abbrev pub messaged : Ways → List ℕ → List ℕ → Header → A.Handled
-messaged S clock f h = channelled S clock f h (channelRead (inner_of f h))
+messaged S clock f h = channelled S clock f h (channel_read (inner_of f h))
 
 -- what is not forwarded, and what a task comes to at a switch
 abbrev pub local_at : Ways → List ℕ → List ℕ → Header → Local → A.Handled
@@ -90,7 +90,7 @@ transit_quiet T f h alert = elim (T.hop h.egress) [ Absent ↦ A.dropped 21 | Fo
 
 -- the one destination that it asks for by itself, and whether an alert asks for the ingress too
 abbrev pub wanted_by : ℕ → Header → ℕ
-wanted_by nickname h = if weAreEgress nickname h then h.ingress else h.egress
+wanted_by nickname h = if we_are_egress nickname h then h.ingress else h.egress
 
 abbrev pub asked_by : ℕ → Received → ℕ
 asked_by nickname (R.Refused n) = 0
@@ -108,9 +108,9 @@ EchoIn f h = (18 ≤ length (body_of (inner_of f h))) × (length (body_of (inner
 
 abbrev pub Answerable : List ℕ → Header → Alert → Type 0
 Answerable f h NoAlert = Unit {0}
-Answerable f h (AlertFault code) = channelRead (inner_of f h) ≡ Fault code
+Answerable f h (AlertFault code) = channel_read (inner_of f h) ≡ Fault code
 Answerable f h AlertErr = Unit {0}
-Answerable f h AlertRequest = channelRead (inner_of f h) ≡ EchoRequest
+Answerable f h AlertRequest = channel_read (inner_of f h) ≡ EchoRequest
 
 pub record Forwardable (f : List ℕ) (h : Header) (alert : Alert) : Type 0 where
   pub is_ready : Ready f h
@@ -138,22 +138,22 @@ Sized size (Forward alert n) = n ≡ size
 
 abbrev pub Aside : Bool → Bool → List ℕ → Header → List ℕ → Task → Type 0
 Aside rfc7179 strip f h kept (Stopped number place) = Unit {0}
-Aside rfc7179 strip f h kept (Forward alert size) = PutAside (sent_of (strip && not rfc7179) (areaOf f h)) kept size
+Aside rfc7179 strip f h kept (Forward alert size) = PutAside (sent_of (strip && not rfc7179) (area_of f h)) kept size
 
 -- a frame with an area comes to a task, at every switch of an edition that is not its egress: once the area is read, and as a whole
 pub record RoutesRead (rfc7179 : Bool) (size : ℕ) (f : List ℕ) (h : Header) (t : Task) : Type 0 where
-  pub same : (S : Ways) (clock : List ℕ) → weAreEgress S.nickname h ≡ false → rfc7179 ≡ S.rfc7179 → routed S clock f h ≡ done_at S clock f h t
+  pub same : (S : Ways) (clock : List ℕ) → we_are_egress S.nickname h ≡ false → rfc7179 ≡ S.rfc7179 → routed S clock f h ≡ done_at S clock f h t
   pub left : Left f h t
   pub sized : Sized size t
 
 pub record Routes (rfc7179 strip : Bool) (f : List ℕ) (h : Header) (kept : List ℕ) (t : Task) : Type 0 where
-  pub same : (S : Ways) (clock : List ℕ) → weAreEgress S.nickname h ≡ false → rfc7179 ≡ S.rfc7179 → routed S clock f h ≡ done_at S clock f h t
+  pub same : (S : Ways) (clock : List ℕ) → we_are_egress S.nickname h ≡ false → rfc7179 ≡ S.rfc7179 → routed S clock f h ≡ done_at S clock f h t
   pub left : Left f h t
   pub aside : Aside rfc7179 strip f h kept t
 
 -- and at one that is its egress, to an answer with nothing to forward
 pub record Arrives (rfc7179 : Bool) (f : List ℕ) (h : Header) (local : Local) : Type 0 where
-  pub same : (S : Ways) (clock : List ℕ) → weAreEgress S.nickname h ≡ true → rfc7179 ≡ S.rfc7179 → routed S clock f h ≡ local_at S clock f h local
+  pub same : (S : Ways) (clock : List ℕ) → we_are_egress S.nickname h ≡ true → rfc7179 ≡ S.rfc7179 → routed S clock f h ≡ local_at S clock f h local
   pub ends : Ends local
 
 -- a frame as received, at every switch of a nickname and MAC
@@ -175,7 +175,7 @@ Lent clock room beside_room (R.Refused n) = Unit {0}
 Lent clock room beside_room (R.Trill h) = (length clock ≡ 6) × (2048 ≤ room) × (576 ≤ beside_room)
 
 pub record Receiving (own : Own) (clock f : List ℕ) (room beside_room : ℕ) (r : Received) : Type 0 where
-  pub same : (S : Ways) → Owns own S → handledWith S clock room beside_room f ≡ received_by S clock f r
+  pub same : (S : Ways) → Owns own S → handled_with S clock room beside_room f ≡ received_by S clock f r
   pub got : Got f r
   pub lent : Lent clock room beside_room r
 

@@ -1,6 +1,6 @@
 -- An entry of the table of option treatments, and its agreement with the flag definitions of the rules.
 use Rattle.std.specs.Prelude.{ℕ, ◌*◌, ◌/◌, ◌%◌, ◌^◌, ◌<◌, ◌≡◌, List, Bool, not, ◌&&◌, ◌||◌, get_or, eqb}
-use Rattle.rules.specs.Options.{hopByHopCritical, ingressToEgressCritical, strippable}
+use Rattle.rules.specs.Options.{hop_by_hop_critical, ingress_to_egress_critical, strippable}
 
 -- a key's entry: 16 keys a word, four bits each, the first key the lowest
 abbrev pub entry_in : List ℕ → ℕ → ℕ
@@ -25,6 +25,6 @@ stripped_by entry key size = not (is_flow_id key size) && strip_applies entry
 
 -- "The table's agreement with the old rules": transit discards the critical hop-by-hop options, the egress every critical one
 pub record Treats (table : List ℕ) : Type 0 where
-  pub transit : (key : ℕ) → key < 512 → transit_discards (entry_in table key) ≡ hopByHopCritical key
-  pub egress : (key : ℕ) → key < 512 → egress_discards (entry_in table key) ≡ (hopByHopCritical key || ingressToEgressCritical key)
+  pub transit : (key : ℕ) → key < 512 → transit_discards (entry_in table key) ≡ hop_by_hop_critical key
+  pub egress : (key : ℕ) → key < 512 → egress_discards (entry_in table key) ≡ (hop_by_hop_critical key || ingress_to_egress_critical key)
   pub strip : (key size : ℕ) → key < 512 → stripped_by (entry_in table key) key size ≡ strippable key size

@@ -93,7 +93,7 @@ fn short_code(inner: &[u8]) -> u8
 }
 
 pub fn channel_read(inner: &[u8]) -> ChannelRead
-    ensures { result ≡ C.channelRead inner.now }
+    ensures { result ≡ C.channel_read inner.now }
 {
     if inner.len() < 22 {
         return ChannelRead::Fault {

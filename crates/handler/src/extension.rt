@@ -47,19 +47,19 @@ fn reserved_flag(w: u32) -> bool
 }
 
 pub fn critical_alert(w: u32) -> bool
-    ensures { result ≡ E.criticalAlert w }
+    ensures { result ≡ E.critical_alert w }
 {
     w >> 24 & 1 != 0
 }
 
 fn non_critical_alert(w: u32) -> bool
-    ensures { result ≡ E.nonCriticalAlert w }
+    ensures { result ≡ E.non_critical_alert w }
 {
     w >> 23 & 1 != 0
 }
 
 pub fn some_alert(w: u32) -> bool
-    ensures { result ≡ (E.criticalAlert w || E.nonCriticalAlert w) }
+    ensures { result ≡ (E.critical_alert w || E.non_critical_alert w) }
 {
     if critical_alert(w) {
         return true;
@@ -68,7 +68,7 @@ pub fn some_alert(w: u32) -> bool
 }
 
 fn flag_unsummarized(w: u32) -> bool
-    ensures { result ≡ E.flagUnsummarized w }
+    ensures { result ≡ E.flag_unsummarized w }
 {
     if options::missing(hop_by_hop_flag(w), cr_hbh(w)) {
         return true;
@@ -80,7 +80,7 @@ fn flag_unsummarized(w: u32) -> bool
 }
 
 fn summary_bare(w: u32) -> bool
-    ensures { result ≡ E.summaryBare w }
+    ensures { result ≡ E.summary_bare w }
 {
     if options::missing(cr_hbh(w), hop_by_hop_flag(w)) {
         return true;
@@ -93,7 +93,7 @@ fn summary_bare(w: u32) -> bool
 
 // 38
 pub fn refused(w: u32, single: bool) -> bool
-    ensures { result ≡ (E.flagUnsummarized w || (single && E.summaryBare w)) }
+    ensures { result ≡ (E.flag_unsummarized w || (single && E.summary_bare w)) }
 {
     if flag_unsummarized(w) {
         return true;
@@ -103,7 +103,7 @@ pub fn refused(w: u32, single: bool) -> bool
 
 // 20
 pub fn stops(egress: bool, w: u32) -> bool
-    ensures { result ≡ E.extensionStops egress w }
+    ensures { result ≡ E.extension_stops egress w }
 {
     if unknown_hop_by_hop_flag(w) {
         return true;

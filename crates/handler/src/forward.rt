@@ -1,6 +1,6 @@
 // A forwarded frame behind its link header: TRILL header with hop count one less and the new Op-Length, area, inner frame.
 ghost use Rattle.std.specs.Prelude.{◌≡◌, ◌+◌, ◌≤◌, ◌<◌, length};
-ghost use Rattle.rules.specs.Header.{hop_count, areaOf};
+ghost use Rattle.rules.specs.Header.{hop_count, area_of};
 ghost use Rattle.octets.specs.Copy.{Wrote};
 ghost use Rattle.handler.specs.Shapes.{sent_by, header_sent, Fits, rest_with};
 
@@ -45,8 +45,8 @@ pub fn forward_with(area: &[u8], f: &[u8], h: Header, out: &mut [u8], at: usize)
 
 // All behind the first word as it is, in one.
 pub fn forward_whole(f: &[u8], h: Header, out: &mut [u8], at: usize) -> usize
-    requires { Fits (areaOf f.now h) f.now h out.old at }
-    ensures { Wrote (rest_with (areaOf f.now h) f.now h) at result out.old out.new }
+    requires { Fits (area_of f.now h) f.now h out.old at }
+    ensures { Wrote (rest_with (area_of f.now h) f.now h) at result out.old out.new }
 {
     let word = octets::two(sent_word(h.word, header::op_length(h.word)));
     let at = octets::copy(out, at, &word);

@@ -1,8 +1,8 @@
 // One handling, the answers in the order of document 01: first what a frame comes to before a next hop is asked for, then what is done with it.
 ghost use Rattle.std.specs.Prelude.{◌≡◌, [], ◌≤◌, length};
-ghost use Rattle.rules.specs.Header.{opLength, readFrame, areaOf};
+ghost use Rattle.rules.specs.Header.{op_length, read_frame, area_of};
 ghost use Rattle.rules.specs.Options.{WellFormed};
-ghost use Rattle.rules.specs.Extension.{areaSent};
+ghost use Rattle.rules.specs.Extension.{area_sent};
 ghost use Rattle.rules.specs.Handling as Rules;
 ghost use Rattle.rules.specs.declared.FrameRead.TheVariants.{Trill};
 ghost use Rattle.rules.specs.declared.Alert.TheVariants.{NoAlert};
@@ -61,7 +61,7 @@ fn untagged(inner: &[u8]) -> bool
 }
 
 fn to_all_egress(inner: &[u8]) -> bool
-    ensures { result ≡ Rules.toAllEgressRBridges inner.now }
+    ensures { result ≡ Rules.to_all_egress_rbridges inner.now }
 {
     header::to_mac(rules::ALL_EGRESS_RBRIDGES << 16, inner)
 }
@@ -145,7 +145,7 @@ fn area_stops(rfc7179: bool, egress: bool, area: &[u8]) -> bool
 
 // "only on a readable inner frame to All-Egress-RBridges with Ethertype 0x8946"
 fn channel_message(inner: &[u8]) -> bool
-    ensures { result ≡ Rules.channelMessage inner.now }
+    ensures { result ≡ Rules.channel_message inner.now }
 {
     if inner.len() < 18 {
         return false;
@@ -160,7 +160,7 @@ fn channel_message(inner: &[u8]) -> bool
 }
 
 fn alert_to(critical: bool, answered: bool, read: ChannelRead) -> Alert
-    ensures { result ≡ Rules.alertTo critical answered read }
+    ensures { result ≡ Rules.alert_to critical answered read }
 {
     match read {
         ChannelRead::Fault { code } => {
@@ -211,7 +211,7 @@ fn alert_of(rfc7179: bool, area: &[u8], inner: &[u8]) -> Alert
 
 // 20, once the area is read; `size` octets are sent of it.
 fn route_read(rfc7179: bool, area: &[u8], size: usize, f: &[u8], h: Header) -> Task
-    requires { Ready f.now h × (area.now ≡ areaOf f.now h) × (area_read_by rfc7179 area.now ≡ WellFormed) }
+    requires { Ready f.now h × (area.now ≡ area_of f.now h) × (area_read_by rfc7179 area.now ≡ WellFormed) }
     ensures { RoutesRead rfc7179 size f.now h result }
 {
     if area_stops(rfc7179, false, area) {
@@ -269,7 +269,7 @@ pub fn at_egress(rfc7179: bool, f: &[u8], h: Header) -> Local
 
 // 20, once the area is read.
 fn arrived(rfc7179: bool, area: &[u8], f: &[u8], h: Header) -> Local
-    requires { Ready f.now h × (area.now ≡ areaOf f.now h) × (area_read_by rfc7179 area.now ≡ WellFormed) }
+    requires { Ready f.now h × (area.now ≡ area_of f.now h) × (area_read_by rfc7179 area.now ≡ WellFormed) }
     ensures { Arrives rfc7179 f.now h result }
 {
     if area_stops(rfc7179, true, area) {
@@ -280,7 +280,7 @@ fn arrived(rfc7179: bool, area: &[u8], f: &[u8], h: Header) -> Local
 
 // 12 to 18.
 fn passed(own: Own, f: &[u8], h: Header) -> Received
-    requires { (readFrame f.now ≡ Trill h) × (length f.now ≤ 2048) }
+    requires { (read_frame f.now ≡ Trill h) × (length f.now ≤ 2048) }
     ensures { Receives own f.now result }
 {
     let Refusal::Refused(n) = header::header_refusal(own.word, f, h) else {
@@ -381,7 +381,7 @@ pub fn transit(t: Lookup, f: &[u8], h: Header, alert: Alert, area: &[u8], out: &
 
 // 21, 29 and 50 of a frame without an area.
 pub fn forward(t: Lookup, f: &[u8], h: Header, out: &mut [u8]) -> Answer
-    requires { (opLength h.word ≡ 0) × Ready f.now h × (2048 ≤ length out.old) }
+    requires { (op_length h.word ≡ 0) × Ready f.now h × (2048 ≤ length out.old) }
     ensures { Done (transit_quiet (ways_by t) f.now h NoAlert) result out.old out.new }
 {
     let hop = t.hop;
@@ -393,7 +393,7 @@ pub fn forward(t: Lookup, f: &[u8], h: Header, out: &mut [u8]) -> Answer
 
 // 29 and 50, with the area as it is.
 fn send_whole(t: Lookup, r: NextHop, f: &[u8], h: Header, out: &mut [u8]) -> Answer
-    requires { (areaSent (ways_by t) (areaOf f.now h) ≡ areaOf f.now h) × Ready f.now h × (2048 ≤ length out.old) }
+    requires { (area_sent (ways_by t) (area_of f.now h) ≡ area_of f.now h) × Ready f.now h × (2048 ≤ length out.old) }
     ensures { Done (Rules.onward (ways_by t) r f.now h [] 0) result out.old out.new }
 {
     let size = f.len() - h.place;

@@ -26,7 +26,7 @@ pub fn multi(w: u16) -> u16
 }
 
 pub fn op_length(w: u16) -> u16
-    ensures { result ≡ Rules.opLength w }
+    ensures { result ≡ Rules.op_length w }
 {
     w >> 6 & 31
 }
@@ -47,7 +47,7 @@ pub fn header_word(v: u16, r: u16, m: u16, op: u16, hop: u16) -> u16
 // Where the inner frame begins.
 pub fn inner_start(h: Header) -> usize
     requires { h.place ≤ 18 }
-    ensures { result ≡ Rules.innerStart h }
+    ensures { result ≡ Rules.inner_start h }
 {
     h.place + 6 + 4 * op_length(h.word) as usize
 }
@@ -62,7 +62,7 @@ pub fn to_mac(word: u64, f: &[u8]) -> bool
 // 12 to 18, if one of them is given.
 pub fn header_refusal(word: u64, f: &[u8], h: Header) -> Refusal
     requires { h.place ≤ 18 }
-    ensures { result ≡ refusal_by (Rules.headerRefusal (word / 65536) f.now h) }
+    ensures { result ≡ refusal_by (Rules.header_refusal (word / 65536) f.now h) }
 {
     if !to_mac(word, f) {
         return Refusal::Refused(12);
@@ -95,7 +95,7 @@ pub fn header_refusal(word: u64, f: &[u8], h: Header) -> Refusal
 }
 
 pub fn we_are_egress(nickname: u16, h: Header) -> bool
-    ensures { result ≡ Rules.weAreEgress nickname h }
+    ensures { result ≡ Rules.we_are_egress nickname h }
 {
     if h.egress == nickname {
         return true;

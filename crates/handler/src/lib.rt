@@ -15,9 +15,9 @@ mod way;
 
 ghost use Rattle.std.specs.Prelude.{◌≡◌, true, false, ◌≤◌, length};
 ghost use Rattle.rules.specs.WayOut.{way_out};
-ghost use Rattle.rules.specs.Settings.{settingsOf, settingsRead, ways_of};
+ghost use Rattle.rules.specs.Settings.{settings_of, settings_read, ways_of};
 ghost use Rattle.rules.specs.Campus.{known};
-ghost use Rattle.rules.specs.Header.{opLength, weAreEgress};
+ghost use Rattle.rules.specs.Header.{op_length, we_are_egress};
 ghost use Rattle.rules.specs.Handling.{routed, handled};
 ghost use Rattle.rules.specs.declared.Alert.TheVariants.{NoAlert};
 ghost use Rattle.stores.specs.Store.{handled_in, way_out_in, ways_in, Whole};
@@ -85,7 +85,7 @@ fn handle_by(
 ) -> Answer
     requires { LookupOf settings.now (wanted_by own.nickname h) (lookup_by own j) × Ready frame.now h × (length clock.now ≡ 6)
         × (2048 ≤ length out.old) × (576 ≤ length beside.old) }
-    ensures { Both (routed (ways_of (settingsRead settings.now)) clock.now frame.now h) result
+    ensures { Both (routed (ways_of (settings_read settings.now)) clock.now frame.now h) result
         out.old out.new beside.old beside.new }
 {
     if header::we_are_egress(own.nickname, h) {
@@ -110,7 +110,7 @@ fn handle_by(
 
 // In transit, without an area.
 fn plain_by(own: Own, j: Validated, frame: &[u8], h: Header, out: &mut [u8]) -> Answer
-    requires { (opLength h.word ≡ 0) × Ready frame.now h × (2048 ≤ length out.old) }
+    requires { (op_length h.word ≡ 0) × Ready frame.now h × (2048 ≤ length out.old) }
     ensures { Done (transit_quiet (ways_by (lookup_by own j)) frame.now h NoAlert) result out.old out.new }
 {
     let t = validation::lookup(own, j);
@@ -185,9 +185,9 @@ fn route_by(
     out: &mut [u8],
     beside: &mut [u8],
 ) -> Answer
-    requires { LookupOf settings.now h.egress (lookup_by own j) × (weAreEgress own.nickname h ≡ false) × (rfc7179 ≡ j.rfc7179)
+    requires { LookupOf settings.now h.egress (lookup_by own j) × (we_are_egress own.nickname h ≡ false) × (rfc7179 ≡ j.rfc7179)
         × Ready frame.now h × (length clock.now ≡ 6) × (2048 ≤ length out.old) × (576 ≤ length beside.old) }
-    ensures { Both (routed (ways_of (settingsRead settings.now)) clock.now frame.now h) result
+    ensures { Both (routed (ways_of (settings_read settings.now)) clock.now frame.now h) result
         out.old out.new beside.old beside.new }
 {
     let mut kept = [0u8; 124];
@@ -224,7 +224,7 @@ fn forward_by(
 ) -> Answer
     requires { LookupOf settings.now h.egress (lookup_by own j) × Sends (ways_by (lookup_by own j)) frame.now h area.now
         × Forwardable frame.now h alert × (length clock.now ≡ 6) × (2048 ≤ length out.old) × (576 ≤ length beside.old) }
-    ensures { Both (transit_at (ways_of (settingsRead settings.now)) clock.now frame.now h alert) result
+    ensures { Both (transit_at (ways_of (settings_read settings.now)) clock.now frame.now h alert) result
         out.old out.new beside.old beside.new }
 {
     let a = transit_by(own, j, frame, h, alert, area, out);
@@ -260,9 +260,9 @@ fn reply_by(
     out: &mut [u8],
     beside: &mut [u8],
 ) -> Answer
-    requires { (known (settingsOf settings.now) ≡ true) × Owns own (ways_of (settingsRead settings.now)) × Forwardable frame.now h alert
+    requires { (known (settings_of settings.now) ≡ true) × Owns own (ways_of (settings_read settings.now)) × Forwardable frame.now h alert
         × (length clock.now ≡ 6) × (2048 ≤ length out.old) × (576 ≤ length beside.old) }
-    ensures { Replies (ways_of (settingsRead settings.now)) clock.now frame.now h alert a result
+    ensures { Replies (ways_of (settings_read settings.now)) clock.now frame.now h alert a result
         out.old out.new beside.old beside.new }
 {
     if !handling::asks_back(alert) {
@@ -362,7 +362,7 @@ fn plain_in(
     h: Header,
     out: &mut [u8],
 ) -> Answer
-    requires { Whole store.now × Owns own (ways_in store.now) × (opLength h.word ≡ 0) × Ready frame.now h × (length clock.now ≡ 6)
+    requires { Whole store.now × Owns own (ways_in store.now) × (op_length h.word ≡ 0) × Ready frame.now h × (length clock.now ≡ 6)
         × (2048 ≤ length out.old) }
     ensures { Done (routed (ways_in store.now) clock.now frame.now h) result out.old out.new }
 {
@@ -458,7 +458,7 @@ fn route_in(
     out: &mut [u8],
     beside: &mut [u8],
 ) -> Answer
-    requires { Whole store.now × Owns own (ways_in store.now) × (weAreEgress (ways_in store.now).nickname h ≡ false)
+    requires { Whole store.now × Owns own (ways_in store.now) × (we_are_egress (ways_in store.now).nickname h ≡ false)
         × (rfc7179 ≡ (ways_in store.now).rfc7179) × Ready frame.now h × (length clock.now ≡ 6) × (2048 ≤ length out.old) × (576 ≤ length beside.old) }
     ensures { Both (routed (ways_in store.now) clock.now frame.now h) result
         out.old out.new beside.old beside.new }

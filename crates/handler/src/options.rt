@@ -52,7 +52,7 @@ fn length_of(w: u16) -> u8
 // The two leading octets and the data, rounded up to four octets by one mask.
 fn option_size(size: u8) -> usize
     requires { size < 128 }
-    ensures { result ≡ O.optionSize size }
+    ensures { result ≡ O.option_size size }
 {
     (size as usize + 2 + 3) & 0xFC
 }
@@ -75,7 +75,7 @@ fn met(seen: bool, now: bool) -> bool
 // The cursor behind an option without a fault.
 fn behind(table: &[u64; 32], strip: bool, c: Cursor, key: u16, n: u8) -> Cursor
     requires { WholeOption c key n × Treats table.now }
-    ensures { result ≡ cursor_by strip c key n (c.at + O.optionSize n) }
+    ensures { result ≡ cursor_by strip c key n (c.at + O.option_size n) }
 {
     let entry = treatment::entry_of(table, key);
     let size = option_size(n);
@@ -93,7 +93,7 @@ fn behind(table: &[u64; 32], strip: bool, c: Cursor, key: u16, n: u8) -> Cursor
 // below it or equal, so that one test finds 30 and 31, and one 32 and 33.
 fn option_at(area: &[u8], table: &[u64; 32], strip: bool, c: Cursor) -> AreaRead
     requires { CursorIn area.now c × (c.at < length area.now) × Treats table.now }
-    ensures { result ≡ read_by strip c (O.optionAt area.now c.floor c.at) }
+    ensures { result ≡ read_by strip c (O.option_at area.now c.floor c.at) }
 {
     let at = c.at;
     let w = octets::be16(&area[at..at + 4], 0);
@@ -206,7 +206,7 @@ fn summarized(area: &[u8], read: AreaRead) -> AreaRead
 // The whole area, or the first fault.
 pub fn check_area(area: &[u8]) -> AreaRead
     requires { AreaWords area.now }
-    ensures { area_read_of result ≡ O.draftRead area.now }
+    ensures { area_read_of result ≡ O.draft_read area.now }
 {
     if area.len() <= 4 {
         return AreaRead::Read(START);
@@ -256,7 +256,7 @@ pub fn keep_all(area: &[u8], kept: &mut [u8; 124]) -> AreaRead
 
 // 20: "CHbH is 1, or CItE is 1 and we are the egress"
 pub fn area_stops(egress: bool, area: &[u8]) -> bool
-    ensures { result ≡ O.draftStops egress area.now }
+    ensures { result ≡ O.draft_stops egress area.now }
 {
     if chbh(area) {
         return true;

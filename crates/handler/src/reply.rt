@@ -1,6 +1,6 @@
 // The two replies.
 ghost use Rattle.std.specs.Prelude.{◌≡◌, ◌+◌, ◌%◌, ◌≤◌, ◌++◌, length};
-ghost use Rattle.rules.specs.Channel.{errorBody, echoBody, errorReply, echoReply};
+ghost use Rattle.rules.specs.Channel.{error_body, echo_body, error_reply, echo_reply};
 ghost use Rattle.octets.specs.Copy.{Wrote};
 ghost use Rattle.handler.specs.Shapes.{reply_octets, ways_by, Ready, Replied};
 
@@ -37,7 +37,7 @@ fn write_head(own: Own, ingress: u16, protocol: u16, code: u8, out: &mut [u8], a
 // The received frame from its TRILL Ethertype on, at most 128 octets.
 fn cited(f: &[u8], h: Header) -> &[u8]
     requires { (14 ≤ h.place) × (h.place ≤ length f.now) }
-    ensures { result.now ≡ errorBody f.now h }
+    ensures { result.now ≡ error_body f.now h }
 {
     let start = h.place - 2;
     if f.len() - start < 128 {
@@ -50,7 +50,7 @@ fn cited(f: &[u8], h: Header) -> &[u8]
 // An error reply from `at` on, behind its link header; says where it ends.
 fn write_error(own: Own, f: &[u8], h: Header, code: u8, out: &mut [u8], at: usize) -> usize
     requires { (14 ≤ h.place) × (h.place ≤ length f.now) × (at + 156 ≤ length out.old) }
-    ensures { Wrote (reply_octets own h.ingress 0x001 code ++ errorBody f.now h) at result out.old out.new }
+    ensures { Wrote (reply_octets own h.ingress 0x001 code ++ error_body f.now h) at result out.old out.new }
 {
     let at = write_head(own, h.ingress, rules::PROTOCOL_ERROR, code, out, at);
     octets::copy(out, at, cited(f, h))
@@ -66,7 +66,7 @@ fn answered(first: u8) -> u8
 // The echo body from `at` on, answered: as it is, then SPID and time received written over. Says where it ends.
 fn write_echo_body(body: &[u8], clock: &[u8], out: &mut [u8], at: usize) -> usize
     requires { (18 ≤ length body.now) × (length clock.now ≡ 6) × (at + length body.now ≤ length out.old) }
-    ensures { Wrote (echoBody body.now clock.now) at result out.old out.new }
+    ensures { Wrote (echo_body body.now clock.now) at result out.old out.new }
 {
     let end = octets::copy(out, at, body);
     let first = [answered(octets::octet(body, 0))];
@@ -79,7 +79,7 @@ fn write_echo_body(body: &[u8], clock: &[u8], out: &mut [u8], at: usize) -> usiz
 // An echo reply from `at` on, behind its link header; says where it ends.
 fn write_echo(own: Own, h: Header, clock: &[u8], body: &[u8], out: &mut [u8], at: usize) -> usize
     requires { (18 ≤ length body.now) × (length clock.now ≡ 6) × (at + 28 + length body.now ≤ length out.old) }
-    ensures { Wrote (reply_octets own h.ingress 0xFF8 0 ++ echoBody body.now clock.now) at result
+    ensures { Wrote (reply_octets own h.ingress 0xFF8 0 ++ echo_body body.now clock.now) at result
         out.old out.new }
 {
     let at = write_head(own, h.ingress, rules::PROTOCOL_ECHO, 0, out, at);
@@ -89,7 +89,7 @@ fn write_echo(own: Own, h: Header, clock: &[u8], body: &[u8], out: &mut [u8], at
 // Writes an error reply towards a next hop and says how long it is.
 pub fn error_reply(t: Lookup, r: NextHop, f: &[u8], h: Header, code: u8, out: &mut [u8]) -> usize
     requires { Ready f.now h × (576 ≤ length out.old) }
-    ensures { Replied (errorReply (ways_by t) r f.now h code) result out.old out.new }
+    ensures { Replied (error_reply (ways_by t) r f.now h code) result out.old out.new }
 {
     let at = way::write_link(t, r, out);
     let own = t.own;
@@ -106,7 +106,7 @@ pub fn echo_reply(
     out: &mut [u8],
 ) -> usize
     requires { (18 ≤ length body.now) × (length body.now ≤ 530) × (length clock.now ≡ 6) × (576 ≤ length out.old) }
-    ensures { Replied (echoReply (ways_by t) r h clock.now body.now) result out.old out.new }
+    ensures { Replied (echo_reply (ways_by t) r h clock.now body.now) result out.old out.new }
 {
     let at = way::write_link(t, r, out);
     let own = t.own;

@@ -9,7 +9,7 @@ use octets::Record;
 use rules::{FieldRead, Ruling};
 
 pub fn own_of(s: &[u8]) -> Own
-    ensures { Owns result (S.ways_of (S.settingsRead s.now)) }
+    ensures { Owns result (S.ways_of (S.settings_read s.now)) }
 {
     let FieldRead::Taken { next, .. } = octets::field_at(s, 0) else {
         return Own {

@@ -3,7 +3,7 @@
 // from 4 on the records, two words each, in order of destination and serial; from 132 on 256 hints, eight to a word.
 ghost use Rattle.std.specs.Prelude.{◌≡◌, ◌+◌, ◌*◌, ◌/◌, ◌%◌, ◌^◌, ◌≤◌, ◌<◌, length};
 ghost use Rattle.handler.specs.Shapes.{Owns, ways_by, only_for};
-ghost use Rattle.stores.specs.Store.{dest_of, dest_at, hopOf, stepped, searched, last_at, hint_at, count_in, index_in, hop_for, ways_in, store_good, Whole};
+ghost use Rattle.stores.specs.Store.{dest_of, dest_at, hop_of, stepped, searched, last_at, hint_at, count_in, index_in, hop_for, ways_in, store_good, Whole};
 
 use crate::way::{Lookup, Own};
 use rules::{NextHop, Ruling};
@@ -134,7 +134,7 @@ pub fn index_inlined(w: &[u64], d: u16) -> usize
 }
 
 fn hop_of(first: u64, second: u64) -> NextHop
-    ensures { result ≡ hopOf first second }
+    ensures { result ≡ hop_of first second }
 {
     NextHop {
         destination: dest_of(first),

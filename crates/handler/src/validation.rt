@@ -1,7 +1,7 @@
 // Whether settings octets are good (document 01, "Settings"): one tag 1 field, then tag 2, 3 and 6 fields; anything else is bad.
 ghost use Rattle.std.specs.Prelude.{◌≡◌, true, false, not, ◌<◌, ◌≤◌, length};
 ghost use Rattle.rules.specs.Fields.{field};
-ghost use Rattle.rules.specs.Settings.{hopOf};
+ghost use Rattle.rules.specs.Settings.{hop_of};
 ghost use Rattle.handler.specs.Ranks.{rank_of, mix_of, slot_by, mark_by, covers_by, rank_met, ranks_met, Kept, hop_taken, with_rank, Taking, Scanned};
 ghost use Rattle.handler.specs.Ranks.{lookup_by, ValidatedBy};
 ghost use Rattle.octets.specs.Flags.{flag_tag};
@@ -45,7 +45,7 @@ fn mark_of(mixed: u64) -> u8
 
 // The rank of a record as it stands among the settings.
 fn rank_at(v: &[u8]) -> u64
-    ensures { result ≡ rank_of (hopOf v.now) }
+    ensures { result ≡ rank_of (hop_of v.now) }
 {
     octets::be16(v, 0) as u64 * 4294967296 + octets::be32(v, 10) as u64
 }

@@ -2,7 +2,7 @@
 ghost use Rattle.std.specs.Prelude.{◌≡◌, ◌++◌, ◌+◌, ◌≤◌, length};
 ghost use Rattle.rules.specs.Octets.{octets48};
 ghost use Rattle.rules.specs.Link.{link};
-ghost use Rattle.rules.specs.Channel.{returnPath};
+ghost use Rattle.rules.specs.Channel.{return_path};
 ghost use Rattle.rules.specs.WayOut.{way_out_by};
 ghost use Rattle.octets.specs.Words.{octets64};
 ghost use Rattle.octets.specs.Copy.{Wrote};
@@ -71,7 +71,7 @@ pub fn write_link(t: Lookup, r: NextHop, out: &mut [u8]) -> usize
 
 // The next hop back: "No return path: the ingress is our own nickname or has no next hop."
 pub fn return_path(t: Lookup, ingress: u16) -> Ruling
-    ensures { result ≡ returnPath (ways_by t) ingress }
+    ensures { result ≡ return_path (ways_by t) ingress }
 {
     if ingress == t.own.nickname {
         return Ruling::Absent;

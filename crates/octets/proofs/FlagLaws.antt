@@ -9,7 +9,7 @@ use borrow.Author.Rules.{rules}
 use borrow.Author.Tests.{not-false}
 use lib.Dec.{leb, eqb}
 use lib.ListN.{length}
-use Rattle.rules.specs.{Octets.octet, Fields.field, Fields.lengthGood, Settings.Settings, Settings.continues}
+use Rattle.rules.specs.{Octets.octet, Fields.field, Fields.length_good, Settings.Settings, Settings.continues}
 use Rattle.rules.proofs.TestLaws.{and_no, and_yes, by_equal, tests}
 use Rattle.rules.proofs.FrameLaws.{none_given}
 use Rattle.octets.specs.Flags.{flag_tag, flag_value, flag_by}
@@ -38,7 +38,7 @@ module _ (tag : ℕ) (v : List ℕ) (e : flag_by tag v ≡ 0) where
 
 -- what is refused is what does not go with settings
 goes_with : (T : Settings) (tag : ℕ) (v : List ℕ) → (tag ≡ 2 → ⊥) → (flag_tag tag && (eqb (length v) 1 && flag_value tag v)) ≡ continues T (field tag v)
-unfolding continues flag_tag flag_value lengthGood
+unfolding continues flag_tag flag_value length_good
 goes_with T tag v n = by_equal tag 6 (λ e. rw e) (λ f. by_equal tag 3 (λ e. rw e) (λ g. simp (tests, and_no)))
 
 pub flag_continues : (T : Settings) (tag : ℕ) (v : List ℕ) → (tag ≡ 2 → ⊥) → eqb (flag_by tag v) 0 ≡ continues T (field tag v)

@@ -1,12 +1,12 @@
 // The link header and the TRILL header behind it (document 01, "Frames"; RFC 6325, 3).
 ghost use Rattle.std.specs.Prelude.{◌≡◌};
-ghost use Rattle.rules.specs.Link.{linkLength};
+ghost use Rattle.rules.specs.Link.{link_length};
 ghost use Rattle.rules.specs.Header as Rules;
 
 use rules::{FrameRead, Header};
 
 fn link_length(f: &[u8]) -> usize
-    ensures { result ≡ linkLength f.now }
+    ensures { result ≡ link_length f.now }
 {
     if crate::be16(f, 12) == rules::ETHERTYPE_TAG {
         18
@@ -17,7 +17,7 @@ fn link_length(f: &[u8]) -> usize
 
 // 10, 11 and 10 again, or the header.
 pub fn read_frame(f: &[u8]) -> FrameRead
-    ensures { result ≡ Rules.readFrame f.now }
+    ensures { result ≡ Rules.read_frame f.now }
 {
     // The common case, one read: the Ethertype of a frame without a tag and the header's three fields.
     if 20 <= f.len() {

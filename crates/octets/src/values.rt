@@ -9,7 +9,7 @@ use rules::NextHop;
 
 // 0x0001 to 0xFFBF.
 fn nickname_valid(n: u16) -> bool
-    ensures { result ≡ S.nicknameValid n }
+    ensures { result ≡ S.nickname_valid n }
 {
     if n == 0 {
         return false;
@@ -19,7 +19,7 @@ fn nickname_valid(n: u16) -> bool
 
 // Individual and not all zero.
 fn mac_good(mac: u64) -> bool
-    ensures { result ≡ S.macGood mac }
+    ensures { result ≡ S.mac_good mac }
 {
     if (mac >> 40) % 2 != 0 {
         return false;
@@ -29,7 +29,7 @@ fn mac_good(mac: u64) -> bool
 
 // Its eight octets in one read: the nickname and the MAC.
 fn switch_good(v: &[u8]) -> bool
-    ensures { result ≡ S.switchGood (S.switchOf v.now) }
+    ensures { result ≡ S.switch_good (S.switch_of v.now) }
 {
     let n = crate::be64(v, 0);
     if !nickname_valid((n >> 48) as u16) {
@@ -53,7 +53,7 @@ pub fn opens(tag: u8, v: &[u8]) -> bool
 
 // Whether a record may have this length: T-01, with a VLAN or without.
 pub fn hop_size(size: usize) -> bool
-    ensures { result ≡ F.hopSize size }
+    ensures { result ≡ F.hop_size size }
 {
     if size == 14 {
         return true;
@@ -95,7 +95,7 @@ pub fn hop_of(r: Record) -> NextHop
 // A neighbour is a valid nickname, or 0 for a withdrawal; a VLAN is 1 to 4,094, or 0 for none. The MAC is tested where it stands: its first four
 // octets decide for nearly all that it is not zero.
 pub fn record_good(r: Record) -> bool
-    ensures { result ≡ S.hopGood (hop_by r) }
+    ensures { result ≡ S.hop_good (hop_by r) }
 {
     if !nickname_valid((r.head >> 48) as u16) {
         return false;

@@ -14,7 +14,7 @@ use lib.ListN.{length, get_or, set, take, drop, length-drop}
 use borrow.Rule.Slice.PartMut.{put_mid, post_of, Post-is}
 use lib.Seq.{drop_at, drop-length, take_all, take-length, length-take-le, sets-eq}
 use Rattle.rules.specs.Octets.{if◌then◌else◌, be48, octets48, put}
-use Rattle.rules.specs.{Settings.Settings, Settings.settingsOf, Answer.Handled, Answer.dropped}
+use Rattle.rules.specs.{Settings.Settings, Settings.settings_of, Answer.Handled, Answer.dropped}
 use Rattle.rules.proofs.{TestLaws.tests, OctetLaws.put-none}
 use Rattle.octets.specs.Copy.{Wrote, fitting}
 use Rattle.octets.proofs.Ends.{six_octets, copied}
@@ -40,9 +40,9 @@ pub ruleset start_refusal_laws = (rules, tests, refuses_settings, takes_settings
 -- settings are bad exactly if preparing says so, given the words
 pub prepared_bad : (settings : List ℕ) (n : ℕ) → store_words ≤ n → not (eqb (preparing settings n) 0) ≡ settings_bad settings
 unfolding St.preparing settings_bad
-prepared_bad settings n h = go (settingsOf settings) refl
+prepared_bad settings n h = go (settings_of settings) refl
   where
-    go : (o : Option Settings) → settingsOf settings ≡ o → not (eqb (preparing settings n) 0) ≡ settings_bad settings
+    go : (o : Option Settings) → settings_of settings ≡ o → not (eqb (preparing settings n) 0) ≡ settings_bad settings
     go none e = rw (preparing, settings_bad, e)
     go (some T) e = simp (preparing, settings_bad, e, tests)
 

@@ -10,7 +10,7 @@ use borrow.Author.Tests.{eqb-true, not-false}
 use lib.ListN.{length, get_or, set, take, drop, replicate, length-append, length-set, length-drop}
 use lib.Seq.{take_at, get_or-set_same, get_or-set_other, drop-set-lt, get_or-take}
 use Rattle.rules.specs.{Octets.be48, Octets.octets48, Octets.put, Handling.handled}
-use Rattle.rules.specs.Settings.{Settings, ways_of, settingsOf}
+use Rattle.rules.specs.Settings.{Settings, ways_of, settings_of}
 use Rattle.rules.proofs.{TestLaws.by_order, TestLaws.by_equal, TestLaws.tests, HandlingLaws.settings_good, HandlingLaws.frame-long, OctetLaws.length-put}
 use Rattle.stores.specs.Store.{store_words, preparing, handled_in}
 use Rattle.reader.specs
@@ -163,11 +163,11 @@ unfolding start_refusal
 none_said true clock room beside_room e = absurd (omega arith)
 none_said false clock room beside_room e = (refl, by_equal clock 6 (λ z. z) (λ n. absurd (omega (arith, simp tests at e))))
 
-good_settings : (settings : List ℕ) → settings_bad settings ≡ false → (S : Settings) × (settingsOf settings ≡ some S)
+good_settings : (settings : List ℕ) → settings_bad settings ≡ false → (S : Settings) × (settings_of settings ≡ some S)
 unfolding settings_bad
-good_settings settings e = go (settingsOf settings) refl
+good_settings settings e = go (settings_of settings) refl
   where
-    go : (w : Option Settings) → settingsOf settings ≡ w → (S : Settings) × (settingsOf settings ≡ some S)
+    go : (w : Option Settings) → settings_of settings ≡ w → (S : Settings) × (settings_of settings ≡ some S)
     go none g = absurd (true≢false (rw (settings_bad, g) at e))
     go (some S) g = (S, g)
 

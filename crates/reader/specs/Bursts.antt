@@ -4,7 +4,7 @@ use Rattle.std.proofs.Math.Option.{none, some}
 use Rattle.rules.specs.Octets.{if◌then◌else◌, be48, octets48, put}
 use Rattle.rules.specs.Answer.{Handled, dropped}
 use Rattle.rules.specs.Handling.{frame_most}
-use Rattle.rules.specs.Settings.{settingsOf}
+use Rattle.rules.specs.Settings.{settings_of}
 use Rattle.handler.specs.Tasks.{Both}
 use Rattle.stores.specs.Store.{Prepared, preparing, handled_in}
 use Rattle.handler.specs.declared.answers.Answer.{Answer}
@@ -51,7 +51,7 @@ start_refusal bad clock room beside_room =
     else 0
 
 unfoldable pub settings_bad : List ℕ → Bool
-settings_bad settings = elim (settingsOf settings) [ none ↦ true | some S ↦ false ]
+settings_bad settings = elim (settings_of settings) [ none ↦ true | some S ↦ false ]
 
 abbrev pub early_at_start : List ℕ → List ℕ → ℕ → ℕ → ℕ
 early_at_start settings clock room beside_room = start_refusal (settings_bad settings) (length clock) room beside_room

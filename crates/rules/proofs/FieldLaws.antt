@@ -12,7 +12,7 @@ use mir.Syntax.{w8}
 use mir.Val.{Fits}
 use lib.ListN.{length, get_or}
 use specs.Octets.{octet, be16, part}
-use specs.Fields.{field, cut, field_at, fieldsFrom, fields_at, hopSize, lengthGood}
+use specs.Fields.{field, cut, field_at, fields_from, fields_at, hop_size, length_good}
 use specs.declared.FieldRead.{FieldRead}
 use specs.declared.FieldRead.TheVariants.{Taken, Cut}
 use Rattle.rules.proofs.TestLaws.{tests, by_order, either}
@@ -62,28 +62,28 @@ field_read s at t n m e = rw e at found
 
 -- the fields from a place on
 module _ (fuel : ℕ) (s : List ℕ) (at : ℕ) where
-  pub fields_end : length s ≤ at → fieldsFrom (suc fuel) s at ≡ []
-  unfolding fieldsFrom
-  fields_end h = simp (fieldsFrom, tests)
+  pub fields_end : length s ≤ at → fields_from (suc fuel) s at ≡ []
+  unfolding fields_from
+  fields_end h = simp (fields_from, tests)
 
-  pub fields_cut : at < length s → field_at s at ≡ Cut → fieldsFrom (suc fuel) s at ≡ cut ∷ []
-  unfolding fieldsFrom
-  fields_cut h e = simp (fieldsFrom, tests, e)
+  pub fields_cut : at < length s → field_at s at ≡ Cut → fields_from (suc fuel) s at ≡ cut ∷ []
+  unfolding fields_from
+  fields_cut h e = simp (fields_from, tests, e)
 
   pub fields_on : (tag size next : ℕ) → at < length s → field_at s at ≡ Taken tag size next
-      → fieldsFrom (suc fuel) s at ≡ field tag (part s (at + 3) size) ∷ fieldsFrom fuel s next
-  unfolding fieldsFrom
-  fields_on tag size next h e = simp (fieldsFrom, tests, e)
+      → fields_from (suc fuel) s at ≡ field tag (part s (at + 3) size) ∷ fields_from fuel s next
+  unfolding fields_from
+  fields_on tag size next h e = simp (fields_from, tests, e)
 
 -- a fuel that reaches the end of the octets is as good as any other that does
 module _ (s : List ℕ) where
-  pub fields_fuel : (g g' at : ℕ) → length s ≤ at + g → length s ≤ at + g' → fieldsFrom (suc g) s at ≡ fieldsFrom (suc g') s at
+  pub fields_fuel : (g g' at : ℕ) → length s ≤ at + g → length s ≤ at + g' → fields_from (suc g) s at ≡ fields_from (suc g') s at
   fields_fuel zero g' at h h' = let done : length s ≤ at = omega arith in rw (fields_end 0, fields_end g')
   fields_fuel (suc g) zero at h h' = let done : length s ≤ at = omega arith in rw (fields_end (suc g), fields_end 0)
   fields_fuel (suc g) (suc g') at h h' =
       by_order at (length s)
       (λ l.
-      elim (field_at s at) as (λ w. field_at s at ≡ w → fieldsFrom (suc (suc g)) s at ≡ fieldsFrom (suc (suc g')) s at) [
+      elim (field_at s at) as (λ w. field_at s at ≡ w → fields_from (suc (suc g)) s at ≡ fields_from (suc (suc g')) s at) [
         | Cut ↦ λ e. simp fields_cut
         | Taken tag size next ↦ λ e.
             let i = field_read s at tag size next e in
@@ -92,7 +92,7 @@ module _ (s : List ℕ) where
       ] refl)
       (λ e. simp fields_end)
 
-  pub fields_whole : (at g : ℕ) → length s ≤ at + g → fieldsFrom (suc g) s at ≡ fields_at s at
+  pub fields_whole : (at g : ℕ) → length s ≤ at + g → fields_from (suc g) s at ≡ fields_at s at
   fields_whole at g h = fields_fuel g (length s) at h (omega arith)
 
   -- so the fields from a place on, without a fuel
@@ -111,38 +111,38 @@ module _ (s : List ℕ) where
 
 -- the length that a tag has, by tag
 module _ (tag size : ℕ) where
-  pub length_switch : tag ≡ 1 → eqb size 8 ≡ lengthGood tag size
-  unfolding lengthGood
+  pub length_switch : tag ≡ 1 → eqb size 8 ≡ length_good tag size
+  unfolding length_good
   length_switch e = rw e
 
-  pub length_hop : (ok : Bool) → ok ≡ hopSize size → tag ≡ 2 → ok ≡ lengthGood tag size
-  unfolding lengthGood
+  pub length_hop : (ok : Bool) → ok ≡ hop_size size → tag ≡ 2 → ok ≡ length_good tag size
+  unfolding length_good
   length_hop ok is e = rw e is
 
-  pub length_flag : tag ≡ 3 → eqb size 1 ≡ lengthGood tag size
-  unfolding lengthGood
+  pub length_flag : tag ≡ 3 → eqb size 1 ≡ length_good tag size
+  unfolding length_good
   length_flag e = rw e
 
-  pub length_edition : tag ≡ 6 → eqb size 1 ≡ lengthGood tag size
-  unfolding lengthGood
+  pub length_edition : tag ≡ 6 → eqb size 1 ≡ length_good tag size
+  unfolding length_good
   length_edition e = rw e
 
-  pub length_clock : tag ≡ 4 → eqb size 6 ≡ lengthGood tag size
-  unfolding lengthGood
+  pub length_clock : tag ≡ 4 → eqb size 6 ≡ length_good tag size
+  unfolding length_good
   length_clock e = rw e
 
   module _ (one : tag ≡ 1 → ⊥) (two : tag ≡ 2 → ⊥) (three : tag ≡ 3 → ⊥) (four : tag ≡ 4 → ⊥) where
-    pub length_unknown : (tag ≡ 5 → ⊥) → (tag ≡ 6 → ⊥) → false ≡ lengthGood tag size
-    unfolding lengthGood
+    pub length_unknown : (tag ≡ 5 → ⊥) → (tag ≡ 6 → ⊥) → false ≡ length_good tag size
+    unfolding length_good
     length_unknown n m = simp tests
 
   module _ (five : tag ≡ 5) where
-    pub length_short : size < 2 → false ≡ lengthGood tag size
-    unfolding lengthGood
+    pub length_short : size < 2 → false ≡ length_good tag size
+    unfolding length_good
     length_short h = simp (five, tests)
 
-    pub length_frame : 2 ≤ size → leb size 2050 ≡ lengthGood tag size
-    unfolding lengthGood
+    pub length_frame : 2 ≤ size → leb size 2050 ≡ length_good tag size
+    unfolding length_good
     length_frame h = simp (five, tests)
 
 pub ruleset length_good_laws = (rules, length_switch, length_hop, length_flag, length_edition, length_clock, length_unknown, length_short, length_frame)

@@ -9,7 +9,7 @@ use native.Mathlib.Omega.{arith}
 use lib.ListN.{length}
 use specs.{Octets.part, Campus.known}
 use specs.Fields.{Field, field, cut, field_at, fields_at, fields}
-use specs.Settings.{Settings, switchOf, withField, opens, opened, continues, settingsFrom, settingsOf}
+use specs.Settings.{Settings, switch_of, with_field, opens, opened, continues, settings_from, settings_of}
 use specs.declared.FieldRead.TheVariants.{Taken, Cut}
 use proofs.TestLaws.{by_order, either}
 use proofs.FieldLaws.{field_read, fields-at-end, fields-at-cut, fields-at-on}
@@ -20,24 +20,24 @@ pub continues-cut : (T : Settings) → continues T cut ≡ false
 unfolding continues
 continues-cut T = refl
 
-pub opened-field : (tag : ℕ) (v : List ℕ) → opened (field tag v) ≡ switchOf v
+pub opened-field : (tag : ℕ) (v : List ℕ) → opened (field tag v) ≡ switch_of v
 unfolding opened
 opened-field tag v = refl
 
 -- the first field
 module _ (s : List ℕ) (f : Field) (fs : List Field) (is : fields s ≡ f ∷ fs) where
-  pub settings_shut : opens f ≡ false → settingsOf s ≡ none
-  unfolding settingsOf
-  settings_shut o = rw (settingsOf, is, o)
+  pub settings_shut : opens f ≡ false → settings_of s ≡ none
+  unfolding settings_of
+  settings_shut o = rw (settings_of, is, o)
 
-  pub settings-open : opens f ≡ true → settingsOf s ≡ settingsFrom (opened f) fs
-  unfolding settingsOf
-  settings-open o = rw (settingsOf, is, o)
+  pub settings-open : opens f ≡ true → settings_of s ≡ settings_from (opened f) fs
+  unfolding settings_of
+  settings-open o = rw (settings_of, is, o)
 
-pub settings-cut : (s : List ℕ) → field_at s 0 ≡ Cut → false ≡ known (settingsOf s)
-unfolding fields settingsOf opens
+pub settings-cut : (s : List ℕ) → field_at s 0 ≡ Cut → false ≡ known (settings_of s)
+unfolding fields settings_of opens
 settings-cut s e =
-    by_order 0 (length s) (λ some_octet. rw (settingsOf, fields-at-cut s 0 some_octet e)) (λ empty. rw (settingsOf, fields-at-end s 0 empty))
+    by_order 0 (length s) (λ some_octet. rw (settings_of, fields-at-cut s 0 some_octet e)) (λ empty. rw (settings_of, fields-at-end s 0 empty))
 
 module _ (s : List ℕ) {tag size next : ℕ} (e : field_at s 0 ≡ Taken tag size next) where
   pub first : fields s ≡ field tag (part s 3 (next - 3)) ∷ fields_at s next
@@ -47,16 +47,16 @@ module _ (s : List ℕ) {tag size next : ℕ} (e : field_at s 0 ≡ Taken tag si
       let the_size : next - 3 ≡ size = omega arith in
       rw the_size (fields-at-on s 0 tag size next (omega arith) e)
 
-  pub settings-bad : opens (field tag (part s 3 (next - 3))) ≡ false → false ≡ known (settingsOf s)
+  pub settings-bad : opens (field tag (part s 3 (next - 3))) ≡ false → false ≡ known (settings_of s)
   settings-bad o = rw (settings_shut s (field tag (part s 3 (next - 3))) (fields_at s next) first o)
 
 -- whatever is made of the nickname and the MAC, no later field changes it
 module _ {A : Type 0} (own : ℕ → ℕ → A) where
-  switch_with : (S : Settings) (f : Field) → own (withField S f).nickname (withField S f).mac ≡ own S.nickname S.mac
-  unfolding withField
+  switch_with : (S : Settings) (f : Field) → own (with_field S f).nickname (with_field S f).mac ≡ own S.nickname S.mac
+  unfolding with_field
   switch_with S cut = refl
   switch_with S (field tag v) = search (either (λ (T : Settings). own T.nickname T.mac ≡ own S.nickname S.mac))
 
-  pub switch-fold : (S : Settings) (fs : List Field) → own (foldl withField S fs).nickname (foldl withField S fs).mac ≡ own S.nickname S.mac
+  pub switch-fold : (S : Settings) (fs : List Field) → own (foldl with_field S fs).nickname (foldl with_field S fs).mac ≡ own S.nickname S.mac
   switch-fold S [] = refl
-  switch-fold S (f ∷ fs) = switch-fold (withField S f) fs ∙ switch_with S f
+  switch-fold S (f ∷ fs) = switch-fold (with_field S f) fs ∙ switch_with S f

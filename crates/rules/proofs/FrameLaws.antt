@@ -14,9 +14,9 @@ use lib.ListN.{length, drop, length-append}
 use lib.Seq.{take_at, drop_at, drop-drop, drop-append-add}
 use Rattle.rules.specs
 use specs.Octets.{be16, be48, octets16}
-use specs.{Settings.Ways, Options.WellFormed, Options.draftRead, Extension.areaRead, Extension.areaSent, Handling.forwardedRest}
-use specs.Link.{linkLength, linkEthertype, outerTag, link, ethertypeTag, ethertypeTrill}
-use specs.Header.{version, reserved, multi, opLength, hop_count, header_word, readFrame, innerStart, areaOf, inner_of, headerRefusal, weAreEgress}
+use specs.{Settings.Ways, Options.WellFormed, Options.draft_read, Extension.area_read, Extension.area_sent, Handling.forwarded_rest}
+use specs.Link.{link_length, link_ethertype, outer_tag, link, ethertype_tag, ethertype_trill}
+use specs.Header.{version, reserved, multi, op_length, hop_count, header_word, read_frame, inner_start, area_of, inner_of, header_refusal, we_are_egress}
 use specs.declared.{NextHop.NextHop, Header.Header, FrameRead.FrameRead}
 use specs.declared.FrameRead.TheVariants.{Trill, Unreadable}
 use Rattle.rules.proofs
@@ -30,69 +30,69 @@ pub record Split (w v r m op hop : ℕ) : Type 0 where
   pub its_version : version w ≡ v
   pub its_reserved : reserved w ≡ r
   pub its_multi : multi w ≡ m
-  pub its_op : opLength w ≡ op
+  pub its_op : op_length w ≡ op
   pub its_hop : hop_count w ≡ hop
 
 pub word_split : (v r m op hop : ℕ) → v < 4 → r < 4 → m < 2 → op < 32 → hop < 64 → Split (header_word v r m op hop) v r m op hop
 word_split v r m op hop hv hr hm ho hh = omega arith
 
 -- (in steps, since the remainders of one number are too many unknowns at once)
-pub word_rebuilt : (w : ℕ) → w < 65536 → header_word (version w) (reserved w) (multi w) (opLength w) (hop_count w) ≡ w
+pub word_rebuilt : (w : ℕ) → w < 65536 → header_word (version w) (reserved w) (multi w) (op_length w) (hop_count w) ≡ w
 word_rebuilt w h =
     let e1 : w / 64 * 64 + hop_count w ≡ w = omega arith in
-    let e2 : w / 2048 * 32 + opLength w ≡ w / 64 = omega arith in
+    let e2 : w / 2048 * 32 + op_length w ≡ w / 64 = omega arith in
     let e3 : w / 4096 * 2 + multi w ≡ w / 2048 = omega arith in
     let e4 : w / 16384 * 4 + reserved w ≡ w / 4096 = omega arith in
     let e5 : version w ≡ w / 16384 = omega arith in
     omega arith
 
-pub link-length : (f : List ℕ) → (14 ≤ linkLength f) × (linkLength f ≤ 18)
-unfolding linkLength
-link-length f = by-test (eqb (be16 f 12) ethertypeTag) (λ e. rw e (omega arith)) (λ e. rw e (omega arith))
+pub link-length : (f : List ℕ) → (14 ≤ link_length f) × (link_length f ≤ 18)
+unfolding link_length
+link-length f = by-test (eqb (be16 f 12) ethertype_tag) (λ e. rw e (omega arith)) (λ e. rw e (omega arith))
 
 -- the link header's length as the code reads it
 module _ (f : List ℕ) (e : ℕ) (is : e ≡ be16 f 12) where
-  pub length-tagged : e ≡ ethertypeTag → 18 ≡ linkLength f
-  unfolding linkLength
+  pub length-tagged : e ≡ ethertype_tag → 18 ≡ link_length f
+  unfolding link_length
   length-tagged t = rw (← is, t)
 
-  pub length-plain : (e ≡ ethertypeTag → ⊥) → 14 ≡ linkLength f
-  unfolding linkLength
+  pub length-plain : (e ≡ ethertype_tag → ⊥) → 14 ≡ link_length f
+  unfolding link_length
   length-plain n = simp (← is, tests)
 
 pub ruleset link_length_laws = (rules, length-tagged, length-plain)
 
 -- a link header of TRILL, with a tag or without
 pub record IsLink (l : List ℕ) : Type 0 where
-  pub long : length l ≡ linkLength l
-  pub trill : linkEthertype l ≡ ethertypeTrill
+  pub long : length l ≡ link_length l
+  pub trill : link_ethertype l ≡ ethertype_trill
 
 pub link-written : (S : Ways) (r : NextHop) → IsLink (link S r)
-unfolding link outerTag linkLength
+unfolding link outer_tag link_length
 link-written S r = by-test (eqb r.vlan 0) (λ e. rw e (search)) (λ e. rw e (search))
 
 pub length-link : (S : Ways) (r : NextHop) → length (link S r) ≡ cond (eqb r.vlan 0) 14 18
-unfolding link outerTag
+unfolding link outer_tag
 length-link S r = by-test (eqb r.vlan 0) (λ e. rw e) (λ e. rw e)
 
 pub link-most : (S : Ways) (r : NextHop) → length (link S r) ≤ 18
 link-most S r = omega (arith, (link-written S r).long, link-length (link S r))
 
 module _ (l t : List ℕ) (is : IsLink l) where
-  pub link_kept : linkLength (l ++ t) ≡ linkLength l
-  unfolding linkLength
+  pub link_kept : link_length (l ++ t) ≡ link_length l
+  unfolding link_length
   link_kept = rw (be16_before l t 12 (omega (arith, is.long, link-length l)))
 
-  ethertype_kept : linkEthertype (l ++ t) ≡ ethertypeTrill
-  ethertype_kept = rw (link_kept, be16_before l t (linkLength l - 2) (omega (arith, is.long, link-length l))) is.trill
+  ethertype_kept : link_ethertype (l ++ t) ≡ ethertype_trill
+  ethertype_kept = rw (link_kept, be16_before l t (link_length l - 2) (omega (arith, is.long, link-length l))) is.trill
 
 -- reading a frame as the code does, by outcome: n is the link header's length, e the Ethertype at its end
 module _ (f : List ℕ) where
-  pub read_short : length f < 14 → Unreadable 10 ≡ readFrame f
-  unfolding readFrame
+  pub read_short : length f < 14 → Unreadable 10 ≡ read_frame f
+  unfolding read_frame
   read_short h = simp tests
 
-  module _ (n : ℕ) (is : n ≡ linkLength f) where
+  module _ (n : ℕ) (is : n ≡ link_length f) where
     pub read_from : 2 ≤ n
     read_from = omega (arith, link-length f)
 
@@ -100,30 +100,30 @@ module _ (f : List ℕ) where
     read_near = omega (arith, link-length f)
 
     module _ (a : 14 ≤ length f) where
-      pub read_tag_short : length f < n → Unreadable 10 ≡ readFrame f
-      unfolding readFrame
+      pub read_tag_short : length f < n → Unreadable 10 ≡ read_frame f
+      unfolding read_frame
       read_tag_short h = simp (tests, ← is)
 
       module _ (b : n ≤ length f) (e : ℕ) where
-        pub read-other : e ≡ be16 f (n - 2) → (e ≡ ethertypeTrill → ⊥) → Unreadable 11 ≡ readFrame f
-        unfolding readFrame
+        pub read-other : e ≡ be16 f (n - 2) → (e ≡ ethertype_trill → ⊥) → Unreadable 11 ≡ read_frame f
+        unfolding read_frame
         read-other its h = simp (tests, ← is, ← its)
 
-        module _ (c : e ≡ ethertypeTrill) (its : e ≡ be16 f (n - 2)) where
-          pub read_cut : length f < n + 6 → Unreadable 10 ≡ readFrame f
-          unfolding readFrame
+        module _ (c : e ≡ ethertype_trill) (its : e ≡ be16 f (n - 2)) where
+          pub read_cut : length f < n + 6 → Unreadable 10 ≡ read_frame f
+          unfolding read_frame
           read_cut h = simp (tests, ← is, ← its, c)
 
           pub read-trill : (w g i : ℕ) → n + 6 ≤ length f → w ≡ be16 f n → g ≡ be16 f (n + 2) → i ≡ be16 f (n + 4)
-              → Trill (record { place = n; word = w; egress = g; ingress = i }) ≡ readFrame f
-          unfolding readFrame
+              → Trill (record { place = n; word = w; egress = g; ingress = i }) ≡ read_frame f
+          unfolding read_frame
           read-trill w g i h ew eg ei = simp (tests, ← is, ← its, c, ew, eg, ei)
 
 pub ruleset read_frame_laws = (rules, read_from, read_near, read_short, read_tag_short, read-other, read_cut, read-trill)
 
 -- what is known of a frame that was read
 pub record IsTrill (f : List ℕ) (h : Header) : Type 0 where
-  pub its_place : h.place ≡ linkLength f
+  pub its_place : h.place ≡ link_length f
   pub from : 14 ≤ h.place
   pub whole : h.place + 6 ≤ length f
   pub word_fits : h.word < 65536
@@ -137,15 +137,15 @@ abbrev pub FrameFound : List ℕ → FrameRead → Type 0
 FrameFound f (Trill h) = IsTrill f h
 FrameFound f (Unreadable n) = (10 ≤ n) × (n ≤ 11)
 
-pub frame_found : (f : List ℕ) → FrameFound f (readFrame f)
-unfolding readFrame
+pub frame_found : (f : List ℕ) → FrameFound f (read_frame f)
+unfolding read_frame
 frame_found f = search (either (FrameFound f), leb-true, trill) depth 8
   where
-    trill : ltb (length f) (linkLength f + 6) ≡ false
-        → IsTrill f (record { place = linkLength f; word = be16 f (linkLength f); egress = be16 f (linkLength f + 2); ingress = be16 f (linkLength f + 4) })
-    trill e = omega (arith, link-length f, ltb-false (length f) (linkLength f + 6) e)
+    trill : ltb (length f) (link_length f + 6) ≡ false
+        → IsTrill f (record { place = link_length f; word = be16 f (link_length f); egress = be16 f (link_length f + 2); ingress = be16 f (link_length f + 4) })
+    trill e = omega (arith, link-length f, ltb-false (length f) (link_length f + 6) e)
 
-pub frame-read : (f : List ℕ) (h : Header) → readFrame f ≡ Trill h → IsTrill f h
+pub frame-read : (f : List ℕ) (h : Header) → read_frame f ≡ Trill h → IsTrill f h
 frame-read f h e = rw e at (frame_found f)
 
 -- a frame of a link header, a TRILL header of a word and two nicknames, and a rest
@@ -153,32 +153,32 @@ abbrev pub with_header : ℕ → ℕ → ℕ → List ℕ → List ℕ
 with_header w e i rest = octets16 w ++ octets16 e ++ octets16 i ++ rest
 
 module _ {l : List ℕ} (is : IsLink l) {w e i : ℕ} (hw : w < 65536) (he : e < 65536) (hi : i < 65536) where
-  pub read_with_header : (rest : List ℕ) → readFrame (l ++ with_header w e i rest) ≡ Trill (record { place = length l; word = w; egress = e; ingress = i })
+  pub read_with_header : (rest : List ℕ) → read_frame (l ++ with_header w e i rest) ≡ Trill (record { place = length l; word = w; egress = e; ingress = i })
   read_with_header rest =
       let behind = with_header w e i rest in
       let f = l ++ behind in
       let place = is.long ∙ sym (link_kept l behind is) in
       let long : length f ≡ length l + (6 + length rest) = length-append l behind ∙ omega arith in
       let enough : 14 ≤ length l = omega (arith, is.long, link-length l) in
-      let trill : ethertypeTrill ≡ be16 f (length l - 2) = rw place (sym (ethertype_kept l behind is)) in
+      let trill : ethertype_trill ≡ be16 f (length l - 2) = rw place (sym (ethertype_kept l behind is)) in
       sym
-      (read-trill f (length l) place (omega arith) (omega arith) ethertypeTrill refl trill w e i (omega arith)
+      (read-trill f (length l) place (omega arith) (omega arith) ethertype_trill refl trill w e i (omega arith)
       (rw (be16_at l behind) (omega arith)) (rw (be16_after l behind 2) (omega arith)) (rw (be16_after l behind 4) (omega arith)))
 
 -- options area and inner frame of such a frame
-module _ (l : List ℕ) (h : Header) (area inner : List ℕ) (place : h.place ≡ length l) (whole : length area ≡ 4 * opLength h.word) where
+module _ (l : List ℕ) (h : Header) (area inner : List ℕ) (place : h.place ≡ length l) (whole : length area ≡ 4 * op_length h.word) where
   abbrev pub framed : List ℕ
   framed = l ++ with_header h.word h.egress h.ingress (area ++ inner)
 
   behind : drop (length l + 6) framed ≡ area ++ inner
   behind = drop-append-add l (with_header h.word h.egress h.ingress (area ++ inner)) 6
 
-  pub area_with_header : areaOf framed h ≡ area
-  area_with_header = rw (place, behind) (take_at area inner (4 * opLength h.word) whole)
+  pub area_with_header : area_of framed h ≡ area
+  area_with_header = rw (place, behind) (take_at area inner (4 * op_length h.word) whole)
 
   pub inner_with_header : inner_of framed h ≡ inner
   inner_with_header =
-      rw (← drop-drop (4 * opLength h.word) (h.place + 6) framed, place, behind) (drop_at area inner (4 * opLength h.word) whole)
+      rw (← drop-drop (4 * op_length h.word) (h.place + 6) framed, place, behind) (drop_at area inner (4 * op_length h.word) whole)
 
 -- a received frame of which none of 12 to 18 is given
 pub record Passed (S : Ways) (f : List ℕ) (h : Header) : Type 0 where
@@ -188,82 +188,82 @@ pub record Passed (S : Ways) (f : List ℕ) (h : Header) : Type 0 where
   pub ingress_valid : (0 < h.ingress) × (h.ingress < 0xFFC0)
   pub egress_valid : (0 < h.egress) × (h.egress ≤ 0xFFC0)
   pub hops_left : 0 < hop_count h.word
-  pub area_whole : innerStart h ≤ length f
+  pub area_whole : inner_start h ≤ length f
 
 pub none_given : (b : Bool) (n x : ℕ) → 0 < n → cond b n x ≡ 0 → (b ≡ false) × (x ≡ 0)
 none_given false n x h e = (refl, e)
 none_given true n x h e = absurd (omega arith)
 
-pub header_passed : (S : Ways) (f : List ℕ) (h : Header) → headerRefusal S.mac f h ≡ 0 → Passed S f h
-unfolding headerRefusal
+pub header_passed : (S : Ways) (f : List ℕ) (h : Header) → header_refusal S.mac f h ≡ 0 → Passed S f h
+unfolding header_refusal
 header_passed S f h e = rw e at passed
   where
     positive : (n : ℕ) → eqb n 0 ≡ false → 0 < n
     positive n e = omega (arith, eqb-false n 0 e)
 
-    passed : IfNone (Passed S f h) (headerRefusal S.mac f h)
+    passed : IfNone (Passed S f h) (header_refusal S.mac f h)
     passed = search (either (IfNone (Passed S f h)), not-false, eqb-true, eqb-false, ltb-false, leb-false, positive, or_left, or_right) depth 16
 
 -- the area sent is no longer than the one received, and of whole words
-module _ (S : Ways) (area : List ℕ) (well : areaRead S area ≡ WellFormed) where
+module _ (S : Ways) (area : List ℕ) (well : area_read S area ≡ WellFormed) where
   -- only in edition 1 is anything stripped
-  pub strips_draft : (S.strip && not S.rfc7179) ≡ true → draftRead area ≡ WellFormed
-  unfolding areaRead
+  pub strips_draft : (S.strip && not S.rfc7179) ≡ true → draft_read area ≡ WellFormed
+  unfolding area_read
   strips_draft e = let old : S.rfc7179 ≡ false = search (not-true, and_right) in rw old at well
 
-  pub sent_shorter : length (areaSent S area) ≤ length area
-  unfolding areaSent
+  pub sent_shorter : length (area_sent S area) ≤ length area
+  unfolding area_sent
   sent_shorter = search (either (λ (sent : List ℕ). length sent ≤ length area), stripped_shorter, strips_draft, le_refl)
 
-  pub sent_words : length area % 4 ≡ 0 → length (areaSent S area) % 4 ≡ 0
-  unfolding areaSent
+  pub sent_words : length area % 4 ≡ 0 → length (area_sent S area) % 4 ≡ 0
+  unfolding area_sent
   sent_words m = search (either (λ (sent : List ℕ). length sent % 4 ≡ 0), stripped_words, strips_draft)
 
 -- a frame of which none of 10 to 19 is given, and whether we are its egress
 pub record Cleared (S : Ways) (f : List ℕ) (h : Header) (egress : Bool) : Type 0 where
-  pub read : readFrame f ≡ Trill h
-  pub unrefused : headerRefusal S.mac f h ≡ 0
-  pub well : areaRead S (areaOf f h) ≡ WellFormed
-  pub role : weAreEgress S.nickname h ≡ egress
+  pub read : read_frame f ≡ Trill h
+  pub unrefused : header_refusal S.mac f h ≡ 0
+  pub well : area_read S (area_of f h) ≡ WellFormed
+  pub role : we_are_egress S.nickname h ≡ egress
 
 -- a forwarded frame, behind any link header
 module _ {S : Ways} {f : List ℕ} {h : Header} {egress : Bool} (t : Cleared S f h egress) where
   passed : Passed S f h
   passed = header_passed S f h t.unrefused
 
-  pub area_length : length (areaOf f h) ≡ 4 * opLength h.word
-  area_length = length_part f (h.place + 6) (4 * opLength h.word) passed.area_whole
+  pub area_length : length (area_of f h) ≡ 4 * op_length h.word
+  area_length = length_part f (h.place + 6) (4 * op_length h.word) passed.area_whole
 
   -- the options area, its length in words, and the header, as sent
   abbrev pub sent_area : List ℕ
-  sent_area = areaSent S (areaOf f h)
+  sent_area = area_sent S (area_of f h)
 
   abbrev pub sent_word : ℕ
   sent_word = header_word (version h.word) (reserved h.word) (multi h.word) (length sent_area / 4) (hop_count h.word - 1)
 
   sent_split : Split sent_word (version h.word) (reserved h.word) (multi h.word) (length sent_area / 4) (hop_count h.word - 1)
   sent_split =
-      word_split _ _ _ _ _ (omega arith) (omega arith) (omega arith) (omega (arith, sent_shorter S (areaOf f h) t.well, area_length)) (omega arith)
+      word_split _ _ _ _ _ (omega arith) (omega arith) (omega arith) (omega (arith, sent_shorter S (area_of f h) t.well, area_length)) (omega arith)
 
   pub sent_hop : suc (hop_count sent_word) ≡ hop_count h.word
   sent_hop = omega (arith, sent_split.its_hop, passed.hops_left)
 
-  sent_whole : length sent_area ≡ 4 * opLength sent_word
-  sent_whole = omega (arith, sent_words S (areaOf f h) t.well (rw area_length (omega arith)), sent_split.its_op)
+  sent_whole : length sent_area ≡ 4 * op_length sent_word
+  sent_whole = omega (arith, sent_words S (area_of f h) t.well (rw area_length (omega arith)), sent_split.its_op)
 
   module _ {l : List ℕ} (is : IsLink l) where
     abbrev pub sent_header : Header
     sent_header = record { place = length l; word = sent_word; egress = h.egress; ingress = h.ingress }
 
-    pub forwarded_read : readFrame (l ++ forwardedRest S f h) ≡ Trill sent_header
-    unfolding forwardedRest
+    pub forwarded_read : read_frame (l ++ forwarded_rest S f h) ≡ Trill sent_header
+    unfolding forwarded_rest
     forwarded_read =
         read_with_header is sent_split.fits (frame-read f h t.read).egress_fits (frame-read f h t.read).ingress_fits (sent_area ++ inner_of f h)
 
-    pub forwarded_area : areaOf (l ++ forwardedRest S f h) sent_header ≡ sent_area
-    unfolding forwardedRest
+    pub forwarded_area : area_of (l ++ forwarded_rest S f h) sent_header ≡ sent_area
+    unfolding forwarded_rest
     forwarded_area = area_with_header l sent_header sent_area (inner_of f h) refl sent_whole
 
-    pub forwarded_inner : inner_of (l ++ forwardedRest S f h) sent_header ≡ inner_of f h
-    unfolding forwardedRest
+    pub forwarded_inner : inner_of (l ++ forwarded_rest S f h) sent_header ≡ inner_of f h
+    unfolding forwarded_rest
     forwarded_inner = inner_with_header l sent_header sent_area (inner_of f h) refl sent_whole

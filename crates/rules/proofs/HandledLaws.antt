@@ -9,13 +9,13 @@ use borrow.Author.Tests.{leb-true, le-ltb, ltb-true, ltb-false, eqb-true, not-fa
 use lib.Dec.{ltb, eqb}
 use lib.ListN.{length}
 use Rattle.rules.specs
-use specs.{Settings.Ways, Settings.settingsOf, Extension.extensionRead, Extension.areaRead, Campus.writes_reply}
-use specs.Header.{readFrame, areaOf, inner_of, headerRefusal, weAreEgress}
-use specs.Options.{AreaRead, WellFormed, Faulty, draftRead}
+use specs.{Settings.Ways, Settings.settings_of, Extension.extension_read, Extension.area_read, Campus.writes_reply}
+use specs.Header.{read_frame, area_of, inner_of, header_refusal, we_are_egress}
+use specs.Options.{AreaRead, WellFormed, Faulty, draft_read}
 use specs.Answer.{Handled, dropped, delivered, wrote, wrote_both, given}
-use specs.Channel.{body_of, replyMode, echo_read, channelRead, silenced, returnPath, errorReply, echoReply}
-use specs.Handling.{forwarded, onward, alertTo, alertOf, alerted, transit, faulted, echoed, channelled, decapsulated, routed, handling, frame_most}
-use specs.Handling.{beside_least, handledWith, handled}
+use specs.Channel.{body_of, reply_mode, echo_read, channel_read, silenced, return_path, error_reply, echo_reply}
+use specs.Handling.{forwarded, onward, alert_to, alert_of, alerted, transit, faulted, echoed, channelled, decapsulated, routed, handling, frame_most}
+use specs.Handling.{beside_least, handled_with, handled}
 use specs.declared.{NextHop.NextHop, Header.Header, Ruling.Ruling, ChannelRead.ChannelRead}
 use specs.declared.Ruling.TheVariants.{Found, Absent}
 use specs.declared.FrameRead.TheVariants.{Trill, Unreadable}
@@ -41,8 +41,8 @@ final_within low high n all l h = rw (le-ltb n low l) at (each_below (suc high) 
 -- what stands beside a forwarded frame: nothing, or in edition 2 the reply to an echo request
 pub data Beside (S : Ways) (clock f : List ℕ) (h : Header) : List ℕ → ℕ → Type 0 where
   alone : Beside S clock f h [] 0
-  replied : (r : NextHop) → S.rfc7179 ≡ true → returnPath S h.ingress ≡ Found r → channelRead (inner_of f h) ≡ EchoRequest
-      → Beside S clock f h (echoReply S r h clock (body_of (inner_of f h))) r.neighbour
+  replied : (r : NextHop) → S.rfc7179 ≡ true → return_path S h.ingress ≡ Found r → channel_read (inner_of f h) ≡ EchoRequest
+      → Beside S clock f h (echo_reply S r h clock (body_of (inner_of f h))) r.neighbour
 
 -- an error reply is made at the egress, and in edition 2 for a critical alert at transit too
 pub data How (S : Ways) (clock f : List ℕ) : Handled → Type 0 where
@@ -51,10 +51,10 @@ pub data How (S : Ways) (clock f : List ℕ) : Handled → Type 0 where
       → length (forwarded S r f h) ≤ frame_most → Beside S clock f h beside via
       → How S clock f (wrote_both 50 (forwarded S r f h) r.neighbour beside via)
   faults : {egress : Bool} (h : Header) (r : NextHop) (code : ℕ) → Cleared S f h egress → (egress ≡ false → S.rfc7179 ≡ true)
-      → returnPath S h.ingress ≡ Found r → channelRead (inner_of f h) ≡ Fault code
-      → How S clock f (wrote 53 (errorReply S r f h code) r.neighbour)
-  echoes : (h : Header) (r : NextHop) → Cleared S f h true → returnPath S h.ingress ≡ Found r → channelRead (inner_of f h) ≡ EchoRequest
-      → How S clock f (wrote 54 (echoReply S r h clock (body_of (inner_of f h))) r.neighbour)
+      → return_path S h.ingress ≡ Found r → channel_read (inner_of f h) ≡ Fault code
+      → How S clock f (wrote 53 (error_reply S r f h code) r.neighbour)
+  echoes : (h : Header) (r : NextHop) → Cleared S f h true → return_path S h.ingress ≡ Found r → channel_read (inner_of f h) ≡ EchoRequest
+      → How S clock f (wrote 54 (echo_reply S r h clock (body_of (inner_of f h))) r.neighbour)
 
 and_first : (a b c : Bool) → (a && b && c) ≡ true → a ≡ true
 and_first a b c e = and_left a b (and_left (a && b) c e)
@@ -73,55 +73,55 @@ small BadEcho = true
 small EchoHeard = true
 small EchoRequest = true
 
-code_small : (inner : List ℕ) → small (channelRead inner) ≡ true
-unfolding channelRead echo_read small
+code_small : (inner : List ℕ) → small (channel_read inner) ≡ true
+unfolding channel_read echo_read small
 code_small inner = search (either (λ c. small c ≡ true)) depth 12
 
-pub fault_small : (inner : List ℕ) (code : ℕ) → channelRead inner ≡ Fault code → code < 16
+pub fault_small : (inner : List ℕ) (code : ℕ) → channel_read inner ≡ Fault code → code < 16
 unfolding small
 fault_small inner code e = ltb-true code 16 (rw e at (code_small inner))
 
 -- the numbers of what is refused
-header_final : (mac : ℕ) (f : List ℕ) (h : Header) → (eqb (headerRefusal mac f h) 0 || final (headerRefusal mac f h)) ≡ true
-unfolding headerRefusal given
+header_final : (mac : ℕ) (f : List ℕ) (h : Header) → (eqb (header_refusal mac f h) 0 || final (header_refusal mac f h)) ≡ true
+unfolding header_refusal given
 header_final mac f h = search (either (λ n. (eqb n 0 || final n) ≡ true)) depth 12
 
 abbrev FinalArea : AreaRead → Type 0
 FinalArea WellFormed = Unit {0}
 FinalArea (Faulty n p) = final n ≡ true
 
-draft_final : (area : List ℕ) → FinalArea (draftRead area)
+draft_final : (area : List ℕ) → FinalArea (draft_read area)
 unfolding given
 draft_final area =
-    elim (draftRead area) as (λ w. draftRead area ≡ w → FinalArea w) [
+    elim (draft_read area) as (λ w. draft_read area ≡ w → FinalArea w) [
       | WellFormed ↦ λ e. Prim.tt
       | Faulty n p ↦ λ e. let d = area_number area n p e in final_within 30 35 n refl d.from d.to
     ] refl
 
-area_final : (S : Ways) (area : List ℕ) → FinalArea (areaRead S area)
-unfolding areaRead extensionRead given
+area_final : (S : Ways) (area : List ℕ) → FinalArea (area_read S area)
+unfolding area_read extension_read given
 area_final S area = search (either FinalArea, draft_final)
 
 quiet : {S : Ways} {clock f : List ℕ} (n start size : ℕ) → final n ≡ true → How S clock f (delivered n start size)
 quiet n start size e = ends (record { closed = e; nothing = refl; nothing_beside = refl })
 
 module _ (S : Ways) (clock f : List ℕ) (h : Header) where
-  how_faulted : {egress : Bool} → Cleared S f h egress → (egress ≡ false → S.rfc7179 ≡ true) → (code : ℕ) → channelRead (inner_of f h) ≡ Fault code
+  how_faulted : {egress : Bool} → Cleared S f h egress → (egress ≡ false → S.rfc7179 ≡ true) → (code : ℕ) → channel_read (inner_of f h) ≡ Fault code
       → How S clock f (faulted S f h code)
   unfolding faulted given
   how_faulted t two code c =
       by-test (silenced code (inner_of f h)) (λ e. rw e (quiet 25 0 0 refl)) (λ e. rw e
-      (each_ruling (How S clock f) (returnPath S h.ingress) _ _ (quiet 25 0 0 refl) (λ r n. faults h r code t two n c)))
+      (each_ruling (How S clock f) (return_path S h.ingress) _ _ (quiet 25 0 0 refl) (λ r n. faults h r code t two n c)))
 
   -- an echo request, answered by itself or beside
   echoed_by : (P : Handled → Type 0) → P (dropped 28)
-      → ((r : NextHop) → returnPath S h.ingress ≡ Found r → P (wrote 54 (echoReply S r h clock (body_of (inner_of f h))) r.neighbour))
+      → ((r : NextHop) → return_path S h.ingress ≡ Found r → P (wrote 54 (echo_reply S r h clock (body_of (inner_of f h))) r.neighbour))
       → P (echoed S clock f h)
   unfolding echoed
   echoed_by P lost over =
-      by-test (eqb (replyMode (body_of (inner_of f h))) 2) (λ e. rw e (each_ruling P (returnPath S h.ingress) _ _ lost over)) (λ e. rw e lost)
+      by-test (eqb (reply_mode (body_of (inner_of f h))) 2) (λ e. rw e (each_ruling P (return_path S h.ingress) _ _ lost over)) (λ e. rw e lost)
 
-  how_channelled : Cleared S f h true → (c : ChannelRead) → channelRead (inner_of f h) ≡ c → How S clock f (channelled S clock f h c)
+  how_channelled : Cleared S f h true → (c : ChannelRead) → channel_read (inner_of f h) ≡ c → How S clock f (channelled S clock f h c)
   unfolding channelled given
   how_channelled t (Fault code) e = how_faulted t (λ z. absurd (true≢false z)) code e
   how_channelled t BadErr e = quiet 26 0 0 refl
@@ -132,16 +132,16 @@ module _ (S : Ways) (clock f : List ℕ) (h : Header) where
 
   how_decapsulated : Cleared S f h true → How S clock f (decapsulated S clock f h)
   unfolding decapsulated given
-  how_decapsulated t = search (either (How S clock f), quiet, how_channelled t (channelRead (inner_of f h)) refl) depth 12
+  how_decapsulated t = search (either (How S clock f), quiet, how_channelled t (channel_read (inner_of f h)) refl) depth 12
 
   module _ (t : Cleared S f h false) (r : NextHop) (found : S.hop h.egress ≡ Found r) where
     how_onward : {beside : List ℕ} {via : ℕ} → Beside S clock f h beside via → How S clock f (onward S r f h beside via)
     unfolding onward given
     how_onward b = search (either (How S clock f), quiet, forwards, ltb-false)
 
-    how_alerted : S.rfc7179 ≡ true → (critical answered : Bool) (c : ChannelRead) → channelRead (inner_of f h) ≡ c
-        → How S clock f (alerted S r clock f h (alertTo critical answered c))
-    unfolding alerted alertTo given
+    how_alerted : S.rfc7179 ≡ true → (critical answered : Bool) (c : ChannelRead) → channel_read (inner_of f h) ≡ c
+        → How S clock f (alerted S r clock f h (alert_to critical answered c))
+    unfolding alerted alert_to given
     how_alerted two true answered (Fault code) e = how_faulted t (λ _. two) code e
     how_alerted two false answered (Fault code) e = how_onward alone
     how_alerted two true answered BadErr e = quiet 26 0 0 refl
@@ -153,18 +153,18 @@ module _ (S : Ways) (clock f : List ℕ) (h : Header) where
     how_alerted two critical false EchoRequest e = how_onward alone
 
   how_transit : Cleared S f h false → How S clock f (transit S clock f h)
-  unfolding transit alertOf alerted given
+  unfolding transit alert_of alerted given
   how_transit t =
       each_ruling (How S clock f) (S.hop h.egress) _ _ (quiet 21 0 0 refl) (λ r found.
       search (either (λ a. How S clock f (alerted S r clock f h a)), how_onward t r found alone, how_alerted t r found, and_first))
 
-  how_routed : readFrame f ≡ Trill h → headerRefusal S.mac f h ≡ 0 → How S clock f (routed S clock f h)
+  how_routed : read_frame f ≡ Trill h → header_refusal S.mac f h ≡ 0 → How S clock f (routed S clock f h)
   unfolding routed given
   how_routed read unrefused =
-      elim (areaRead S (areaOf f h)) as (λ w. areaRead S (areaOf f h) ≡ w → How S clock f (routed S clock f h)) [
-        | Faulty n p ↦ λ a. rw (routed, a) (quiet n p 0 (rw a at (area_final S (areaOf f h))))
+      elim (area_read S (area_of f h)) as (λ w. area_read S (area_of f h) ≡ w → How S clock f (routed S clock f h)) [
+        | Faulty n p ↦ λ a. rw (routed, a) (quiet n p 0 (rw a at (area_final S (area_of f h))))
         | WellFormed ↦ λ a.
-            let cleared : (b : Bool) → weAreEgress S.nickname h ≡ b → Cleared S f h b =
+            let cleared : (b : Bool) → we_are_egress S.nickname h ≡ b → Cleared S f h b =
             λ b c. record { read = read; unrefused = unrefused; well = a; role = c } in
             rw (routed, a) (search (either (How S clock f), quiet, how_decapsulated, how_transit, cleared))
       ] refl
@@ -172,10 +172,10 @@ module _ (S : Ways) (clock f : List ℕ) (h : Header) where
 pub how : (S : Ways) (clock f : List ℕ) → How S clock f (handling S clock f)
 unfolding handling given
 how S clock f =
-    elim (readFrame f) as (λ w. readFrame f ≡ w → How S clock f (handling S clock f)) [
+    elim (read_frame f) as (λ w. read_frame f ≡ w → How S clock f (handling S clock f)) [
       | Unreadable n ↦ λ e. rw (handling, e) (let r = unread-number f n e in quiet n 0 0 (final_within 10 11 n refl r.0 r.1))
       | Trill h ↦ λ e.
-          rw (handling, e) (by-test (eqb (headerRefusal S.mac f h) 0)
+          rw (handling, e) (by-test (eqb (header_refusal S.mac f h) 0)
           (λ a. rw a (how_routed S clock f h e (eqb-true _ 0 a)))
           (λ a. rw a (quiet _ 0 0 (rw a at (header_final S.mac f h)))))
     ] refl
@@ -187,8 +187,8 @@ pub record Bounded (a : Handled) : Type 0 where
   pub fits : length a.octets ≤ frame_most
   pub fits_beside : length a.beside ≤ beside_least
 
-pub echo_fits : (S : Ways) (r : NextHop) (clock f : List ℕ) (h : Header) → length clock ≡ 6 → channelRead (inner_of f h) ≡ EchoRequest
-    → length (echoReply S r h clock (body_of (inner_of f h))) ≤ 576
+pub echo_fits : (S : Ways) (r : NextHop) (clock f : List ℕ) (h : Header) → length clock ≡ 6 → channel_read (inner_of f h) ≡ EchoRequest
+    → length (echo_reply S r h clock (body_of (inner_of f h))) ≤ 576
 echo_fits S r clock f h six c =
     let ranged = echo_ranged (body_of (inner_of f h)) (channel_echo (inner_of f h) c) in
     omega (arith, length_echo S r f h clock (body_of (inner_of f h)) six ranged.0, ranged.1, link-most S r)
@@ -211,8 +211,8 @@ handling-bounded S clock f six short = how_bounded S clock f six (how S clock f)
 
 -- every answer of the whole call: a number under 64, at most 2,048 octets written
 pub handled_bounded : (settings clock : List ℕ) (room beside_room : ℕ) (f : List ℕ) → Bounded (handled settings clock room beside_room f)
-unfolding given handled handledWith
+unfolding given handled handled_with
 handled_bounded settings clock room beside_room f =
-    by_option (settingsOf settings)
+    by_option (settings_of settings)
     (λ e. rw (handled, e) (bounded refl (omega arith) (omega arith)))
     (λ S e. rw (handled, e) (search (either Bounded, bounded, leb-true, handling-bounded, eqb-true, not-false, ltb-false) depth 8))

@@ -10,14 +10,14 @@ use borrow.Author.Tests.{ltb-false}
 use lib.Dec.{ltb}
 use lib.ListN.{length, length-append, length-take}
 use Rattle.rules.specs
-use specs.Settings.{Settings, Ways, ways_of, settingsOf}
+use specs.Settings.{Settings, Ways, ways_of, settings_of}
 use specs.{Link.link, Options.WellFormed, Options.Faulty}
-use specs.Header.{any_rbridge, readFrame, innerStart, areaOf, inner_of, headerRefusal, weAreEgress}
-use specs.Extension.{areaRead, areaStops, areaSent}
+use specs.Header.{any_rbridge, read_frame, inner_start, area_of, inner_of, header_refusal, we_are_egress}
+use specs.Extension.{area_read, area_stops, area_sent}
 use specs.Answer.{dropped, dropped_at, wrote, wrote_both, delivered}
-use specs.Channel.{ethertype_is_is, inner_ethertype, body_of, replyMode, echo_read, channelRead, silenced, returnPath, errorReply, echoReply}
-use specs.Handling.{forwardedRest, forwarded, onward, alertOf, alerted, transit, faulted, echoed, channelled, untagged, toAllEgressRBridges, decapsulated}
-use specs.Handling.{routed, handling, frame_most, beside_least, handledWith, handled}
+use specs.Channel.{ethertype_is_is, inner_ethertype, body_of, reply_mode, echo_read, channel_read, silenced, return_path, error_reply, echo_reply}
+use specs.Handling.{forwarded_rest, forwarded, onward, alert_of, alerted, transit, faulted, echoed, channelled, untagged, to_all_egress_rbridges, decapsulated}
+use specs.Handling.{routed, handling, frame_most, beside_least, handled_with, handled}
 use specs.declared.{NextHop.NextHop, Header.Header}
 use specs.declared.Ruling.TheVariants.{Found, Absent}
 use specs.declared.FrameRead.TheVariants.{Trill, Unreadable}
@@ -33,7 +33,7 @@ module _ (S : Ways) (f : List ℕ) (h : Header) where
     unfolding transit
     transit_none e = rw (transit, e)
 
-    pub transit_over : (r : NextHop) → S.hop h.egress ≡ Found r → transit S clock f h ≡ alerted S r clock f h (alertOf S f h)
+    pub transit_over : (r : NextHop) → S.hop h.egress ≡ Found r → transit S clock f h ≡ alerted S r clock f h (alert_of S f h)
     unfolding transit
     transit_over r e = rw (transit, e)
 
@@ -53,44 +53,44 @@ module _ (S : Ways) (f : List ℕ) (h : Header) where
     faulted-silent e = rw (faulted, e)
 
     module _ (heard : silenced code (inner_of f h) ≡ false) where
-      pub faulted-none : returnPath S h.ingress ≡ Absent → faulted S f h code ≡ dropped 25
+      pub faulted-none : return_path S h.ingress ≡ Absent → faulted S f h code ≡ dropped 25
       unfolding faulted
       faulted-none e = rw (faulted, heard, e)
 
-      pub faulted-over : (r : NextHop) → returnPath S h.ingress ≡ Found r → faulted S f h code ≡ wrote 53 (errorReply S r f h code) r.neighbour
+      pub faulted-over : (r : NextHop) → return_path S h.ingress ≡ Found r → faulted S f h code ≡ wrote 53 (error_reply S r f h code) r.neighbour
       unfolding faulted
       faulted-over r e = rw (faulted, heard, e)
 
   module _ (clock : List ℕ) where
-    pub echoed-mode : (replyMode (body_of (inner_of f h)) ≡ 2 → ⊥) → echoed S clock f h ≡ dropped 28
+    pub echoed-mode : (reply_mode (body_of (inner_of f h)) ≡ 2 → ⊥) → echoed S clock f h ≡ dropped 28
     unfolding echoed
     echoed-mode e = simp tests
 
-    module _ (asked : replyMode (body_of (inner_of f h)) ≡ 2) where
-      pub echoed-none : returnPath S h.ingress ≡ Absent → echoed S clock f h ≡ dropped 28
+    module _ (asked : reply_mode (body_of (inner_of f h)) ≡ 2) where
+      pub echoed-none : return_path S h.ingress ≡ Absent → echoed S clock f h ≡ dropped 28
       unfolding echoed
       echoed-none e = simp (tests, echoed, e)
 
-      pub echoed-over : (r : NextHop) → returnPath S h.ingress ≡ Found r
-          → echoed S clock f h ≡ wrote 54 (echoReply S r h clock (body_of (inner_of f h))) r.neighbour
+      pub echoed-over : (r : NextHop) → return_path S h.ingress ≡ Found r
+          → echoed S clock f h ≡ wrote 54 (echo_reply S r h clock (body_of (inner_of f h))) r.neighbour
       unfolding echoed
       echoed-over r e = simp (tests, echoed, e)
 
 -- how long what is written is
 module _ (S : Ways) (r : NextHop) (f : List ℕ) (h : Header) where
-  pub length-forwarded : length (forwarded S r f h) ≡ length (link S r) + 6 + length (areaSent S (areaOf f h)) + length (inner_of f h)
-  unfolding forwarded forwardedRest
+  pub length-forwarded : length (forwarded S r f h) ≡ length (link S r) + 6 + length (area_sent S (area_of f h)) + length (inner_of f h)
+  unfolding forwarded forwarded_rest
   length-forwarded =
-      let n = length-append (areaSent S (areaOf f h)) (inner_of f h) in
+      let n = length-append (area_sent S (area_of f h)) (inner_of f h) in
       rw (length-append (link S r)) (omega arith)
 
   -- T-01: "The longest replies become 174 and 576."
-  pub length_error : (code : ℕ) → length (errorReply S r f h code) ≤ 174
-  unfolding errorReply
+  pub length_error : (code : ℕ) → length (error_reply S r f h code) ≤ 174
+  unfolding error_reply
   length_error code = rw (length_reply, length-take) (omega (arith, link-most S r))
 
-  pub length_echo : (clock body : List ℕ) → length clock ≡ 6 → 18 ≤ length body → length (echoReply S r h clock body) ≡ length (link S r) + 28 + length body
-  unfolding echoReply
+  pub length_echo : (clock body : List ℕ) → length clock ≡ 6 → 18 ≤ length body → length (echo_reply S r h clock body) ≡ length (link S r) + 28 + length body
+  unfolding echo_reply
   length_echo clock body c b = rw (length_reply, echo_body_length body clock b c)
 
 -- only an echo request of 18 to 530 octets is found to be one
@@ -99,8 +99,8 @@ unfolding echo_read
 echo_ranged body e =
     by-test (ltb (length body) 18 || ltb 530 (length body)) (λ t. apart (cc (rw t at e))) (λ t. search (ltb-false, or_left, or_right))
 
-pub channel_echo : (inner : List ℕ) → channelRead inner ≡ EchoRequest → echo_read (body_of inner) ≡ EchoRequest
-unfolding channelRead
+pub channel_echo : (inner : List ℕ) → channel_read inner ≡ EchoRequest → echo_read (body_of inner) ≡ EchoRequest
+unfolding channel_read
 channel_echo inner = search (either (λ c. c ≡ EchoRequest → echo_read (body_of inner) ≡ EchoRequest), fault, bad, heard) depth 12
   where
     fault : (code : ℕ) → Fault code ≡ EchoRequest → echo_read (body_of inner) ≡ EchoRequest
@@ -124,87 +124,87 @@ module _ (S : Ways) (clock f : List ℕ) (h : Header) where
     inner-untagged b = simp (tests, b)
 
     module _ (b : untagged (inner_of f h) ≡ false) where
-      pub inner-any : h.egress ≡ any_rbridge → toAllEgressRBridges (inner_of f h) ≡ false → decapsulated S clock f h ≡ dropped 24
+      pub inner-any : h.egress ≡ any_rbridge → to_all_egress_rbridges (inner_of f h) ≡ false → decapsulated S clock f h ≡ dropped 24
       unfolding decapsulated
       inner-any c d = simp (tests, b, d)
 
-      pub inner-delivered : (h.egress ≡ any_rbridge → ⊥) → toAllEgressRBridges (inner_of f h) ≡ false
-          → decapsulated S clock f h ≡ delivered 51 (innerStart h) (length (inner_of f h))
+      pub inner-delivered : (h.egress ≡ any_rbridge → ⊥) → to_all_egress_rbridges (inner_of f h) ≡ false
+          → decapsulated S clock f h ≡ delivered 51 (inner_start h) (length (inner_of f h))
       unfolding decapsulated
       inner-delivered c d = simp (tests, b, d)
 
-      module _ (d : toAllEgressRBridges (inner_of f h) ≡ true) where
-        pub inner_up : inner_ethertype (inner_of f h) ≡ ethertype_is_is → decapsulated S clock f h ≡ delivered 52 (innerStart h) (length (inner_of f h))
+      module _ (d : to_all_egress_rbridges (inner_of f h) ≡ true) where
+        pub inner_up : inner_ethertype (inner_of f h) ≡ ethertype_is_is → decapsulated S clock f h ≡ delivered 52 (inner_start h) (length (inner_of f h))
         unfolding decapsulated
         inner_up g = simp (tests, b, d, and_no)
 
-        pub inner-channel : (inner_ethertype (inner_of f h) ≡ ethertype_is_is → ⊥) → decapsulated S clock f h ≡ channelled S clock f h (channelRead (inner_of f h))
+        pub inner-channel : (inner_ethertype (inner_of f h) ≡ ethertype_is_is → ⊥) → decapsulated S clock f h ≡ channelled S clock f h (channel_read (inner_of f h))
         unfolding decapsulated
         inner-channel g = simp (tests, b, d, and_no)
 
-  pub routed-faulty : (number place : ℕ) → areaRead S (areaOf f h) ≡ Faulty number place → routed S clock f h ≡ dropped_at number place
+  pub routed-faulty : (number place : ℕ) → area_read S (area_of f h) ≡ Faulty number place → routed S clock f h ≡ dropped_at number place
   unfolding routed
   routed-faulty number place a = rw (routed, a)
 
-  module _ (a : areaRead S (areaOf f h) ≡ WellFormed) where
-    pub routed-stopped : areaStops S (weAreEgress S.nickname h) (areaOf f h) ≡ true → routed S clock f h ≡ dropped 20
+  module _ (a : area_read S (area_of f h) ≡ WellFormed) where
+    pub routed-stopped : area_stops S (we_are_egress S.nickname h) (area_of f h) ≡ true → routed S clock f h ≡ dropped 20
     unfolding routed
     routed-stopped b = rw (routed, a, b)
 
-    module _ (b : areaStops S (weAreEgress S.nickname h) (areaOf f h) ≡ false) where
-      pub routed-egress : weAreEgress S.nickname h ≡ true → routed S clock f h ≡ decapsulated S clock f h
+    module _ (b : area_stops S (we_are_egress S.nickname h) (area_of f h) ≡ false) where
+      pub routed-egress : we_are_egress S.nickname h ≡ true → routed S clock f h ≡ decapsulated S clock f h
       unfolding routed
       routed-egress c = rw (routed, a, b, c)
 
-      pub routed-transit : weAreEgress S.nickname h ≡ false → routed S clock f h ≡ transit S clock f h
+      pub routed-transit : we_are_egress S.nickname h ≡ false → routed S clock f h ≡ transit S clock f h
       unfolding routed
       routed-transit c = rw (routed, a, b, c)
 
-  pub handling-refused : readFrame f ≡ Trill h → (headerRefusal S.mac f h ≡ 0 → ⊥) → handling S clock f ≡ dropped (headerRefusal S.mac f h)
+  pub handling-refused : read_frame f ≡ Trill h → (header_refusal S.mac f h ≡ 0 → ⊥) → handling S clock f ≡ dropped (header_refusal S.mac f h)
   unfolding handling
   handling-refused e a = simp (tests, handling, e)
 
-  pub handling-routed : readFrame f ≡ Trill h → headerRefusal S.mac f h ≡ 0 → handling S clock f ≡ routed S clock f h
+  pub handling-routed : read_frame f ≡ Trill h → header_refusal S.mac f h ≡ 0 → handling S clock f ≡ routed S clock f h
   unfolding handling
   handling-routed e a = simp (tests, handling, e)
 
-pub handling-unread : (S : Ways) (clock f : List ℕ) (n : ℕ) → readFrame f ≡ Unreadable n → handling S clock f ≡ dropped n
+pub handling-unread : (S : Ways) (clock f : List ℕ) (n : ℕ) → read_frame f ≡ Unreadable n → handling S clock f ≡ dropped n
 unfolding handling
 handling-unread S clock f n e = rw (handling, e)
 
 -- the refusals before a frame is looked at
 module _ (S : Ways) (clock : List ℕ) (room beside_room : ℕ) (f : List ℕ) where
-  pub clock-bad : (length clock ≡ 6 → ⊥) → handledWith S clock room beside_room f ≡ dropped 1
-  unfolding handledWith
+  pub clock-bad : (length clock ≡ 6 → ⊥) → handled_with S clock room beside_room f ≡ dropped 1
+  unfolding handled_with
   clock-bad a = simp tests
 
   module _ (a : length clock ≡ 6) where
-    pub room-short : room < frame_most → handledWith S clock room beside_room f ≡ dropped 2
-    unfolding handledWith
+    pub room-short : room < frame_most → handled_with S clock room beside_room f ≡ dropped 2
+    unfolding handled_with
     room-short b = simp tests
 
     module _ (b : frame_most ≤ room) where
-      pub beside-short : beside_room < beside_least → handledWith S clock room beside_room f ≡ dropped 37
-      unfolding handledWith
+      pub beside-short : beside_room < beside_least → handled_with S clock room beside_room f ≡ dropped 37
+      unfolding handled_with
       beside-short c = simp tests
 
       module _ (c : beside_least ≤ beside_room) where
-        pub frame-long : frame_most < length f → handledWith S clock room beside_room f ≡ dropped 3
-        unfolding handledWith
+        pub frame-long : frame_most < length f → handled_with S clock room beside_room f ≡ dropped 3
+        unfolding handled_with
         frame-long d = simp tests
 
-        pub frame-handled : length f ≤ frame_most → handledWith S clock room beside_room f ≡ handling S clock f
-        unfolding handledWith
+        pub frame-handled : length f ≤ frame_most → handled_with S clock room beside_room f ≡ handling S clock f
+        unfolding handled_with
         frame-handled d = simp tests
 
 module _ (settings clock : List ℕ) (room beside_room : ℕ) (f : List ℕ) where
-  pub settings-bad : settingsOf settings ≡ none → handled settings clock room beside_room f ≡ dropped 1
+  pub settings-bad : settings_of settings ≡ none → handled settings clock room beside_room f ≡ dropped 1
   unfolding handled
   settings-bad e = rw (handled, e)
 
-  pub settings_good : (S : Settings) → settingsOf settings ≡ some S → handled settings clock room beside_room f ≡ handledWith (ways_of S) clock room beside_room f
+  pub settings_good : (S : Settings) → settings_of settings ≡ some S → handled settings clock room beside_room f ≡ handled_with (ways_of S) clock room beside_room f
   unfolding handled
   settings_good S e = rw (handled, e)
 
-pub unread-number : (f : List ℕ) (n : ℕ) → readFrame f ≡ Unreadable n → (10 ≤ n) × (n ≤ 11)
+pub unread-number : (f : List ℕ) (n : ℕ) → read_frame f ≡ Unreadable n → (10 ≤ n) × (n ≤ 11)
 unread-number f n e = rw e at (frame_found f)

@@ -5,23 +5,23 @@ use mathlib.Core.Bool.{true, false}
 use Prim.Native.Nat.{ℕ}
 use lib.ListN.{length}
 use specs.{Settings.Settings, Answer.Handled}
-use specs.Campus.{Kind, reply, Waiting, writes_reply, repliesMade, in_campus, staying, waiting_after, over, next, sentOn, first_waiting, nextAfter}
+use specs.Campus.{Kind, reply, Waiting, writes_reply, replies_made, in_campus, staying, waiting_after, over, next, sent_on, first_waiting, next_after}
 use Rattle.rules.proofs.TestLaws.{tests}
 use Rattle.rules.specs
 
 -- the replies that a handling makes
 module _ (a : Handled) where
-  pub made_reply : writes_reply a.number ≡ true → repliesMade a ≡ record { towards = a.via; frame = a.octets } ∷ []
-  unfolding repliesMade
+  pub made_reply : writes_reply a.number ≡ true → replies_made a ≡ record { towards = a.via; frame = a.octets } ∷ []
+  unfolding replies_made
   made_reply e = rw e
 
   module _ (e : writes_reply a.number ≡ false) where
-    pub made_beside : (length a.beside ≡ 0 → ⊥) → repliesMade a ≡ record { towards = a.beside_via; frame = a.beside } ∷ []
-    unfolding repliesMade
+    pub made_beside : (length a.beside ≡ 0 → ⊥) → replies_made a ≡ record { towards = a.beside_via; frame = a.beside } ∷ []
+    unfolding replies_made
     made_beside n = simp (e, tests)
 
-    pub made_nothing : length a.beside ≡ 0 → repliesMade a ≡ []
-    unfolding repliesMade
+    pub made_nothing : length a.beside ≡ 0 → replies_made a ≡ []
+    unfolding replies_made
     made_nothing n = simp (e, tests)
 
 module _ (switches : List Settings) where
@@ -42,21 +42,21 @@ module _ (switches : List Settings) where
   module _ (a : Handled) where
     -- the frame that was forwarded, else the reply that has waited longest, else nothing
     module _ (kind : Kind) (q : List Waiting) where
-      pub next_on : sentOn switches a ≡ true → nextAfter switches kind q a ≡ next a.via kind a.octets (waiting_after switches q a)
-      unfolding nextAfter
+      pub next_on : sent_on switches a ≡ true → next_after switches kind q a ≡ next a.via kind a.octets (waiting_after switches q a)
+      unfolding next_after
       next_on e = rw e
 
-      pub next_waiting : sentOn switches a ≡ false → nextAfter switches kind q a ≡ first_waiting (waiting_after switches q a)
-      unfolding nextAfter
+      pub next_waiting : sent_on switches a ≡ false → next_after switches kind q a ≡ first_waiting (waiting_after switches q a)
+      unfolding next_after
       next_waiting e = rw e
 
-      module _ (e : sentOn switches a ≡ false) where
+      module _ (e : sent_on switches a ≡ false) where
         pub next_first : (w : Waiting) (r : List Waiting) → waiting_after switches q a ≡ w ∷ r
-            → nextAfter switches kind q a ≡ next w.towards reply w.frame r
+            → next_after switches kind q a ≡ next w.towards reply w.frame r
         unfolding first_waiting
         next_first w r z = next_waiting e ∙ ap first_waiting z
 
-        pub next_over : waiting_after switches q a ≡ [] → nextAfter switches kind q a ≡ over
+        pub next_over : waiting_after switches q a ≡ [] → next_after switches kind q a ≡ over
         unfolding first_waiting
         next_over z = next_waiting e ∙ ap first_waiting z
 
@@ -67,6 +67,6 @@ module _ (l m : List Settings) (same : (n : ℕ) → in_campus l n ≡ in_campus
   stays_alike [] = refl
   stays_alike (w ∷ q) = rw (same w.towards, stays_alike q)
 
-  pub next_alike : (kind : Kind) (q : List Waiting) (a : Handled) → nextAfter l kind q a ≡ nextAfter m kind q a
-  unfolding nextAfter sentOn
-  next_alike kind q a = rw (same a.via, stays_alike (repliesMade a))
+  pub next_alike : (kind : Kind) (q : List Waiting) (a : Handled) → next_after l kind q a ≡ next_after m kind q a
+  unfolding next_after sent_on
+  next_alike kind q a = rw (same a.via, stays_alike (replies_made a))

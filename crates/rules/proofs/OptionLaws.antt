@@ -13,8 +13,8 @@ use lib.Dec.{ltb, eqb}
 use lib.ListN.{length, take, drop, take-append-drop, length-append, length-take, length-drop, drop_of_length-le}
 use lib.Seq.{drop-append_seam, take_at, drop_at, take_all, length-take-le}
 use specs.Octets.{octet, be16, part}
-use specs.Options.{chbh, cite, key_of, length_of, ie, nc, optionSize, optionAt, TlvOption, Options, options, fault, optionFirst, optionsFrom, optionsOf}
-use specs.Options.{hopByHopCritical, ingressToEgressCritical, some_key, summarized, draftRead, strippable, kept_options, octetsOf, stripped, OptionRead, Taken}
+use specs.Options.{chbh, cite, key_of, length_of, ie, nc, option_size, option_at, TlvOption, Options, options, fault, option_first, options_from, options_of}
+use specs.Options.{hop_by_hop_critical, ingress_to_egress_critical, some_key, summarized, draft_read, strippable, kept_options, octets_of, stripped, OptionRead, Taken}
 use specs.Options.{Fault, AreaRead, WellFormed, Faulty, Laid, none, one, WellFormedArea}
 use proofs.TestLaws.{tests, apart, by-test, by_order, either, and_left, and_right, and_no}
 use proofs.OctetLaws.{octet_part, be16_before, be16_at, be16_part, drop_part, length_part}
@@ -26,7 +26,7 @@ pub record Read (area : List ℕ) (floor at key size next : ℕ) : Type 0 where
   pub its_key : key_of (be16 area at) ≡ key
   pub its_size : length_of (be16 area at) ≡ size
   pub small : size < 119
-  pub ends : next ≡ at + optionSize size
+  pub ends : next ≡ at + option_size size
   pub within : next ≤ length area
   pub above : floor ≤ key
 
@@ -46,44 +46,44 @@ key_above key floor a b = omega (arith, ltb-false (key + 1) floor a, eqb-false (
 
 -- one option, by outcome
 module _ (area : List ℕ) (floor at : ℕ) where
-  pub option_reserved : 119 ≤ length_of (be16 area at) → Fault 30 at ≡ optionAt area floor at
-  unfolding optionAt
+  pub option_reserved : 119 ≤ length_of (be16 area at) → Fault 30 at ≡ option_at area floor at
+  unfolding option_at
   option_reserved h = simp tests
 
   module _ (s : length_of (be16 area at) < 119) where
-    pub option_past : length area < at + optionSize (length_of (be16 area at)) → Fault 31 at ≡ optionAt area floor at
-    unfolding optionAt
+    pub option_past : length area < at + option_size (length_of (be16 area at)) → Fault 31 at ≡ option_at area floor at
+    unfolding option_at
     option_past h = simp tests
 
-    module _ (p : at + optionSize (length_of (be16 area at)) ≤ length area) where
-      pub option_below : key_of (be16 area at) + 1 < floor → Fault 32 at ≡ optionAt area floor at
-      unfolding optionAt
+    module _ (p : at + option_size (length_of (be16 area at)) ≤ length area) where
+      pub option_below : key_of (be16 area at) + 1 < floor → Fault 32 at ≡ option_at area floor at
+      unfolding option_at
       option_below h = simp tests
 
-      pub option_equal : key_of (be16 area at) + 1 ≡ floor → Fault 33 at ≡ optionAt area floor at
-      unfolding optionAt
+      pub option_equal : key_of (be16 area at) + 1 ≡ floor → Fault 33 at ≡ option_at area floor at
+      unfolding option_at
       option_equal h = let from : floor ≤ key_of (be16 area at) + 1 = omega arith in simp tests
 
       pub option_taken : floor ≤ key_of (be16 area at)
-          → Taken (key_of (be16 area at)) (length_of (be16 area at)) (at + optionSize (length_of (be16 area at))) ≡ optionAt area floor at
-      unfolding optionAt
+          → Taken (key_of (be16 area at)) (length_of (be16 area at)) (at + option_size (length_of (be16 area at))) ≡ option_at area floor at
+      unfolding option_at
       option_taken h =
           let from : floor ≤ key_of (be16 area at) + 1 = omega arith in
           let above : key_of (be16 area at) + 1 ≡ floor → ⊥ = λ e. omega arith in
           simp tests
 
-  option_found : Found area floor at (optionAt area floor at)
-  unfolding optionAt
+  option_found : Found area floor at (option_at area floor at)
+  unfolding option_at
   option_found = search (either (Found area floor at), leb-true, leb-false, ltb-false, le_refl, key_above) depth 10
 
-  pub option_read : (k n m : ℕ) → optionAt area floor at ≡ Taken k n m → Read area floor at k n m
+  pub option_read : (k n m : ℕ) → option_at area floor at ≡ Taken k n m → Read area floor at k n m
   option_read k n m e = rw e at option_found
 
 -- a walk that met no fault had come to the end, or took an option and met no fault from there on
 pub data Walked (fuel : ℕ) (area : List ℕ) (floor at : ℕ) (os : List TlvOption) : Type 0 where
   ended : length area ≤ at → os ≡ [] → Walked fuel area floor at os
   took : (key size next : ℕ) (os' : List TlvOption) → at < length area → Read area floor at key size next
-      → os ≡ record { key = key; size = size; octets = part area at (next - at) } ∷ os' → optionsFrom fuel area (key + 1) next ≡ options os'
+      → os ≡ record { key = key; size = size; octets = part area at (next - at) } ∷ os' → options_from fuel area (key + 1) next ≡ options os'
       → Walked fuel area floor at os
 
 abbrev Came : ℕ → List ℕ → ℕ → ℕ → Options → Type 0
@@ -92,58 +92,58 @@ Came fuel area floor at (fault n p) = Numbered 30 33 (length area) n p
 
 -- the walk, by what it meets
 module _ (fuel : ℕ) (area : List ℕ) (floor at : ℕ) where
-  pub options_end : length area ≤ at → optionsFrom (suc fuel) area floor at ≡ options []
-  unfolding optionsFrom
-  options_end h = simp (optionsFrom, tests)
+  pub options_end : length area ≤ at → options_from (suc fuel) area floor at ≡ options []
+  unfolding options_from
+  options_end h = simp (options_from, tests)
 
-  pub options_fault : (number place : ℕ) → at < length area → optionAt area floor at ≡ Fault number place
-      → optionsFrom (suc fuel) area floor at ≡ fault number place
-  unfolding optionsFrom
-  options_fault number place h e = simp (optionsFrom, tests, e)
+  pub options_fault : (number place : ℕ) → at < length area → option_at area floor at ≡ Fault number place
+      → options_from (suc fuel) area floor at ≡ fault number place
+  unfolding options_from
+  options_fault number place h e = simp (options_from, tests, e)
 
-  pub options_on : (key size next : ℕ) → at < length area → optionAt area floor at ≡ Taken key size next
-      → optionsFrom (suc fuel) area floor at
-      ≡ optionFirst (record { key = key; size = size; octets = part area at (next - at) }) (optionsFrom fuel area (key + 1) next)
-  unfolding optionsFrom
-  options_on key size next h e = simp (optionsFrom, tests, e)
+  pub options_on : (key size next : ℕ) → at < length area → option_at area floor at ≡ Taken key size next
+      → options_from (suc fuel) area floor at
+      ≡ option_first (record { key = key; size = size; octets = part area at (next - at) }) (options_from fuel area (key + 1) next)
+  unfolding options_from
+  options_on key size next h e = simp (options_from, tests, e)
 
   -- whatever it comes to
-  came : ((key next n p : ℕ) → optionsFrom fuel area (key + 1) next ≡ fault n p → Numbered 30 33 (length area) n p)
-      → Came fuel area floor at (optionsFrom (suc fuel) area floor at)
+  came : ((key next n p : ℕ) → options_from fuel area (key + 1) next ≡ fault n p → Numbered 30 33 (length area) n p)
+      → Came fuel area floor at (options_from (suc fuel) area floor at)
   came later =
       by_order at (length area)
       (λ lt.
-      elim (optionAt area floor at)
-      as (λ w. optionAt area floor at ≡ w → Found area floor at w → Came fuel area floor at (optionsFrom (suc fuel) area floor at)) [
+      elim (option_at area floor at)
+      as (λ w. option_at area floor at ≡ w → Found area floor at w → Came fuel area floor at (options_from (suc fuel) area floor at)) [
         | Fault n p ↦ λ q r. rw (options_fault n p lt q) (omega arith)
-        | Taken key size next ↦ λ q r. rw (options_on key size next lt q) (first key size next lt r (optionsFrom fuel area (key + 1) next) refl)
+        | Taken key size next ↦ λ q r. rw (options_on key size next lt q) (first key size next lt r (options_from fuel area (key + 1) next) refl)
       ] refl (option_found area floor at))
       (λ le. rw (options_end le) (ended le refl))
     where
-      first : (key size next : ℕ) → at < length area → Read area floor at key size next → (w : Options) → optionsFrom fuel area (key + 1) next ≡ w
-          → Came fuel area floor at (optionFirst (record { key = key; size = size; octets = part area at (next - at) }) w)
+      first : (key size next : ℕ) → at < length area → Read area floor at key size next → (w : Options) → options_from fuel area (key + 1) next ≡ w
+          → Came fuel area floor at (option_first (record { key = key; size = size; octets = part area at (next - at) }) w)
       first key size next lt r (options os) f = took key size next os lt r refl f
       first key size next lt r (fault n p) f = later key next n p f
 
-options_number : (fuel : ℕ) (area : List ℕ) (floor at n p : ℕ) → optionsFrom fuel area floor at ≡ fault n p → Numbered 30 33 (length area) n p
-unfolding optionsFrom
+options_number : (fuel : ℕ) (area : List ℕ) (floor at n p : ℕ) → options_from fuel area floor at ≡ fault n p → Numbered 30 33 (length area) n p
+unfolding options_from
 options_number zero area floor at n p e = apart (cc e)
 options_number (suc fuel) area floor at n p e = rw e at (came fuel area floor at (λ key. options_number fuel area (key + 1)))
 
-pub walked : (fuel : ℕ) (area : List ℕ) (floor at : ℕ) (os : List TlvOption) → optionsFrom (suc fuel) area floor at ≡ options os → Walked fuel area floor at os
+pub walked : (fuel : ℕ) (area : List ℕ) (floor at : ℕ) (os : List TlvOption) → options_from (suc fuel) area floor at ≡ options os → Walked fuel area floor at os
 walked fuel area floor at os e = rw e at (came fuel area floor at (λ key. options_number fuel area (key + 1)))
 
 -- what a walk that meets no fault finds lays out the area from there on
 pub walk_laid : (fuel : ℕ) (area : List ℕ) (floor at : ℕ) (os : List TlvOption) → at ≤ length area → length area < at + fuel
-    → optionsFrom fuel area floor at ≡ options os → Laid floor os × (drop at area ≡ octetsOf os)
-unfolding octetsOf
+    → options_from fuel area floor at ≡ options os → Laid floor os × (drop at area ≡ octets_of os)
+unfolding octets_of
 walk_laid zero area floor at os within enough e = absurd (omega arith)
 walk_laid (suc fuel) area floor at os within enough e =
     elim (walked fuel area floor at os e) [
       | ended le is ↦ rw is (none, drop_of_length-le area le)
       | took key size next os' lt r is f ↦
           let h = walk_laid fuel area (key + 1) next os' r.within (omega arith) f in
-          let n : next - at ≡ optionSize size = omega arith in
+          let n : next - at ≡ option_size size = omega arith in
           let word = be16_part area at (next - at) (omega arith) in
           let to : at + (next - at) ≡ next = omega arith in
           rw is (
@@ -155,29 +155,29 @@ walk_laid (suc fuel) area floor at os within enough e =
 
 -- options that are laid out are what a walk finds
 pub laid_walk : {floor : ℕ} {os : List TlvOption} → Laid floor os → (p : List ℕ) (fuel : ℕ) → length os < fuel
-    → optionsFrom fuel (p ++ octetsOf os) floor (length p) ≡ options os
-unfolding octetsOf
+    → options_from fuel (p ++ octets_of os) floor (length p) ≡ options os
+unfolding octets_of
 laid_walk l p zero h = absurd (omega arith)
 laid_walk {floor} none p (suc fuel) h = options_end fuel (p ++ []) floor (length p) (rw append-nil (omega arith))
 laid_walk {floor} (one {o = o} {os = os} k s small n above l) p (suc fuel) h =
-    let behind = o.octets ++ octetsOf os in
+    let behind = o.octets ++ octets_of os in
     let area = p ++ behind in
     let at = length p in
     let next = at + length o.octets in
-    let word = be16_at p behind ∙ be16_before o.octets (octetsOf os) 0 (omega arith) in
+    let word = be16_at p behind ∙ be16_before o.octets (octets_of os) 0 (omega arith) in
     let key = ap key_of word ∙ k in
     let size = ap length_of word ∙ s in
-    let long : length area ≡ at + (length o.octets + length (octetsOf os)) = simp length-append in
-    let taken : optionAt area floor at ≡ Taken o.key o.size next =
+    let long : length area ≡ at + (length o.octets + length (octets_of os)) = simp length-append in
+    let taken : option_at area floor at ≡ Taken o.key o.size next =
     sym (option_taken area floor at (omega arith) (omega arith) (omega arith)) ∙ cc (key, size, n) in
     let cut_out : part area at (next - at) ≡ o.octets =
-    rw (drop-append_seam p behind) (take_at o.octets (octetsOf os) (next - at) (omega arith)) in
+    rw (drop-append_seam p behind) (take_at o.octets (octets_of os) (next - at) (omega arith)) in
     options_on fuel area floor at o.key o.size next (omega arith) taken
-    ∙ rw (cut_out, ← append_assoc p o.octets (octetsOf os), ← length-append p o.octets, laid_walk l (p ++ o.octets) fuel (omega arith))
+    ∙ rw (cut_out, ← append_assoc p o.octets (octets_of os), ← length-append p o.octets, laid_walk l (p ++ o.octets) fuel (omega arith))
 
 -- each option takes a whole number of words, one or more
-pub laid_words : {floor : ℕ} {os : List TlvOption} → Laid floor os → (length os * 4 ≤ length (octetsOf os)) × (length (octetsOf os) % 4 ≡ 0)
-unfolding octetsOf
+pub laid_words : {floor : ℕ} {os : List TlvOption} → Laid floor os → (length os * 4 ≤ length (octets_of os)) × (length (octets_of os) % 4 ≡ 0)
+unfolding octets_of
 laid_words none = (omega arith, refl)
 laid_words (one k s small n above l) = let ih = laid_words l in rw length-append (omega arith)
 
@@ -187,8 +187,8 @@ nothing_there (a ∷ l) h = absurd (omega arith)
 
 -- an area of less than a word has no options; so an area is read as options exactly if it is laid out by them behind its first word
 module _ (area : List ℕ) (os : List TlvOption) where
-  area_laid : optionsOf area ≡ options os → Laid 0 os × (drop 4 area ≡ octetsOf os)
-  unfolding optionsOf octetsOf
+  area_laid : options_of area ≡ options os → Laid 0 os × (drop 4 area ≡ octets_of os)
+  unfolding options_of octets_of
   area_laid e =
       by_order 4 (length area)
       (λ more. walk_laid (suc (length area)) area 0 4 os (omega arith) (omega arith) e)
@@ -196,15 +196,15 @@ module _ (area : List ℕ) (os : List TlvOption) where
       let empty : os ≡ [] = cc (options_end (length area) area 0 4 short) in
       rw empty (none, drop_of_length-le area short))
 
-  laid_area : Laid 0 os → drop 4 area ≡ octetsOf os → optionsOf area ≡ options os
-  unfolding optionsOf
+  laid_area : Laid 0 os → drop 4 area ≡ octets_of os → options_of area ≡ options os
+  unfolding options_of
   laid_area l fill =
       let count = (laid_words l).0 in
       let long = ap length (sym fill) ∙ length-drop 4 area in
       by_order (length area) 4
       (λ short. rw (nothing_there os (omega arith)) (options_end (length area) area 0 4 (omega arith)))
       (λ more.
-      let whole : take 4 area ++ octetsOf os ≡ area = rw (← fill) (take-append-drop 4 area) in
+      let whole : take 4 area ++ octets_of os ≡ area = rw (← fill) (take-append-drop 4 area) in
       rw (whole, length-take-le 4 area more) at (laid_walk l (take 4 area) (suc (length area)) (omega arith)))
 
 laid_lower : {floor floor' : ℕ} {os : List TlvOption} → floor' ≤ floor → Laid floor os → Laid floor' os
@@ -232,8 +232,8 @@ kept_laid (one {o = o} k s small n above l) =
     let ih = kept_laid l in
     by-test (strippable o.key o.size) (λ e. rw e (laid_lower (omega arith) ih)) (λ e. rw e (one k s small n above ih))
 
-kept_shorter : (os : List TlvOption) → length (octetsOf (kept_options os)) ≤ length (octetsOf os)
-unfolding octetsOf kept_options
+kept_shorter : (os : List TlvOption) → length (octets_of (kept_options os)) ≤ length (octets_of os)
+unfolding octets_of kept_options
 kept_shorter [] = omega arith
 kept_shorter (o ∷ os) =
     let ih = kept_shorter os in
@@ -261,7 +261,7 @@ module _ (test : ℕ → Bool) (critical : (key : ℕ) → nc key ≡ 1 → test
       (λ e. rw (e, critical o.key (strippable_nc o.key o.size e)) ih)
       (λ e. rw (e, ih))
 
-pub stripped_is : (area : List ℕ) (os : List TlvOption) → optionsOf area ≡ options os → stripped area ≡ take 4 area ++ octetsOf (kept_options os)
+pub stripped_is : (area : List ℕ) (os : List TlvOption) → options_of area ≡ options os → stripped area ≡ take 4 area ++ octets_of (kept_options os)
 unfolding stripped
 stripped_is area os e = rw (stripped, e)
 
@@ -276,12 +276,12 @@ front area t behind =
 -- what a well formed area is
 pub record Well (area : List ℕ) : Type 0 where
   pub its_options : List TlvOption
-  pub are : optionsOf area ≡ options its_options
-  pub hop_by_hop : (some_key hopByHopCritical its_options && not (chbh area)) ≡ false
-  pub ingress_to_egress : (some_key ingressToEgressCritical its_options && not (cite area)) ≡ false
+  pub are : options_of area ≡ options its_options
+  pub hop_by_hop : (some_key hop_by_hop_critical its_options && not (chbh area)) ≡ false
+  pub ingress_to_egress : (some_key ingress_to_egress_critical its_options && not (cite area)) ≡ false
 
-well_area : (area : List ℕ) → Well area → draftRead area ≡ WellFormed
-unfolding draftRead summarized
+well_area : (area : List ℕ) → Well area → draft_read area ≡ WellFormed
+unfolding draft_read summarized
 well_area area w = rw (w.are, w.hop_by_hop, w.ingress_to_egress)
 
 -- the answer numbers of an area, 30 to 33 of an option and 34 and 35 after all, and their places
@@ -289,44 +289,44 @@ abbrev AreaFound : List ℕ → AreaRead → Type 0
 AreaFound area WellFormed = Well area
 AreaFound area (Faulty n p) = Numbered 30 35 (length area) n p
 
-area_found : (area : List ℕ) → AreaFound area (draftRead area)
-unfolding draftRead summarized optionsOf
+area_found : (area : List ℕ) → AreaFound area (draft_read area)
+unfolding draft_read summarized options_of
 area_found area =
-    elim (optionsOf area) as (λ w. optionsOf area ≡ w → AreaFound area (summarized area w)) [
+    elim (options_of area) as (λ w. options_of area ≡ w → AreaFound area (summarized area w)) [
       | fault n p ↦ λ is. omega (arith, options_number (suc (length area)) area 0 4 n p is)
       | options os ↦ λ is. let near : 0 ≤ length area = omega arith in search (either (AreaFound area), leb-true)
     ] refl
 
-pub area_well : (area : List ℕ) → draftRead area ≡ WellFormed → Well area
+pub area_well : (area : List ℕ) → draft_read area ≡ WellFormed → Well area
 area_well area e = rw e at (area_found area)
 
-pub area_number : (area : List ℕ) (n p : ℕ) → draftRead area ≡ Faulty n p → Numbered 30 35 (length area) n p
+pub area_number : (area : List ℕ) (n p : ℕ) → draft_read area ≡ Faulty n p → Numbered 30 35 (length area) n p
 area_number area n p e = rw e at (area_found area)
 
 -- a stripped area is well formed, with the same summary bits, no longer, of whole words; and stripping it changes nothing
-module _ (area : List ℕ) (e : draftRead area ≡ WellFormed) where
+module _ (area : List ℕ) (e : draft_read area ≡ WellFormed) where
   Its : Well area
   Its = area_well area e
 
   abbrev kept : List TlvOption
   kept = kept_options Its.its_options
 
-  is : stripped area ≡ take 4 area ++ octetsOf kept
+  is : stripped area ≡ take 4 area ++ octets_of kept
   is = stripped_is area Its.its_options Its.are
 
-  laid : Laid 0 Its.its_options × (drop 4 area ≡ octetsOf Its.its_options)
+  laid : Laid 0 Its.its_options × (drop 4 area ≡ octets_of Its.its_options)
   laid = area_laid area Its.its_options Its.are
 
-  fewer : length (octetsOf kept) ≤ length area - 4
+  fewer : length (octets_of kept) ≤ length area - 4
   fewer = omega (arith, kept_shorter Its.its_options, ap length laid.1, length-drop 4 area)
 
-  parts : (take 4 (stripped area) ≡ take 4 area) × (drop 4 (stripped area) ≡ octetsOf kept)
-  parts = rw is (front area (octetsOf kept) (λ h. omega (arith, fewer)))
+  parts : (take 4 (stripped area) ≡ take 4 area) × (drop 4 (stripped area) ≡ octets_of kept)
+  parts = rw is (front area (octets_of kept) (λ h. omega (arith, fewer)))
 
-  long : length (stripped area) ≡ min 4 (length area) + length (octetsOf kept)
+  long : length (stripped area) ≡ min 4 (length area) + length (octets_of kept)
   long = rw is (simp (length-append, length-take))
 
-  again : optionsOf (stripped area) ≡ options kept
+  again : options_of (stripped area) ≡ options kept
   again = laid_area (stripped area) kept (kept_laid laid.0) parts.1
 
   first_octet : octet (stripped area) 0 ≡ octet area 0
@@ -338,15 +338,15 @@ module _ (area : List ℕ) (e : draftRead area ≡ WellFormed) where
   pub stripped_cite : cite (stripped area) ≡ cite area
   stripped_cite = rw first_octet
 
-  pub stripped_well : draftRead (stripped area) ≡ WellFormed
+  pub stripped_well : draft_read (stripped area) ≡ WellFormed
   stripped_well =
       well_area (stripped area)
       record {
         its_options = kept;
         are = again;
-        hop_by_hop = rw (stripped_chbh, kept_some hopByHopCritical (λ k n. rw n (and_no (eqb (ie k) 0))) Its.its_options) Its.hop_by_hop;
+        hop_by_hop = rw (stripped_chbh, kept_some hop_by_hop_critical (λ k n. rw n (and_no (eqb (ie k) 0))) Its.its_options) Its.hop_by_hop;
         ingress_to_egress =
-            rw (stripped_cite, kept_some ingressToEgressCritical (λ k n. rw n (and_no (eqb (ie k) 1))) Its.its_options) Its.ingress_to_egress;
+            rw (stripped_cite, kept_some ingress_to_egress_critical (λ k n. rw n (and_no (eqb (ie k) 1))) Its.its_options) Its.ingress_to_egress;
       }
 
   pub stripped_twice : stripped (stripped area) ≡ stripped area
@@ -360,7 +360,7 @@ module _ (area : List ℕ) (e : draftRead area ≡ WellFormed) where
 
 -- an area of one word, or none, has nothing to strip
 pub stripped_word : (area : List ℕ) → length area ≤ 4 → stripped area ≡ area
-unfolding optionsOf octetsOf kept_options
+unfolding options_of octets_of kept_options
 stripped_word area h = stripped_is area [] (options_end (length area) area 0 4 h) ∙ rw append-nil (take_all 4 area h)
 
 -- T-02: "Frames refused stay the same": what is read as well formed is what document 01's sentence says, and nothing else
@@ -369,7 +369,7 @@ lacks true true = (λ e t. refl, λ h. refl)
 lacks true false = (λ e t. sym e, λ h. sym (h refl))
 lacks false b = (λ e t. absurd (false≢true t), λ h. refl)
 
-pub well_formed_before : (area : List ℕ) → draftRead area ≡ WellFormed → WellFormedArea area
+pub well_formed_before : (area : List ℕ) → draft_read area ≡ WellFormed → WellFormedArea area
 well_formed_before area e =
     let w = area_well area e in
     let filled = area_laid area w.its_options w.are in
@@ -381,7 +381,7 @@ well_formed_before area e =
       ingress_to_egress = (lacks _ (cite area)).0 w.ingress_to_egress;
     }
 
-pub well_formed_after : (area : List ℕ) → WellFormedArea area → draftRead area ≡ WellFormed
+pub well_formed_after : (area : List ℕ) → WellFormedArea area → draft_read area ≡ WellFormed
 well_formed_after area w =
     well_area area
     record {

@@ -5,7 +5,7 @@ use Prim.Native.Nat.{ℕ, ◌<◌, ◌≤◌}
 use borrow.Author.Tests.{leb-true}
 use native.Mathlib.Omega.{arith}
 use lib.ListN.{length}
-use Rattle.rules.specs.Campus.{Described, refused, accepted, described, plainRun, traceOctets, trace_least, refusal, traceNeeded, campus}
+use Rattle.rules.specs.Campus.{Described, refused, accepted, described, plain_run, trace_octets, trace_least, refusal, trace_needed, campus}
 use Rattle.rules.proofs.TestLaws.{tests, either}
 
 module _ (file : List ℕ) (room : ℕ) where
@@ -19,19 +19,19 @@ module _ (file : List ℕ) (room : ℕ) where
     campus-refused code e = simp (campus, tests, e)
 
     module _ (d : Described) (e : described file ≡ accepted d) where
-      pub campus-needed : room < traceNeeded d → campus file room ≡ refusal 49
+      pub campus-needed : room < trace_needed d → campus file room ≡ refusal 49
       unfolding campus
       campus-needed n = simp (campus, tests, e)
 
-      pub campus_run : traceNeeded d ≤ room → campus file room ≡ record { code = 0; count = length (plainRun d); trace = traceOctets (plainRun d) }
+      pub campus_run : trace_needed d ≤ room → campus file room ≡ record { code = 0; count = length (plain_run d); trace = trace_octets (plain_run d) }
       unfolding campus
       campus_run n = simp (campus, tests, e)
 
 -- every description needs the 640 octets at least
-pub least_needed : (d : Described) → trace_least ≤ traceNeeded d
-unfolding traceNeeded
+pub least_needed : (d : Described) → trace_least ≤ trace_needed d
+unfolding trace_needed
 least_needed d = search (either (λ n. trace_least ≤ n), leb-true)
 
-pub campus-accepted : (file : List ℕ) (room : ℕ) (d : Described) → described file ≡ accepted d → traceNeeded d ≤ room
-    → campus file room ≡ record { code = 0; count = length (plainRun d); trace = traceOctets (plainRun d) }
+pub campus-accepted : (file : List ℕ) (room : ℕ) (d : Described) → described file ≡ accepted d → trace_needed d ≤ room
+    → campus file room ≡ record { code = 0; count = length (plain_run d); trace = trace_octets (plain_run d) }
 campus-accepted file room d e n = campus_run file room (omega (arith, n, least_needed d)) d e n

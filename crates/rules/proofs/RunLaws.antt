@@ -13,8 +13,8 @@ use lib.Dec.{eqb}
 use lib.ListN.{length, length-append}
 use specs.{Settings.Settings, Settings.ways_of, Answer.Handled, Demand.replies_in}
 use specs.Handling.{handling, frame_most, beside_least}
-use specs.Campus.{switchNamed, Kind, reply, State, Waiting, repliesMade, in_campus, staying, waiting_after, Next, over, next, sentOn, first_waiting, nextAfter}
-use specs.Campus.{run_from, handlingsMost, hopReceived, entryOctets, traceOctets}
+use specs.Campus.{switch_named, Kind, reply, State, Waiting, replies_made, in_campus, staying, waiting_after, Next, over, next, sent_on, first_waiting, next_after}
+use specs.Campus.{run_from, handlings_most, hop_received, entry_octets, trace_octets}
 use proofs.TestLaws.{apart, by-test, by_option, and_left, each_of}
 use proofs.NextLaws.{next_on, next_waiting}
 use proofs.HandledLaws.{Bounded, handling-bounded}
@@ -23,26 +23,26 @@ use Rattle.rules.specs
 use Rattle.rules.proofs
 
 -- a switch found by its nickname is one of the campus, and has it
-pub named : (switches : List Settings) (n : ℕ) (S : Settings) → switchNamed switches n ≡ some S → Memᴰ S switches × (S.nickname ≡ n)
-unfolding switchNamed
+pub named : (switches : List Settings) (n : ℕ) (S : Settings) → switch_named switches n ≡ some S → Memᴰ S switches × (S.nickname ≡ n)
+unfolding switch_named
 named [] n S e = apart cc
 named (T ∷ switches) n S e =
     by-test (eqb T.nickname n)
     (λ c.
-    let same : some T ≡ some S = (rw (switchNamed, c) at e) in
+    let same : some T ≡ some S = (rw (switch_named, c) at e) in
     let is : S ≡ T = cc in
     rw is (Memᴰ.head refl, eqb-true T.nickname n c))
-    (λ c. let later = named switches n S (rw (switchNamed, c) at e) in (Memᴰ.tail later.0, later.1))
+    (λ c. let later = named switches n S (rw (switch_named, c) at e) in (Memᴰ.tail later.0, later.1))
 
-pub named_member : (switches : List Settings) (n : ℕ) (S : Settings) → switchNamed switches n ≡ some S → Memᴰ S switches
+pub named_member : (switches : List Settings) (n : ℕ) (S : Settings) → switch_named switches n ≡ some S → Memᴰ S switches
 named_member switches n S e = (named switches n S e).0
 
-pub named_nickname : (switches : List Settings) (n : ℕ) (S : Settings) → switchNamed switches n ≡ some S → S.nickname ≡ n
+pub named_nickname : (switches : List Settings) (n : ℕ) (S : Settings) → switch_named switches n ≡ some S → S.nickname ≡ n
 named_nickname switches n S e = (named switches n S e).1
 
 -- how many replies a handling makes: one at most, none to a reply, and none where no hop is left
 module _ {S : Settings} {f : List ℕ} where
-  pub made_few : {l : List Waiting} → Made S f l → (length l ≤ 1) × (length l ≤ hopReceived f)
+  pub made_few : {l : List Waiting} → Made S f l → (length l ≤ 1) × (length l ≤ hop_received f)
   made_few nothing = omega arith
   made_few (one w o) = omega arith
 
@@ -54,7 +54,7 @@ pub no-replies : replies_in [] ≡ 0
 unfolding replies_in
 no-replies = refl
 
-pub replies-on : (s : State) (states : List State) → replies_in (s ∷ states) ≡ length (repliesMade s.answer) + replies_in states
+pub replies-on : (s : State) (states : List State) → replies_in (s ∷ states) ≡ length (replies_made s.answer) + replies_in states
 unfolding replies_in
 replies-on s states = refl
 
@@ -71,7 +71,7 @@ joined (w ∷ q) l a b = (a.0, a.1, joined q l a.2 b)
 pub record Stands (s : State) : Type 0 where
   pub frame_fits : length s.frame ≤ frame_most
   pub bounded : Bounded s.answer
-  pub unanswered : s.kind ≡ reply → repliesMade s.answer ≡ []
+  pub unanswered : s.kind ≡ reply → replies_made s.answer ≡ []
 
 -- what is made and stays in the campus
 stays : (switches : List Settings) {S : Settings} {f : List ℕ} {l : List Waiting} → Made S f l
@@ -107,20 +107,20 @@ module _ (switches : List Settings) (clock : List ℕ) where
   run_none i n kind f q = refl
 
   module _ (m i n : ℕ) (kind : Kind) (f : List ℕ) (q : List Waiting) where
-    pub run_unknown : switchNamed switches n ≡ none → run (suc m) i n kind f q ≡ []
+    pub run_unknown : switch_named switches n ≡ none → run (suc m) i n kind f q ≡ []
     unfolding run_from
     run_unknown e = rw (run_from, e)
 
-    module _ (S : Settings) (e : switchNamed switches n ≡ some S) where
-      pub run_step : run (suc m) i n kind f q ≡ state i S kind f ∷ rest m i (nextAfter switches kind q (answer S f))
+    module _ (S : Settings) (e : switch_named switches n ≡ some S) where
+      pub run_step : run (suc m) i n kind f q ≡ state i S kind f ∷ rest m i (next_after switches kind q (answer S f))
       unfolding run_from rest
       run_step = rw (run_from, e)
 
-      pub run_over : nextAfter switches kind q (answer S f) ≡ over → run (suc m) i n kind f q ≡ state i S kind f ∷ []
+      pub run_over : next_after switches kind q (answer S f) ≡ over → run (suc m) i n kind f q ≡ state i S kind f ∷ []
       unfolding rest
       run_over z = run_step ∙ ap (λ (x : Next). state i S kind f ∷ rest m i x) z
 
-      pub run_on : (n' : ℕ) (kind' : Kind) (g : List ℕ) (q' : List Waiting) → nextAfter switches kind q (answer S f) ≡ next n' kind' g q'
+      pub run_on : (n' : ℕ) (kind' : Kind) (g : List ℕ) (q' : List Waiting) → next_after switches kind q (answer S f) ≡ next n' kind' g q'
           → run (suc m) i n kind f q ≡ state i S kind f ∷ run m (suc i) n' kind' g q'
       unfolding rest
       run_on n' kind' g q' z = run_step ∙ ap (λ (x : Next). state i S kind f ∷ rest m i x) z
@@ -135,18 +135,18 @@ module _ (switches : List Settings) (clock : List ℕ) where
   rest_ended (suc m) more i over lt = refl
   rest_ended (suc m) more i (next n kind f q) lt =
       let more_by_one : suc m + more ≡ suc (m + more) = omega arith in
-      by_option (switchNamed switches n)
+      by_option (switch_named switches n)
       (λ e. simp (more_by_one, run_unknown))
       (λ S e.
       let step = run_step m (suc i) n kind f q S e in
-      let later = rest_ended m more (suc i) (nextAfter switches kind q (answer S f)) (omega (arith, lt, ap length step)) in
+      let later = rest_ended m more (suc i) (next_after switches kind q (answer S f)) (omega (arith, lt, ap length step)) in
       rw (more_by_one, run_step (m + more) (suc i) n kind f q S e, step, later))
 
   -- one handling, by how many replies it makes and leaves waiting
   pub record Step (S : Settings) (f : List ℕ) (q : List Waiting) : Type 0 where
-    pub few : (length (repliesMade (answer S f)) ≤ 1) × (length (repliesMade (answer S f)) ≤ hopReceived f)
-    pub queued : length (queue S f q) ≤ length q + length (repliesMade (answer S f))
-    pub mute : IsReply f → repliesMade (answer S f) ≡ []
+    pub few : (length (replies_made (answer S f)) ≤ 1) × (length (replies_made (answer S f)) ≤ hop_received f)
+    pub queued : length (queue S f q) ≤ length q + length (replies_made (answer S f))
+    pub mute : IsReply f → replies_made (answer S f) ≡ []
 
   -- a run as it goes: no handling; one after which the frame goes on, or nothing does, or the reply that has waited longest
   pub data Run : Kind → List ℕ → List Waiting → List State → Type 0 where
@@ -160,7 +160,7 @@ module _ (switches : List Settings) (clock : List ℕ) where
 
   -- how many handlings, however many are looked at, and how many replies: what a reply and those behind it may take, and what an original may
   pub reply_most : {kind : Kind} {f : List ℕ} {q : List Waiting} {states : List State} → Run kind f q states → IsReply f
-      → (length states ≤ suc (hopReceived f) + 64 * length q) × (replies_in states ≡ 0)
+      → (length states ≤ suc (hop_received f) + 64 * length q) × (replies_in states ≡ 0)
   unfolding replies_in
   reply_most stopped y = omega arith
   reply_most (onward t o r) y = omega (arith, ap length (t.mute y), reply_most r (o.reply_kept y))
@@ -168,7 +168,7 @@ module _ (switches : List Settings) (clock : List ℕ) where
   reply_most (drained {g = g} t e z k r) y = omega (arith, ap length (t.mute y), reply_most r z, hop_most g)
 
   pub run_most : {kind : Kind} {f : List ℕ} {q : List Waiting} {states : List State} → Run kind f q states
-      → (length states ≤ 65 * hopReceived f + 1 + 64 * length q) × (replies_in states ≤ hopReceived f)
+      → (length states ≤ 65 * hop_received f + 1 + 64 * length q) × (replies_in states ≤ hop_received f)
   unfolding replies_in
   run_most stopped = omega arith
   run_most (onward t o r) = omega (arith, run_most r)
@@ -192,16 +192,16 @@ module _ (switches : List Settings) (clock : List ℕ) where
 
   module _ (six : length clock ≡ 6) (fit : (S : Settings) → Memᴰ S switches → S.nickname < 65536) where
     pub runs : (m i n : ℕ) (kind : Kind) (f : List ℕ) (q : List Waiting) → Replies q → Run kind f q (run m i n kind f q)
-    unfolding rest first_waiting sentOn
+    unfolding rest first_waiting sent_on
     runs zero i n kind f q a = rw run_none stopped
     runs (suc m) i n kind f q a =
-        by_option (switchNamed switches n) (λ e. rw run_unknown stopped) (λ S e.
+        by_option (switch_named switches n) (λ e. rw run_unknown stopped) (λ S e.
         let d = does S clock f (fit S (named_member switches n S e)) six in
         let made = does_make d in
         let b = joined q _ a (stays switches made).0 in
         let step : Step S f q = record { few = made_few made; queued = rw length-append (omega (arith, (stays switches made).1)); mute = made_mute made } in
         rw (run_step m i n kind f q S e)
-        (by-test (sentOn switches (answer S f))
+        (by-test (sent_on switches (answer S f))
         (λ t.
         rw (next_on switches (answer S f) kind q t)
         (onward step (does_forward d (and_left _ (in_campus switches (answer S f).via) t)) (runs m (suc i) _ kind _ (queue S f q) b)))
@@ -212,15 +212,15 @@ module _ (switches : List Settings) (clock : List ℕ) where
           | w ∷ r ↦ λ e b. drained step (ap length e) b.0 b.1 (runs m (suc i) w.towards reply w.frame r b.2)
         ] refl b))))
 
-    pub run_count : (m i n : ℕ) (kind : Kind) (f : List ℕ) → length (run_from m i switches clock n kind f []) ≤ 65 * hopReceived f + 1
+    pub run_count : (m i n : ℕ) (kind : Kind) (f : List ℕ) → length (run_from m i switches clock n kind f []) ≤ 65 * hop_received f + 1
     run_count m i n kind f = omega (arith, run_most (runs m i n kind f [] Prim.tt))
 
     pub run_whole : (more i n : ℕ) (kind : Kind) (f : List ℕ)
-        → run_from (handlingsMost + more) (suc i) switches clock n kind f [] ≡ run_from handlingsMost (suc i) switches clock n kind f []
+        → run_from (handlings_most + more) (suc i) switches clock n kind f [] ≡ run_from handlings_most (suc i) switches clock n kind f []
     unfolding rest
-    run_whole more i n kind f = rest_ended handlingsMost more i (next n kind f []) (omega (arith, run_count handlingsMost (suc i) n kind f, hop_most f))
+    run_whole more i n kind f = rest_ended handlings_most more i (next n kind f []) (omega (arith, run_count handlings_most (suc i) n kind f, hop_most f))
 
-    pub few_replies : (m i n : ℕ) (kind : Kind) (f : List ℕ) → replies_in (run_from m i switches clock n kind f []) ≤ hopReceived f
+    pub few_replies : (m i n : ℕ) (kind : Kind) (f : List ℕ) → replies_in (run_from m i switches clock n kind f []) ≤ hop_received f
     few_replies m i n kind f = (run_most (runs m i n kind f [] Prim.tt)).1
 
     pub queue_most : (m i n : ℕ) (kind : Kind) (f : List ℕ) → longest (runs m i n kind f [] Prim.tt) ≤ 63
@@ -232,13 +232,13 @@ module _ (switches : List Settings) (clock : List ℕ) where
 
     pub every : {kind : Kind} {f : List ℕ} {q : List Waiting} {states : List State} → Run kind f q states → length f ≤ frame_most
         → (kind ≡ reply → IsReply f) → (s : State) → Memᴰ s states → Stands s
-    every stopped k y = λ s w. absurd (Memᴰ.not_nil w)
+    every stopped k y = λ s w. absurd (Memᴰ.not-nil w)
     every (onward t o r) k y = each_of Stands (stands t k y) (every r (handling-bounded _ clock _ six k).fits (λ e. o.reply_kept (y e)))
-    every (ended t) k y = each_of Stands (stands t k y) (λ s w. absurd (Memᴰ.not_nil w))
+    every (ended t) k y = each_of Stands (stands t k y) (λ s w. absurd (Memᴰ.not-nil w))
     every (drained t e z l r) k y = each_of Stands (stands t k y) (every r (omega arith) (λ e. z))
 
 -- the trace has eight octets for each state
-pub length-trace : (states : List State) → length (traceOctets states) ≡ 8 * length states
-unfolding traceOctets entryOctets
+pub length-trace : (states : List State) → length (trace_octets states) ≡ 8 * length states
+unfolding trace_octets entry_octets
 length-trace [] = refl
 length-trace (s ∷ states) = let ih = length-trace states in omega arith

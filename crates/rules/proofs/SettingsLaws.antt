@@ -5,34 +5,34 @@ use mathlib.Core.Bool.{true, false}
 use mathlib.Core.Option.{none, some}
 use Prim.Native.Nat.{ℕ}
 use specs.Fields.{Field, fields}
-use specs.Settings.{Settings, withField, opens, continues, opened, settingsFrom, settingsOf, settingsRead}
+use specs.Settings.{Settings, with_field, opens, continues, opened, settings_from, settings_of, settings_read}
 use Rattle.rules.proofs.TestLaws.{apart, by-test}
 use Rattle.rules.specs
 
 module _ (S : Settings) (f : Field) (fs : List Field) where
-  pub from_on : continues S f ≡ true → settingsFrom S (f ∷ fs) ≡ settingsFrom (withField S f) fs
-  unfolding settingsFrom
-  from_on e = rw (settingsFrom, e)
+  pub from_on : continues S f ≡ true → settings_from S (f ∷ fs) ≡ settings_from (with_field S f) fs
+  unfolding settings_from
+  from_on e = rw (settings_from, e)
 
-  pub from-bad : continues S f ≡ false → settingsFrom S (f ∷ fs) ≡ none
-  unfolding settingsFrom
-  from-bad e = rw (settingsFrom, e)
+  pub from-bad : continues S f ≡ false → settings_from S (f ∷ fs) ≡ none
+  unfolding settings_from
+  from-bad e = rw (settings_from, e)
 
-pub from-read : (S T : Settings) (fs : List Field) → settingsFrom S fs ≡ some T → foldl withField S fs ≡ T
-unfolding settingsFrom
+pub from-read : (S T : Settings) (fs : List Field) → settings_from S fs ≡ some T → foldl with_field S fs ≡ T
+unfolding settings_from
 from-read S T [] e = cc
 from-read S T (f ∷ fs) e =
     by-test (continues S f)
-    (λ c. from-read (withField S f) T fs (sym (from_on S f fs c) ∙ e))
+    (λ c. from-read (with_field S f) T fs (sym (from_on S f fs c) ∙ e))
     (λ c. apart (cc (from-bad S f fs c)))
 
-pub settings_read : (octets : List ℕ) (T : Settings) → settingsOf octets ≡ some T → settingsRead octets ≡ T
-unfolding settingsOf settingsRead
-settings_read octets T e =
-    elim (fields octets) as (λ w. fields octets ≡ w → settingsRead octets ≡ T) [
-      | [] ↦ λ is. apart (cc (rw (settingsOf, is) at e))
+pub settings_read_lem : (octets : List ℕ) (T : Settings) → settings_of octets ≡ some T → settings_read octets ≡ T
+unfolding settings_of settings_read
+settings_read_lem octets T e =
+    elim (fields octets) as (λ w. fields octets ≡ w → settings_read octets ≡ T) [
+      | [] ↦ λ is. apart (cc (rw (settings_of, is) at e))
       | f ∷ fs ↦ λ is.
           by-test (opens f)
-          (λ o. rw (settingsRead, is) (from-read (opened f) T fs (rw (settingsOf, is, o) at e)))
-          (λ o. apart (cc (rw (settingsOf, is, o) at e)))
+          (λ o. rw (settings_read, is) (from-read (opened f) T fs (rw (settings_of, is, o) at e)))
+          (λ o. apart (cc (rw (settings_of, is, o) at e)))
     ] refl

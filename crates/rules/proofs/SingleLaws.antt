@@ -9,8 +9,8 @@ use mathlib.Core.Option.{Option, some}
 use Prim.Native.Nat.{ℕ, zero, suc, ◌+◌, ◌<◌, ◌≤◌, min}
 use native.Mathlib.Omega.{arith}
 use lib.ListN.{length}
-use specs.{Settings.Settings, Settings.ways_of, Answer.Handled, Handling.handling, Campus.someEdition2}
-use specs.Campus.{switchNamed, Kind, reply, State, repliesMade, staying, over, next, sentOn, first_waiting, nextAfter, run_from, hopReceived, egressReceived}
+use specs.{Settings.Settings, Settings.ways_of, Answer.Handled, Handling.handling, Campus.some_edition2}
+use specs.Campus.{switch_named, Kind, reply, State, replies_made, staying, over, next, sent_on, first_waiting, next_after, run_from, hop_received, egress_received}
 use specs.Demand.{replies_in, kind_after, single_run}
 use proofs.TestLaws.{by_option, or_false, each_of}
 use proofs.NextLaws.{made_reply}
@@ -25,11 +25,11 @@ pub record Draft (S : Settings) : Type 0 where
   pub nickname_fits : S.nickname < 65536
   pub edition_1 : S.rfc7179 ≡ false
 
-pub edition-1-all : (switches : List Settings) → someEdition2 switches ≡ false → (S : Settings) → Memᴰ S switches → S.rfc7179 ≡ false
-unfolding someEdition2
-edition-1-all [] e = λ S i. absurd (Memᴰ.not_nil i)
+pub edition-1-all : (switches : List Settings) → some_edition2 switches ≡ false → (S : Settings) → Memᴰ S switches → S.rfc7179 ≡ false
+unfolding some_edition2
+edition-1-all [] e = λ S i. absurd (Memᴰ.not-nil i)
 edition-1-all (T ∷ switches) e =
-    let p = or_false T.rfc7179 (someEdition2 switches) e in
+    let p = or_false T.rfc7179 (some_edition2 switches) e in
     each_of (λ S. S.rfc7179 ≡ false) p.0 (edition-1-all switches p.1)
 
 module _ (switches : List Settings) (clock : List ℕ) where
@@ -47,18 +47,18 @@ module _ (switches : List Settings) (clock : List ℕ) where
   sent S f = (handling (ways_of S) clock f).octets
 
   abbrev neighbour : Settings → List ℕ → Option Settings
-  neighbour S f = switchNamed switches (handling (ways_of S) clock f).via
+  neighbour S f = switch_named switches (handling (ways_of S) clock f).via
 
   -- why the run goes on after a handling: what was forwarded, or a reply
   data Goes (S : Settings) (f : List ℕ) : Type 0 where
-    forwarded : Forwarded S f (answer S f) → repliesMade (answer S f) ≡ [] → Goes S f
-    replied : Answered S f (sent S f) (answer S f).via → ours (egressReceived f) S ≡ true → Goes S f
+    forwarded : Forwarded S f (answer S f) → replies_made (answer S f) ≡ [] → Goes S f
+    replied : Answered S f (sent S f) (answer S f).via → ours (egress_received f) S ≡ true → Goes S f
 
   -- one turn, of both runs: they stop, or go on at a neighbour
   data Turn (S : Settings) (kind : Kind) (f : List ℕ) : Type 0 where
-    stops : nextAfter switches kind [] (answer S f) ≡ over → ((m i : ℕ) → run (suc m) i S kind f ≡ state i S kind f ∷ []) → Turn S kind f
+    stops : next_after switches kind [] (answer S f) ≡ over → ((m i : ℕ) → run (suc m) i S kind f ≡ state i S kind f ∷ []) → Turn S kind f
     goes : (T : Settings) (kind' : Kind) → neighbour S f ≡ some T → Goes S f
-        → nextAfter switches kind [] (answer S f) ≡ next (answer S f).via kind' (sent S f) []
+        → next_after switches kind [] (answer S f) ≡ next (answer S f).via kind' (sent S f) []
         → ((m i : ℕ) → run (suc m) i S kind f ≡ state i S kind f ∷ run m (suc i) T kind' (sent S f)) → Turn S kind f
 
   -- an original's way: without a reply at most h + 1 in all; with one it arrived at the k-th handling, k ≤ h, and the rest is 64
@@ -68,7 +68,7 @@ module _ (switches : List Settings) (clock : List ℕ) where
 
   -- what holds of document 01's run
   record Holds (S : Settings) (f : List ℕ) (states : List State) : Type 0 where
-    way : Way (egressReceived f) S (hopReceived f) (length states)
+    way : Way (egress_received f) S (hop_received f) (length states)
     few : replies_in states ≤ 1
 
   module _ (six : length clock ≡ 6) (fit : (S : Settings) → Memᴰ S switches → Draft S) where
@@ -76,7 +76,7 @@ module _ (switches : List Settings) (clock : List ℕ) where
     doing S j f = does S clock f (fit S j).nickname_fits six
 
     turn : (S : Settings) → Memᴰ S switches → (kind : Kind) (f : List ℕ) → Turn S kind f
-    unfolding nextAfter sentOn staying first_waiting kind_after single_run
+    unfolding next_after sent_on staying first_waiting kind_after single_run
     turn S j kind f =
         elim (doing S j f) [
           | Does.ends n s z ↦ stops (rw (n, z)) (λ m i. rw (single_run, n, s))
@@ -93,7 +93,7 @@ module _ (switches : List Settings) (clock : List ℕ) where
         ]
 
     -- the plain run is document 01's run
-    pub single : (m i n : ℕ) (S : Settings) → switchNamed switches n ≡ some S → (kind : Kind) (f : List ℕ)
+    pub single : (m i n : ℕ) (S : Settings) → switch_named switches n ≡ some S → (kind : Kind) (f : List ℕ)
         → run_from m i switches clock n kind f [] ≡ single_run m i switches clock S kind f
     unfolding single_run
     single zero i n S e kind f = rw run_none
@@ -109,7 +109,7 @@ module _ (switches : List Settings) (clock : List ℕ) where
         ]
 
     further : {S T : Settings} {f : List ℕ} {c : ℕ} → Memᴰ S switches → neighbour S f ≡ some T → Forwarded S f (answer S f)
-        → Way (egressReceived f) T (hopReceived (sent S f)) c → Way (egressReceived f) S (hopReceived f) (suc c)
+        → Way (egress_received f) T (hop_received (sent S f)) c → Way (egress_received f) S (hop_received f) (suc c)
     further j n o (unanswered q) = unanswered (omega arith)
     further j n o (answered k a q c) = answered (suc k) (on j o.transit (o.goes switches ∙ n) a) (omega arith) (omega arith)
 
@@ -136,11 +136,11 @@ module _ (switches : List Settings) (clock : List ℕ) where
 
     -- the number of handlings, however many are looked at
     pub single_count : (m i : ℕ) (S : Settings) (kind : Kind) (f : List ℕ) → Memᴰ S switches
-        → length (single_run m i switches clock S kind f) ≤ 64 + min (length switches) (hopReceived f)
+        → length (single_run m i switches clock S kind f) ≤ 64 + min (length switches) (hop_received f)
     single_count m i S kind f j =
         elim (holds m i S kind f j).way [
           | unanswered q ↦ omega (arith, hop_most f)
-          | answered k a q c ↦ omega (arith, arrives_le switches (ours (egressReceived f)) (towards switches (egressReceived f)) a)
+          | answered k a q c ↦ omega (arith, arrives_le switches (ours (egress_received f)) (towards switches (egress_received f)) a)
         ]
 
     pub one-reply : (m i : ℕ) (S : Settings) (kind : Kind) (f : List ℕ) → Memᴰ S switches → replies_in (single_run m i switches clock S kind f) ≤ 1

@@ -6,8 +6,8 @@ use Prim.Native.Nat.{ℕ, zero, suc, ◌+◌, ◌-◌, ◌*◌, ◌/◌, ◌%◌
 use native.Mathlib.Omega.{arith}
 use lib.Dec.{ltb}
 use lib.ListN.{length, length-append}
-use specs.Campus.{Described, refused, accepted, described, State, plainRun}
-use specs.Text.{ascii, lineFeed, decimal_from, decimal, entryText, entriesText, printed}
+use specs.Campus.{Described, refused, accepted, described, State, plain_run}
+use specs.Text.{ascii, line_feed, decimal_from, decimal, entry_text, entries_text, printed}
 use proofs.TestLaws.{tests, by-test}
 use proofs.DescriptionLaws.{described_result, accepted-good}
 use proofs.DemandLaws.{plain-most, plain_numbers}
@@ -63,25 +63,25 @@ pub refused_ranged : (file : List ℕ) (code : ℕ) → described file ≡ refus
 refused_ranged file code e = rw e at (described_result file)
 
 -- a line, and the lines of a run
-line_most : (s : State) → s.answer.number < 64 → length (entryText s) ≤ 18
-unfolding entryText
+line_most : (s : State) → s.answer.number < 64 → length (entry_text s) ≤ 18
+unfolding entry_text
 line_most s h =
     simp length-append (omega (arith, digits_most 1 (suc s.answer.number) s.answer.number (omega arith)))
 
-lines_most : (states : List State) → ((s : State) → Memᴰ s states → s.answer.number < 64) → length (entriesText states) ≤ 18 * length states
-unfolding entriesText
+lines_most : (states : List State) → ((s : State) → Memᴰ s states → s.answer.number < 64) → length (entries_text states) ≤ 18 * length states
+unfolding entries_text
 lines_most [] h = omega arith
 lines_most (s ∷ states) h =
     rw length-append
     (omega (arith, line_most s (h s (Memᴰ.head refl)), lines_most states (λ t i. h t (Memᴰ.tail i))))
 
 module _ (file : List ℕ) where
-  pub printed_refused : (code : ℕ) → described file ≡ refused code → printed file ≡ ascii "refused " ++ decimal code ++ (lineFeed ∷ [])
+  pub printed_refused : (code : ℕ) → described file ≡ refused code → printed file ≡ ascii "refused " ++ decimal code ++ (line_feed ∷ [])
   unfolding printed
   printed_refused code e = rw (printed, e)
 
   pub printed_accepted : (d : Described) → described file ≡ accepted d
-      → printed file ≡ entriesText (plainRun d) ++ ascii "handled " ++ decimal (length (plainRun d)) ++ (lineFeed ∷ [])
+      → printed file ≡ entries_text (plain_run d) ++ ascii "handled " ++ decimal (length (plain_run d)) ++ (line_feed ∷ [])
   unfolding printed
   printed_accepted d e = rw (printed, e)
 
@@ -94,8 +94,8 @@ module _ (file : List ℕ) where
             rw (printed_refused code e) (simp length-append (omega (arith, digits_most 1 (suc code) code (refused_ranged file code e).1)))
         | accepted d ↦ λ e.
             let a = accepted-good file d e in
-            let n = length (plainRun d) in
+            let n = length (plain_run d) in
             let most = plain-most d a in
             rw (printed_accepted d e)
-            (simp length-append (omega (arith, lines_most (plainRun d) (plain_numbers d a), digits_most 3 (suc n) n (omega (arith, most)))))
+            (simp length-append (omega (arith, lines_most (plain_run d) (plain_numbers d a), digits_most 3 (suc n) n (omega (arith, most)))))
       ] refl

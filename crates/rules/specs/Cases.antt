@@ -3,23 +3,23 @@
 use Rattle.std.specs.Prelude.{ℕ, ◌+◌, ◌-◌, ◌*◌, List, [], ◌∷◌, ◌++◌, map, length, drop, replicate, leb}
 use Prim.Native.String.{String}
 use Rattle.rules.specs.Octets.{if◌then◌else◌}
-use Rattle.rules.specs.Fields.{field_at, fieldsFrom, fields, lengthGood}
-use Rattle.rules.specs.Settings.{hopGood, newer, ruling, next_hop, serialMet, switchGood, withField}
-use Rattle.rules.specs.Settings.{opens, continues, opened, settingsFrom, settingsOf}
-use Rattle.rules.specs.Link.{linkLength, outerTag, link}
-use Rattle.rules.specs.Header.{readFrame, headerRefusal, weAreEgress}
-use Rattle.rules.specs.Options.{optionSize, optionAt, optionsFrom, optionsOf, some_key, summarized, draftRead, draftStops}
-use Rattle.rules.specs.Options.{implemented, strippable, kept_options, octetsOf, stripped}
-use Rattle.rules.specs.Extension.{flagUnsummarized, summaryBare, extensionRead, extensionStops, areaRead, areaStops, areaSent}
-use Rattle.rules.specs.Channel.{echo_read, channelRead, silenced, returnPath, replyInner, replyRest, echoBody, errorReply, echoReply}
+use Rattle.rules.specs.Fields.{field_at, fields_from, fields, length_good}
+use Rattle.rules.specs.Settings.{hop_good, newer, ruling, next_hop, serial_met, switch_good, with_field}
+use Rattle.rules.specs.Settings.{opens, continues, opened, settings_from, settings_of}
+use Rattle.rules.specs.Link.{link_length, outer_tag, link}
+use Rattle.rules.specs.Header.{read_frame, header_refusal, we_are_egress}
+use Rattle.rules.specs.Options.{option_size, option_at, options_from, options_of, some_key, summarized, draft_read, draft_stops}
+use Rattle.rules.specs.Options.{implemented, strippable, kept_options, octets_of, stripped}
+use Rattle.rules.specs.Extension.{flag_unsummarized, summary_bare, extension_read, extension_stops, area_read, area_stops, area_sent}
+use Rattle.rules.specs.Channel.{echo_read, channel_read, silenced, return_path, reply_inner, reply_rest, echo_body, error_reply, echo_reply}
 use Rattle.rules.specs.Answer.{Handled}
-use Rattle.rules.specs.Handling.{forwardedRest, forwarded, onward, channelMessage, alertTo, alertOf}
+use Rattle.rules.specs.Handling.{forwarded_rest, forwarded, onward, channel_message, alert_to, alert_of}
 use Rattle.rules.specs.Handling.{alerted, transit, faulted, echoed, channelled, decapsulated}
-use Rattle.rules.specs.Handling.{routed, handling, handledWith, handled, part_of}
-use Rattle.rules.specs.Campus.{switchNamed, orderGood, valueGood, nicknameNew, roomGood, serialNew, entryKnown, fieldRefusal}
-use Rattle.rules.specs.Campus.{with_next, describedFrom, described, clockOf, repliesMade, staying, sentOn, first_waiting, nextAfter, run_from, plainRun}
-use Rattle.rules.specs.Campus.{Outcome, hopReceived, egressReceived, entryOctets, traceOctets, someEdition2, traceNeeded, campus}
-use Rattle.rules.specs.Text.{ascii, hex_digit, decimal_from, entryText, entriesText, printed}
+use Rattle.rules.specs.Handling.{routed, handling, handled_with, handled, part_of}
+use Rattle.rules.specs.Campus.{switch_named, order_good, value_good, nickname_new, room_good, serial_new, entry_known, field_refusal}
+use Rattle.rules.specs.Campus.{with_next, described_from, described, clock_of, replies_made, staying, sent_on, first_waiting, next_after, run_from, plain_run}
+use Rattle.rules.specs.Campus.{Outcome, hop_received, egress_received, entry_octets, trace_octets, some_edition2, trace_needed, campus}
+use Rattle.rules.specs.Text.{ascii, hex_digit, decimal_from, entry_text, entries_text, printed}
 
 pub record Case : Type 0 where
   pub name : String
@@ -324,7 +324,7 @@ cases =
     ∷ writes "C3 hop 1 in transit" settings1 (frame_to (hex "0001") (hex "0009") [] inner) 50 5 (frame_sent (hex "0000") [] inner)
     ∷ area_taken "C4 Length 118 in 31 words" (hex "07C5") (hex "00000000 45F6" ++ zeros 118)
     ∷ area_refused "C5 Length 119 in 31 words" (hex "07C5") (hex "00000000 45F7" ++ zeros 118) 30 4
-    ∷ record { name = "C6 octets taken"; computed = map optionSize (2 ∷ 3 ∷ 6 ∷ 7 ∷ []); expected = 4 ∷ 8 ∷ 8 ∷ 12 ∷ [] }
+    ∷ record { name = "C6 octets taken"; computed = map option_size (2 ∷ 3 ∷ 6 ∷ 7 ∷ []); expected = 4 ∷ 8 ∷ 8 ∷ 12 ∷ [] }
     ∷ area_taken "C6 Length 2 in one word" (hex "0085") (hex "00000000 4582AAAA")
     ∷ area_refused "C6 Length 2 in two" (hex "00C5") (hex "00000000 4582AAAA 00000000") 32 8
     ∷ area_refused "C6 Length 3 in one word" (hex "0085") (hex "00000000 4583AAAA") 31 4
@@ -476,16 +476,16 @@ cases =
 
 -- The two sides of the claim, case by case: the values computed (to open this is to open all that a case computes with),
 unfoldable pub computed_in : List Case → List (List ℕ)
-unfolding digits pairs hex numbers ending sizes sizes_in ascii hex_digit decimal_from entryText entriesText printed field_at fieldsFrom fields lengthGood
-    hopGood newer ruling next_hop serialMet switchGood withField opens continues opened settingsFrom settingsOf linkLength outerTag link readFrame
-    headerRefusal weAreEgress optionAt optionsFrom optionsOf some_key summarized draftRead draftStops implemented strippable
-    kept_options octetsOf stripped flagUnsummarized summaryBare extensionRead extensionStops areaRead areaStops areaSent
-    echo_read channelRead silenced returnPath replyInner replyRest echoBody errorReply echoReply
-    forwardedRest forwarded onward channelMessage alertTo alertOf alerted transit faulted echoed channelled decapsulated routed
-    handling handledWith handled part_of switchNamed orderGood
-    valueGood nicknameNew roomGood serialNew entryKnown fieldRefusal with_next describedFrom described clockOf
-    repliesMade staying sentOn first_waiting nextAfter run_from plainRun
-    hopReceived egressReceived entryOctets traceOctets someEdition2 traceNeeded campus
+unfolding digits pairs hex numbers ending sizes sizes_in ascii hex_digit decimal_from entry_text entries_text printed field_at fields_from fields length_good
+    hop_good newer ruling next_hop serial_met switch_good with_field opens continues opened settings_from settings_of link_length outer_tag link read_frame
+    header_refusal we_are_egress option_at options_from options_of some_key summarized draft_read draft_stops implemented strippable
+    kept_options octets_of stripped flag_unsummarized summary_bare extension_read extension_stops area_read area_stops area_sent
+    echo_read channel_read silenced return_path reply_inner reply_rest echo_body error_reply echo_reply
+    forwarded_rest forwarded onward channel_message alert_to alert_of alerted transit faulted echoed channelled decapsulated routed
+    handling handled_with handled part_of switch_named order_good
+    value_good nickname_new room_good serial_new entry_known field_refusal with_next described_from described clock_of
+    replies_made staying sent_on first_waiting next_after run_from plain_run
+    hop_received egress_received entry_octets trace_octets some_edition2 trace_needed campus
 computed_in = map (λ (c : Case). c.computed)
 
 -- and the values expected.

@@ -2,7 +2,7 @@
 use Rattle.std.specs.Prelude.{ℕ, ◌+◌, ◌-◌, ◌*◌, ◌/◌, ◌%◌, List, [], ◌∷◌, ◌++◌, Bool, not, ◌&&◌, ◌||◌, length, take, drop, ltb, eqb}
 use Rattle.rules.specs.Octets.{if◌then◌else◌, octet, be16, octets16, octets48, part}
 use Rattle.rules.specs.Settings.{Ways}
-use Rattle.rules.specs.Link.{link, ethertypeTag}
+use Rattle.rules.specs.Link.{link, ethertype_tag}
 use Rattle.rules.specs.declared.NextHop.{NextHop}
 use Rattle.rules.specs.declared.Header.{Header}
 use Rattle.rules.specs.declared.Ruling.{Ruling}
@@ -57,8 +57,8 @@ body_of inner = drop 22 inner
 abbrev pub spid : List ℕ → ℕ
 spid body = octet body 0 / 16 % 16
 
-abbrev pub replyMode : List ℕ → ℕ
-replyMode body = octet body 4
+abbrev pub reply_mode : List ℕ → ℕ
+reply_mode body = octet body 4
 
 abbrev pub spid_request : ℕ
 spid_request = 3
@@ -75,8 +75,8 @@ echo_read body =
     else EchoRequest
 
 -- "Faults, first one counts", then 26, 55 and the echo
-unfoldable pub channelRead : List ℕ → ChannelRead
-channelRead inner =
+unfoldable pub channel_read : List ℕ → ChannelRead
+channel_read inner =
     if not (eqb (inner_ethertype inner) ethertype_channel) && not (eqb (inner_ethertype inner) ethertype_is_is) then Fault 2 else
     if ltb (length inner) 22 then Fault 1 else
     if not (eqb (chv inner) 0) then Fault 3 else
@@ -93,16 +93,16 @@ silenced code inner =
     && (eqb (sl inner) 1 || eqb (protocol inner) protocol_error || not (eqb (err inner) 0))
 
 -- "No return path: the ingress is our own nickname or has no next hop."
-unfoldable pub returnPath : Ways → ℕ → Ruling
-returnPath S ingress = if eqb ingress S.nickname then Absent else S.hop ingress
+unfoldable pub return_path : Ways → ℕ → Ruling
+return_path S ingress = if eqb ingress S.nickname then Absent else S.hop ingress
 
 -- "Each reply: .. All-Egress-RBridges, own MAC, 0x8100, 0x0001, 0x8946, protocol word, flags and ERR word 0xC000 plus the code,
 -- body."
-unfoldable pub replyInner : Ways → ℕ → ℕ → List ℕ → List ℕ
-replyInner S number code body =
+unfoldable pub reply_inner : Ways → ℕ → ℕ → List ℕ → List ℕ
+reply_inner S number code body =
     octets48 all_egress_rbridges
     ++ octets48 S.mac
-    ++ octets16 ethertypeTag
+    ++ octets16 ethertype_tag
     ++ octets16 0x0001
     ++ octets16 ethertype_channel
     ++ octets16 number
@@ -110,20 +110,20 @@ replyInner S number code body =
     ++ body
 
 -- "first TRILL word 0x003F, egress the old ingress, ingress our nickname", and the inner frame
-unfoldable pub replyRest : Ways → ℕ → ℕ → ℕ → List ℕ → List ℕ
-replyRest S ingress number code body =
-    octets16 0x003F ++ octets16 ingress ++ octets16 S.nickname ++ replyInner S number code body
+unfoldable pub reply_rest : Ways → ℕ → ℕ → ℕ → List ℕ → List ℕ
+reply_rest S ingress number code body =
+    octets16 0x003F ++ octets16 ingress ++ octets16 S.nickname ++ reply_inner S number code body
 
 -- "An error's body is the received frame from its TRILL Ethertype on, at most 128 octets (house)."
-abbrev pub errorBody : List ℕ → Header → List ℕ
-errorBody f h = take 128 (drop (h.place - 2) f)
+abbrev pub error_body : List ℕ → Header → List ℕ
+error_body f h = take 128 (drop (h.place - 2) f)
 
 -- "The reply copies the body, sets SPID 4 and puts the clock in time received."
-unfoldable pub echoBody : List ℕ → List ℕ → List ℕ
-echoBody body clock = ((spid_reply * 16 + octet body 0 % 16) ∷ []) ++ part body 1 11 ++ clock ++ drop 18 body
+unfoldable pub echo_body : List ℕ → List ℕ → List ℕ
+echo_body body clock = ((spid_reply * 16 + octet body 0 % 16) ∷ []) ++ part body 1 11 ++ clock ++ drop 18 body
 
-unfoldable pub errorReply : Ways → NextHop → List ℕ → Header → ℕ → List ℕ
-errorReply S r f h code = link S r ++ replyRest S h.ingress protocol_error code (errorBody f h)
+unfoldable pub error_reply : Ways → NextHop → List ℕ → Header → ℕ → List ℕ
+error_reply S r f h code = link S r ++ reply_rest S h.ingress protocol_error code (error_body f h)
 
-unfoldable pub echoReply : Ways → NextHop → Header → List ℕ → List ℕ → List ℕ
-echoReply S r h clock body = link S r ++ replyRest S h.ingress protocol_echo 0 (echoBody body clock)
+unfoldable pub echo_reply : Ways → NextHop → Header → List ℕ → List ℕ → List ℕ
+echo_reply S r h clock body = link S r ++ reply_rest S h.ingress protocol_echo 0 (echo_body body clock)

@@ -4,27 +4,27 @@ use mathlib.Core.List.{List, [], ◌∷◌, ◌++◌, Memᴰ}
 use Rattle.std.proofs.Math.Option.{Option, none, some}
 use Rattle.rules.specs.Octets.{if◌then◌else◌}
 use Rattle.rules.specs.Settings.{Settings, ways_of}
-use Rattle.rules.specs.Header.{hop_count, readFrame}
+use Rattle.rules.specs.Header.{hop_count, read_frame}
 use Rattle.rules.specs.Handling.{handling}
-use Rattle.rules.specs.Campus.{Described, switchNamed, State, Kind, reply, original, writes_reply, repliesMade, run_from, handlingsMost, plainRun, clockOf}
-use Rattle.rules.specs.Campus.{someEdition2, hopReceived, traceOctets}
+use Rattle.rules.specs.Campus.{Described, switch_named, State, Kind, reply, original, writes_reply, replies_made, run_from, handlings_most, plain_run, clock_of}
+use Rattle.rules.specs.Campus.{some_edition2, hop_received, trace_octets}
 use Rattle.rules.specs.declared.Header.{Header}
 use Rattle.rules.specs.declared.FrameRead.TheVariants.{Trill, Unreadable}
 
 -- how many replies arise in a run, those that leave the campus too
 unfoldable pub replies_in : List State → ℕ
 replies_in [] = 0
-replies_in (s ∷ states) = length (repliesMade s.answer) + replies_in states
+replies_in (s ∷ states) = length (replies_made s.answer) + replies_in states
 
 -- The two bounds of a campus for a frame received with hop count h: how many replies arise at most, "one", and T-09: "for a campus with an
 -- edition 2 switch .. at most h replies",
 unfoldable pub replies_most : Described → ℕ → ℕ
-replies_most d h = if someEdition2 d.switches then h else 1
+replies_most d h = if some_edition2 d.switches then h else 1
 
 -- and, with h of 1 or more, how many handlings of frame and replies together there are at most: "64 plus the smaller of n and h", and T-09:
 -- "at most 65h + 1 handlings".
 unfoldable pub handlings_bound : Described → ℕ → ℕ
-handlings_bound d h = if someEdition2 d.switches then 65 * h + 1 else 64 + min (length d.switches) h
+handlings_bound d h = if some_edition2 d.switches then 65 * h + 1 else 64 + min (length d.switches) h
 
 -- The run as document 01 writes it out, for a campus in which no reply has to wait: "What 50 writes stays original or reply; what 53 or 54 writes
 -- is a reply. The written frame goes next to the switch whose nickname is the neighbour .. if the campus has no such switch, the frame has
@@ -43,7 +43,7 @@ single_run (suc fuel) i switches clock S kind f =
     ∷ elim (kind_after kind a.number) [
       | none ↦ []
       | some kind' ↦
-          elim (switchNamed switches a.via) [
+          elim (switch_named switches a.via) [
             | none ↦ []
             | some T ↦ single_run fuel (suc i) switches clock T kind' a.octets
           ]
@@ -60,21 +60,21 @@ pub record Demand (d : Described) (trace trace' : List ℕ) (code count : ℕ) :
   pub entry_known : Memᴰ entry d.switches
   pub entered : d.entry ≡ some entry
   -- "Document 01 writes out the plain run of that campus and frame.": T-09 adds the replies that wait, and only for edition 2
-  pub as_written : someEdition2 d.switches ≡ false → plainRun d ≡ single_run handlingsMost 1 d.switches (clockOf d) entry original d.frame
+  pub as_written : some_edition2 d.switches ≡ false → plain_run d ≡ single_run handlings_most 1 d.switches (clock_of d) entry original d.frame
   -- "The plain run ends.": given more handlings, it has the same.
-  pub ends : (more : ℕ) → run_from (handlingsMost + more) 1 d.switches (clockOf d) entry.nickname original d.frame [] ≡ plainRun d
+  pub ends : (more : ℕ) → run_from (handlings_most + more) 1 d.switches (clock_of d) entry.nickname original d.frame [] ≡ plain_run d
   -- "The call, lent a trace buffer of at least the size asked, answers 0, its count is the number of handlings in the plain run,"
   pub answers_0 : code ≡ 0
-  pub counts : count ≡ length (plainRun d)
+  pub counts : count ≡ length (plain_run d)
   -- "and the trace buffer begins with exactly the plain run's entries, in order; its octets after them are as before the call."
-  pub traces : trace' ≡ traceOctets (plainRun d) ++ drop (8 * count) trace
+  pub traces : trace' ≡ trace_octets (plain_run d) ++ drop (8 * count) trace
   -- "At most one reply arises and nothing answers it."; T-09: "at most h replies, .. and nothing answers a reply"
-  pub few_replies : replies_in (plainRun d) ≤ replies_most d (hopReceived d.frame)
-  pub unanswered : (s : State) → Memᴰ s (plainRun d) → s.kind ≡ reply → repliesMade s.answer ≡ []
+  pub few_replies : replies_in (plain_run d) ≤ replies_most d (hop_received d.frame)
+  pub unanswered : (s : State) → Memᴰ s (plain_run d) → s.kind ≡ reply → replies_made s.answer ≡ []
   -- "For a frame readable as TRILL, received with hop count h of 1 or more, the handlings of frame and reply together are at most
   -- 64 plus the smaller of n and h;"; T-09: "at most 65h + 1 handlings"
-  pub bound : (h : Header) → readFrame d.frame ≡ Trill h → 1 ≤ hop_count h.word → count ≤ handlings_bound d (hop_count h.word)
+  pub bound : (h : Header) → read_frame d.frame ≡ Trill h → 1 ≤ hop_count h.word → count ≤ handlings_bound d (hop_count h.word)
   -- "for h = 0 there is one."
-  pub hop_0 : (h : Header) → readFrame d.frame ≡ Trill h → hop_count h.word ≡ 0 → count ≡ 1
+  pub hop_0 : (h : Header) → read_frame d.frame ≡ Trill h → hop_count h.word ≡ 0 → count ≡ 1
   -- "An unreadable frame is handled once."
-  pub unreadable : (number : ℕ) → readFrame d.frame ≡ Unreadable number → count ≡ 1
+  pub unreadable : (number : ℕ) → read_frame d.frame ≡ Unreadable number → count ≡ 1

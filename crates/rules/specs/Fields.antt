@@ -17,34 +17,34 @@ field_at s at =
     else Taken (octet s at) (be16 s (at + 1)) (at + 3 + be16 s (at + 1))
 
 -- the fields from a place on; a cut one is the last. `fuel` bounds how many are read.
-unfoldable pub fieldsFrom : ℕ → List ℕ → ℕ → List Field
-fieldsFrom zero s at = []
-fieldsFrom (suc fuel) s at =
+unfoldable pub fields_from : ℕ → List ℕ → ℕ → List Field
+fields_from zero s at = []
+fields_from (suc fuel) s at =
     elim (ltb at (length s)) [
       | false ↦ []
       | true ↦
           elim (field_at s at) [
-            | Taken tag size next ↦ field tag (part s (at + 3) size) ∷ fieldsFrom fuel s next
+            | Taken tag size next ↦ field tag (part s (at + 3) size) ∷ fields_from fuel s next
             | Cut ↦ cut ∷ []
           ]
     ]
 
 -- each field takes three octets or more, so a fuel above the length is never used up: more changes nothing (law `fields_whole`)
 abbrev pub fields_at : List ℕ → ℕ → List Field
-fields_at s at = fieldsFrom (suc (length s)) s at
+fields_at s at = fields_from (suc (length s)) s at
 
 unfoldable pub fields : List ℕ → List Field
 fields s = fields_at s 0
 
 -- "Tag 1, length 8 .. Tag 2, length 14 .. Tag 3, length 1 .. Tag 4, length 6 .. Tag 5, length 2 to 2,050"
 -- T-01: "Tag 2 may have length 14 (VLAN 0) or 16 (VLAN last)." T-09: "tag 6, length 1"
-abbrev pub hopSize : ℕ → Bool
-hopSize size = eqb size 14 || eqb size 16
+abbrev pub hop_size : ℕ → Bool
+hop_size size = eqb size 14 || eqb size 16
 
-unfoldable pub lengthGood : ℕ → ℕ → Bool
-lengthGood tag size =
+unfoldable pub length_good : ℕ → ℕ → Bool
+length_good tag size =
     if eqb tag 1 then eqb size 8 else
-    if eqb tag 2 then hopSize size else
+    if eqb tag 2 then hop_size size else
     if eqb tag 3 then eqb size 1 else
     if eqb tag 4 then eqb size 6 else
     if eqb tag 5 then leb 2 size && leb size 2050 else

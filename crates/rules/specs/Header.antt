@@ -2,7 +2,7 @@
 -- then egress nickname, ingress nickname." With the answers that the headers decide, in their order.
 use Rattle.std.specs.Prelude.{ℕ, ◌+◌, ◌*◌, ◌/◌, ◌%◌, List, Bool, not, ◌||◌, length, drop, ltb, leb, eqb}
 use Rattle.rules.specs.Octets.{if◌then◌else◌, be16, be48, part}
-use Rattle.rules.specs.Link.{linkLength, linkEthertype, ethertypeTrill}
+use Rattle.rules.specs.Link.{link_length, link_ethertype, ethertype_trill}
 use Rattle.rules.specs.declared.Header.{Header}
 use Rattle.rules.specs.declared.FrameRead.{FrameRead}
 use Rattle.rules.specs.declared.FrameRead.TheVariants.{Trill, Unreadable}
@@ -16,8 +16,8 @@ reserved w = w / 4096 % 4
 abbrev pub multi : ℕ → ℕ
 multi w = w / 2048 % 2
 
-abbrev pub opLength : ℕ → ℕ
-opLength w = w / 64 % 32
+abbrev pub op_length : ℕ → ℕ
+op_length w = w / 64 % 32
 
 abbrev pub hop_count : ℕ → ℕ
 hop_count w = w % 64
@@ -30,42 +30,42 @@ abbrev pub any_rbridge : ℕ
 any_rbridge = 0xFFC0
 
 -- 10, 11 and 10 again, or the header
-unfoldable pub readFrame : List ℕ → FrameRead
-readFrame f =
+unfoldable pub read_frame : List ℕ → FrameRead
+read_frame f =
     if ltb (length f) 14 then Unreadable 10 else
-    if ltb (length f) (linkLength f) then Unreadable 10 else
-    if not (eqb (linkEthertype f) ethertypeTrill) then Unreadable 11 else
-    if ltb (length f) (linkLength f + 6) then Unreadable 10
+    if ltb (length f) (link_length f) then Unreadable 10 else
+    if not (eqb (link_ethertype f) ethertype_trill) then Unreadable 11 else
+    if ltb (length f) (link_length f + 6) then Unreadable 10
     else
     Trill
-    (record { place = linkLength f; word = be16 f (linkLength f); egress = be16 f (linkLength f + 2); ingress = be16 f (linkLength f + 4) })
+    (record { place = link_length f; word = be16 f (link_length f); egress = be16 f (link_length f + 2); ingress = be16 f (link_length f + 4) })
 
 -- where the options area and the inner frame begin
 abbrev pub area_start : Header → ℕ
 area_start h = h.place + 6
 
-abbrev pub innerStart : Header → ℕ
-innerStart h = area_start h + 4 * opLength h.word
+abbrev pub inner_start : Header → ℕ
+inner_start h = area_start h + 4 * op_length h.word
 
 -- "Options area of 4 × Op-Length octets, then the inner frame"
-abbrev pub areaOf : List ℕ → Header → List ℕ
-areaOf f h = part f (area_start h) (4 * opLength h.word)
+abbrev pub area_of : List ℕ → Header → List ℕ
+area_of f h = part f (area_start h) (4 * op_length h.word)
 
 abbrev pub inner_of : List ℕ → Header → List ℕ
-inner_of f h = drop (innerStart h) f
+inner_of f h = drop (inner_start h) f
 
 -- 12 to 18, or 0 where none is given; `mac` is our own
-unfoldable pub headerRefusal : ℕ → List ℕ → Header → ℕ
-headerRefusal mac f h =
+unfoldable pub header_refusal : ℕ → List ℕ → Header → ℕ
+header_refusal mac f h =
     if not (eqb (be48 f 0) mac) then 12 else
     if not (eqb (version h.word) 0) then 13 else
     if eqb (multi h.word) 1 then 14 else
     if eqb h.ingress 0 || leb 0xFFC0 h.ingress then 15 else
     if eqb h.egress 0 || ltb 0xFFC0 h.egress then 16 else
     if eqb (hop_count h.word) 0 then 17 else
-    if ltb (length f) (innerStart h) then 18
+    if ltb (length f) (inner_start h) then 18
     else 0
 
 -- "We are the egress when the egress nickname is our own or Any-RBridge."
-unfoldable pub weAreEgress : ℕ → Header → Bool
-weAreEgress nickname h = eqb h.egress nickname || eqb h.egress any_rbridge
+unfoldable pub we_are_egress : ℕ → Header → Bool
+we_are_egress nickname h = eqb h.egress nickname || eqb h.egress any_rbridge

@@ -3,7 +3,7 @@ use Rattle.std.specs.Prelude.{ℕ, ◌/◌, ◌%◌, Bool, true, false, not, ◌
 use mathlib.Core.List.{List, [], ◌∷◌, ◌++◌, foldl}
 use Rattle.std.proofs.Math.Option.{Option, none, some}
 use Rattle.rules.specs.Octets.{if◌then◌else◌, octet, be16, be32, be48}
-use Rattle.rules.specs.Fields.{Field, field, cut, fields, lengthGood}
+use Rattle.rules.specs.Fields.{Field, field, cut, fields, length_good}
 use Rattle.rules.specs.declared.NextHop.{NextHop}
 use Rattle.rules.specs.declared.Ruling.{Ruling}
 use Rattle.rules.specs.declared.Ruling.TheVariants.{Found, Absent}
@@ -17,20 +17,20 @@ pub record Settings : Type 0 where
   pub hops : List NextHop
 
 -- "valid, that is 0x0001 to 0xFFBF"
-abbrev pub nicknameValid : ℕ → Bool
-nicknameValid n = leb 0x0001 n && leb n 0xFFBF
+abbrev pub nickname_valid : ℕ → Bool
+nickname_valid n = leb 0x0001 n && leb n 0xFFBF
 
 -- "individual and not all zero"; individual: the low bit of the first octet is 0
-abbrev pub macGood : ℕ → Bool
-macGood mac = eqb (mac / 0x10000000000 % 2) 0 && not (eqb mac 0)
+abbrev pub mac_good : ℕ → Bool
+mac_good mac = eqb (mac / 0x10000000000 % 2) 0 && not (eqb mac 0)
 
 -- "Destinations are valid nicknames, neighbour MACs individual and not zero, in a withdrawal too;
 -- a neighbour nickname of 0 means withdrawn, else it is valid." T-01: "an outer VLAN, 0 for none or 1 to 4,094"
-unfoldable pub hopGood : NextHop → Bool
-hopGood r =
-    nicknameValid r.destination
-    && macGood r.mac
-    && (eqb r.neighbour 0 || nicknameValid r.neighbour)
+unfoldable pub hop_good : NextHop → Bool
+hop_good r =
+    nickname_valid r.destination
+    && mac_good r.mac
+    && (eqb r.neighbour 0 || nickname_valid r.neighbour)
     && leb r.vlan 4094
 
 -- "For one destination the record with the greatest serial rules": the one that rules once `r` is seen too.
@@ -55,20 +55,20 @@ next_hop S d =
     ]
 
 -- "Two records of one destination with equal serials make the settings bad."
-unfoldable pub serialMet : NextHop → List NextHop → Bool
-serialMet r [] = false
-serialMet r (q ∷ hops) = (eqb q.destination r.destination && eqb q.serial r.serial) || serialMet r hops
+unfoldable pub serial_met : NextHop → List NextHop → Bool
+serial_met r [] = false
+serial_met r (q ∷ hops) = (eqb q.destination r.destination && eqb q.serial r.serial) || serial_met r hops
 
 -- "switch (nickname, MAC)"
-abbrev pub switchOf : List ℕ → Settings
-switchOf v = record { nickname = be16 v 0; mac = be48 v 2; strip = false; rfc7179 = false; hops = [] }
+abbrev pub switch_of : List ℕ → Settings
+switch_of v = record { nickname = be16 v 0; mac = be48 v 2; strip = false; rfc7179 = false; hops = [] }
 
 -- "next hop .. (destination, neighbour, MAC, serial)"; T-01: "length 14 (VLAN 0) or 16 (VLAN last)", and a place past the end reads 0
-abbrev pub hopOf : List ℕ → NextHop
-hopOf v = record { destination = be16 v 0; neighbour = be16 v 2; mac = be48 v 4; serial = be32 v 10; vlan = be16 v 14 }
+abbrev pub hop_of : List ℕ → NextHop
+hop_of v = record { destination = be16 v 0; neighbour = be16 v 2; mac = be48 v 4; serial = be32 v 10; vlan = be16 v 14 }
 
-unfoldable pub switchGood : Settings → Bool
-switchGood S = nicknameValid S.nickname && macGood S.mac
+unfoldable pub switch_good : Settings → Bool
+switch_good S = nickname_valid S.nickname && mac_good S.mac
 
 -- "strip flag, 0 or 1"
 abbrev pub strip_good : List ℕ → Bool
@@ -82,8 +82,8 @@ hops_most = 64
 abbrev pub edition_good : List ℕ → Bool
 edition_good v = eqb (octet v 0) 1 || eqb (octet v 0) 2
 
-abbrev pub withHop : Settings → NextHop → Settings
-withHop S r = record { nickname = S.nickname; mac = S.mac; strip = S.strip; rfc7179 = S.rfc7179; hops = S.hops ++ (r ∷ []) }
+abbrev pub with_hop : Settings → NextHop → Settings
+with_hop S r = record { nickname = S.nickname; mac = S.mac; strip = S.strip; rfc7179 = S.rfc7179; hops = S.hops ++ (r ∷ []) }
 
 abbrev pub with_strip : Settings → Bool → Settings
 with_strip S b = record { nickname = S.nickname; mac = S.mac; strip = b; rfc7179 = S.rfc7179; hops = S.hops }
@@ -92,10 +92,10 @@ abbrev pub with_edition : Settings → Bool → Settings
 with_edition S b = record { nickname = S.nickname; mac = S.mac; strip = S.strip; rfc7179 = b; hops = S.hops }
 
 -- the settings once one more field is read; "last one counts" for the strip flag; T-09: "default 1, placed and counted as tag 3"
-unfoldable pub withField : Settings → Field → Settings
-withField S cut = S
-withField S (field tag v) =
-    if eqb tag 2 then withHop S (hopOf v) else
+unfoldable pub with_field : Settings → Field → Settings
+with_field S cut = S
+with_field S (field tag v) =
+    if eqb tag 2 then with_hop S (hop_of v) else
     if eqb tag 3 then with_strip S (not (eqb (octet v 0) 0)) else
     if eqb tag 6 then with_edition S (eqb (octet v 0) 2)
     else S
@@ -103,37 +103,37 @@ withField S (field tag v) =
 -- "one tag 1 field, then tag 2 and 3 fields of the layout below; anything else is bad settings"; T-09: tag 6 too
 unfoldable pub opens : Field → Bool
 opens cut = false
-opens (field tag v) = eqb tag 1 && lengthGood tag (length v) && switchGood (switchOf v)
+opens (field tag v) = eqb tag 1 && length_good tag (length v) && switch_good (switch_of v)
 
 unfoldable pub continues : Settings → Field → Bool
 continues S cut = false
 continues S (field tag v) =
-    lengthGood tag (length v) &&
-    (if eqb tag 2 then hopGood (hopOf v) && ltb (length S.hops) hops_most && not (serialMet (hopOf v) S.hops) else
+    length_good tag (length v) &&
+    (if eqb tag 2 then hop_good (hop_of v) && ltb (length S.hops) hops_most && not (serial_met (hop_of v) S.hops) else
     if eqb tag 3 then strip_good v else
     if eqb tag 6 then edition_good v
     else false)
 
 -- the switch that a field opens, its nickname and MAC 0 where the field is cut
 unfoldable pub opened : Field → Settings
-opened cut = switchOf []
-opened (field tag v) = switchOf v
+opened cut = switch_of []
+opened (field tag v) = switch_of v
 
-unfoldable pub settingsFrom : Settings → List Field → Option Settings
-settingsFrom S [] = some S
-settingsFrom S (f ∷ fs) = elim (continues S f) [ true ↦ settingsFrom (withField S f) fs | false ↦ none ]
+unfoldable pub settings_from : Settings → List Field → Option Settings
+settings_from S [] = some S
+settings_from S (f ∷ fs) = elim (continues S f) [ true ↦ settings_from (with_field S f) fs | false ↦ none ]
 
 -- settings octets to settings, or bad
-unfoldable pub settingsOf : List ℕ → Option Settings
-settingsOf octets =
+unfoldable pub settings_of : List ℕ → Option Settings
+settings_of octets =
     elim (fields octets) [
       | [] ↦ none
-      | f ∷ fs ↦ elim (opens f) [ true ↦ settingsFrom (opened f) fs | false ↦ none ]
+      | f ∷ fs ↦ elim (opens f) [ true ↦ settings_from (opened f) fs | false ↦ none ]
     ]
 
 -- what the fields say, without a judgement: of settings that are not bad, the settings
-unfoldable pub settingsRead : List ℕ → Settings
-settingsRead octets = elim (fields octets) [ [] ↦ switchOf [] | f ∷ fs ↦ foldl withField (opened f) fs ]
+unfoldable pub settings_read : List ℕ → Settings
+settings_read octets = elim (fields octets) [ [] ↦ switch_of [] | f ∷ fs ↦ foldl with_field (opened f) fs ]
 
 -- what a handling asks of settings: our nickname and MAC, the strip flag, the edition, and the next hop for a destination
 pub record Ways : Type 0 where

@@ -3,7 +3,7 @@ use Rattle.std.specs.Prelude.{ℕ, zero, suc, ◌+◌, ◌/◌, ◌%◌, List, [
 use Prim.Native.Char.{code}
 use Prim.Native.String.{String, [] as empty, ◌∷◌ as ◌then◌}
 use Rattle.rules.specs.Octets.{if◌then◌else◌}
-use Rattle.rules.specs.Campus.{refused, accepted, Kind, original, reply, State, described, plainRun, hopReceived, egressReceived}
+use Rattle.rules.specs.Campus.{refused, accepted, Kind, original, reply, State, described, plain_run, hop_received, egress_received}
 
 -- the octets of a text
 unfoldable pub ascii : String → List ℕ
@@ -13,8 +13,8 @@ ascii (c then s) = code c ∷ ascii s
 abbrev pub blank : ℕ
 blank = 0x20
 
-abbrev pub lineFeed : ℕ
-lineFeed = 0x0A
+abbrev pub line_feed : ℕ
+line_feed = 0x0A
 
 -- upper case
 unfoldable pub hex_digit : ℕ → ℕ
@@ -35,30 +35,30 @@ abbrev pub decimal : ℕ → List ℕ
 decimal n = decimal_from (suc n) n
 
 -- O for original, R for reply
-abbrev pub kindLetter : Kind → ℕ
-kindLetter original = 0x4F
-kindLetter reply = 0x52
+abbrev pub kind_letter : Kind → ℕ
+kind_letter original = 0x4F
+kind_letter reply = 0x52
 
 -- "0002 O 50 05 0003"
-unfoldable pub entryText : State → List ℕ
-entryText s =
+unfoldable pub entry_text : State → List ℕ
+entry_text s =
     hex4 s.switch.nickname
-    ++ (blank ∷ kindLetter s.kind ∷ blank ∷ [])
+    ++ (blank ∷ kind_letter s.kind ∷ blank ∷ [])
     ++ decimal s.answer.number
     ++ (blank ∷ [])
-    ++ hex2 (hopReceived s.frame)
+    ++ hex2 (hop_received s.frame)
     ++ (blank ∷ [])
-    ++ hex4 (egressReceived s.frame)
-    ++ (lineFeed ∷ [])
+    ++ hex4 (egress_received s.frame)
+    ++ (line_feed ∷ [])
 
-unfoldable pub entriesText : List State → List ℕ
-entriesText [] = []
-entriesText (s ∷ states) = entryText s ++ entriesText states
+unfoldable pub entries_text : List State → List ℕ
+entries_text [] = []
+entries_text (s ∷ states) = entry_text s ++ entries_text states
 
 -- what the program prints for a file, each line ended by a line feed
 unfoldable pub printed : List ℕ → List ℕ
 printed file =
     elim (described file) [
-      | refused code ↦ ascii "refused " ++ decimal code ++ (lineFeed ∷ [])
-      | accepted d ↦ entriesText (plainRun d) ++ ascii "handled " ++ decimal (length (plainRun d)) ++ (lineFeed ∷ [])
+      | refused code ↦ ascii "refused " ++ decimal code ++ (line_feed ∷ [])
+      | accepted d ↦ entries_text (plain_run d) ++ ascii "handled " ++ decimal (length (plain_run d)) ++ (line_feed ∷ [])
     ]

@@ -3,7 +3,7 @@
 use Rattle.std.specs.Prelude.{ℕ, List, [], length, ltb}
 use Rattle.std.proofs.Math.Option.{none, some}
 use Rattle.rules.specs.Octets.{if◌then◌else◌}
-use Rattle.rules.specs.Settings.{Ways, ways_of, settingsOf}
+use Rattle.rules.specs.Settings.{Ways, ways_of, settings_of}
 use Rattle.rules.specs.Link.{link}
 use Rattle.rules.specs.declared.Ruling.TheVariants.{Found, Absent}
 
@@ -24,4 +24,4 @@ way_out_by S destination room =
     ]
 
 unfoldable pub way_out : List ℕ → ℕ → ℕ → WayOut
-way_out settings destination room = elim (settingsOf settings) [ none ↦ no_way 1 | some S ↦ way_out_by (ways_of S) destination room ]
+way_out settings destination room = elim (settings_of settings) [ none ↦ no_way 1 | some S ↦ way_out_by (ways_of S) destination room ]

@@ -10,9 +10,9 @@ use lib.Dec.{ltb, leb, eqb}
 use lib.ListN.{length, get_or, set, length-set}
 use lib.Seq.{get_or-set_same, get_or-set_other}
 use Rattle.rules.specs as rules
-use rules.{Octets.if◌then◌else◌, Octets.octet, Octets.put, Link.ethertypeTrill, Fields.field, Fields.lengthGood}
+use rules.{Octets.if◌then◌else◌, Octets.octet, Octets.put, Link.ethertype_trill, Fields.field, Fields.length_good}
 use rules.declared.NextHop.{NextHop}
-use rules.Settings.{Settings, hopGood, hopOf, serialMet, withHop, withField, continues, nicknameValid, ways_of}
+use rules.Settings.{Settings, hop_good, hop_of, serial_met, with_hop, with_field, continues, nickname_valid, ways_of}
 use Rattle.rules.proofs.TestLaws.{and-true, and_yes, by_order, by_equal, tests}
 use Rattle.rules.proofs.{OctetLaws.length-put, FrameLaws.none_given}
 use Rattle.stores.specs
@@ -55,14 +55,14 @@ module _ (w : List ℕ) where
     unfolding room_in
     room_yes b h = simp tests
 
-record_parts : (w v : List ℕ) → record_code w v ≡ 0 → Admitted w (hopOf v)
+record_parts : (w v : List ℕ) → record_code w v ≡ 0 → Admitted w (hop_of v)
 unfolding record_code
 record_parts w v e =
-    let a = none_given (not (lengthGood 2 (length v))) 42 _ (omega arith) e in
-    let b = none_given (not (hopGood (hopOf v))) 44 _ (omega arith) a.1 in
+    let a = none_given (not (length_good 2 (length v))) 42 _ (omega arith) e in
+    let b = none_given (not (hop_good (hop_of v))) 44 _ (omega arith) a.1 in
     let c = none_given (not (room_in w)) 46 _ (omega arith) b.1 in
     let r = room_parts w (not-false (room_in w) c.0) in
-    record { few = r.1; room = r.2; new = (none_given (met_by w (hopOf v)) 47 0 (omega arith) c.1).0 }
+    record { few = r.1; room = r.2; new = (none_given (met_by w (hop_of v)) 47 0 (omega arith) c.1).0 }
 
 flag_parts : (w : List ℕ) (tag : ℕ) (v : List ℕ) → flag_code w tag v ≡ 0 → (flag_tag tag ≡ true) × (flag_value tag v ≡ true) × (4 ≤ length w)
 unfolding flag_code
@@ -102,7 +102,7 @@ module _ {w : List ℕ} {r : NextHop} (ok : Admitted w r) where
   pub record_long : length (with_record w r) ≡ length w
   record_long = rw length-set shifted.size
 
-  record_stands : Fitting r → (T : Settings) → Stands w T → Stands (with_record w r) (withHop T r)
+  record_stands : Fitting r → (T : Settings) → Stands w T → Stands (with_record w r) (with_hop T r)
   record_stands fits T s =
       let more = stands_more w r ok.few ok.room fits s.records ok.new in
       same_first (with_record w r) s (λ j h. other j (omega arith) ∙ shifted.before j (omega arith))
@@ -125,8 +125,8 @@ module _ (w : List ℕ) (long : 4 ≤ length w) (T : Settings) (s : Stands w T) 
       unmoved : (j : ℕ) → (j ≡ 2 → ⊥) → get_or (set w 2 x) j 0 ≡ get_or w j 0
       unmoved j ne = rw get_or-set_other
 
-  flag_stands : (tag : ℕ) (v : List ℕ) → flag_tag tag ≡ true → flag_value tag v ≡ true → Stands (with_flag w tag v) (withField T (field tag v))
-  unfolding withField flag_tag flag_value
+  flag_stands : (tag : ℕ) (v : List ℕ) → flag_tag tag ≡ true → flag_value tag v ≡ true → Stands (with_flag w tag v) (with_field T (field tag v))
+  unfolding with_field flag_tag flag_value
   flag_stands tag v is_flag good =
       by_equal tag 3
       (λ e.
@@ -164,15 +164,15 @@ module _ (w : List ℕ) (long : 4 ≤ length w) (T : Settings) (s : Stands w T) 
 -- the code by settings
 abbrev pub record_by : Settings → List ℕ → ℕ
 record_by T v =
-    if not (lengthGood 2 (length v)) then 42 else
-    if not (hopGood (hopOf v)) then 44 else
+    if not (length_good 2 (length v)) then 42 else
+    if not (hop_good (hop_of v)) then 44 else
     if not (ltb (length T.hops) S.hops_most) then 46 else
-    if serialMet (hopOf v) T.hops then 47
+    if serial_met (hop_of v) T.hops then 47
     else 0
 
 -- a field is refused, or is a record that is taken, or a flag that is
 module _ (P : ℕ → List ℕ → Type 0) (w : List ℕ) (tag : ℕ) (v : List ℕ) where
-  by_field : ((extending w tag v ≡ 0 → ⊥) → P tag w) → (record_code w v ≡ 0 → P 2 (with_record w (hopOf v))) → (flag_code w tag v ≡ 0 → P tag (with_flag w tag v))
+  by_field : ((extending w tag v ≡ 0 → ⊥) → P tag w) → (record_code w v ≡ 0 → P 2 (with_record w (hop_of v))) → (flag_code w tag v ≡ 0 → P tag (with_flag w tag v))
       → P tag (extended w tag v)
   unfolding extending extended
   by_field refused two flag =
@@ -193,7 +193,7 @@ module _ (w : List ℕ) (T : Settings) (s : Stands w T) (ample : Ample w) (v : L
       by_order (count_in w) 64
       (λ h.
       let room = ample.room h in
-      simp (record_code, s.records.count, room_yes, tests, met_is w (hopOf v) h room (fitting v) s.records))
+      simp (record_code, s.records.count, room_yes, tests, met_is w (hop_of v) h room (fitting v) s.records))
       (λ h. simp (record_code, s.records.count, room_full, tests))
 
   pub flag_checked : (tag : ℕ) → (tag ≡ 2 → ⊥) → extending w tag v ≡ flag_by tag v
@@ -202,10 +202,10 @@ module _ (w : List ℕ) (T : Settings) (s : Stands w T) (ample : Ample w) (v : L
       let opened = ample.opened in
       simp (extending, flag_code, tests)
 
-  pub extended_stands : (tag : ℕ) → extending w tag v ≡ 0 → Stands (extended w tag v) (withField T (field tag v))
-  unfolding withField
+  pub extended_stands : (tag : ℕ) → extending w tag v ≡ 0 → Stands (extended w tag v) (with_field T (field tag v))
+  unfolding with_field
   extended_stands tag z =
-      by_field (λ tag u. Stands u (withField T (field tag v))) w tag v (λ n. absurd (n z)) (λ c. record_stands (record_parts w v c) (fitting v) T s) (λ c.
+      by_field (λ tag u. Stands u (with_field T (field tag v))) w tag v (λ n. absurd (n z)) (λ c. record_stands (record_parts w v c) (fitting v) T s) (λ c.
       let p = flag_parts w tag v c in
       flag_stands w p.2 T s tag v p.0 p.1)
 
@@ -233,7 +233,7 @@ none_stands u =
     record { ordered = record { few = omega arith; rises = λ i j b c. absurd (omega arith) }; count = refl; same_ruling = λ d. refl; same_met = λ y. refl }
 
 module _ (w v : List ℕ) (long : 4 ≤ length w) where
-  pub switch_stands : Stands (with_switch w v) (S.switchOf v)
+  pub switch_stands : Stands (with_switch w v) (S.switch_of v)
   unfolding put
   switch_stands = record { nickname = refl; mac = omega arith; strip = refl; rfc7179 = refl; records = none_stands (with_switch w v) }
 
@@ -242,7 +242,7 @@ module _ (w v : List ℕ) (long : 4 ≤ length w) where
   switch_counts = refl
 
   pub switch_long : length (with_switch w v) ≡ length w
-  switch_long = length-put w 0 ((S.switchOf v).nickname ∷ ((S.switchOf v).mac * 65536 + ethertypeTrill) ∷ 0 ∷ 0 ∷ []) long
+  switch_long = length-put w 0 ((S.switch_of v).nickname ∷ ((S.switch_of v).mac * 65536 + ethertype_trill) ∷ 0 ∷ 0 ∷ []) long
 
 -- words that stand for settings say what these say, and are good
 module _ (w : List ℕ) (T : Settings) (s : Stands w T) where
@@ -251,7 +251,7 @@ module _ (w : List ℕ) (T : Settings) (s : Stands w T) where
       let hops : (λ (d : ℕ). hop_for w (count_in w) d (index_in w (count_in w) d)) ≡ S.next_hop T = fun_ext (serves w (count_in w) T s.records) in
       λ i. record { nickname = s.nickname i; mac = s.mac i; strip = s.strip i; rfc7179 = s.rfc7179 i; hop = hops i }
 
-  pub is_good : nicknameValid T.nickname ≡ true → 4 + 2 * count_in w ≤ length w → store_good w ≡ true
+  pub is_good : nickname_valid T.nickname ≡ true → 4 + 2 * count_in w ≤ length w → store_good w ≡ true
   unfolding store_good
   is_good v long =
       let opened : 4 ≤ length w = omega arith in

@@ -15,7 +15,7 @@ use Rattle.rules.proofs.OctetLaws.{length-put, length_part}
 use Rattle.rules.proofs.TestLaws.{by-test, and-true, or_yes, or_no, or_assoc, by_order, by_equal, tests}
 use Rattle.rules.specs.declared.NextHop.{NextHop}
 use Rattle.stores.specs
-use specs.Store.{first_at, second_at, rank_at, hopOf, hop_at, hops_from, Ordered, StandsFor}
+use specs.Store.{first_at, second_at, rank_at, hop_of, hop_at, hops_from, Ordered, StandsFor}
 use specs.Halving.{six_times}
 use specs.Insert.{first_word, second_word, below_at, index_for, met_at, met_in, put_in, inserted_in, IndexFor, Shifted, PutIn, With}
 use Rattle.stores.proofs.HalvingLaws.{reached, beyond}
@@ -28,7 +28,7 @@ pub record Fitting (r : NextHop) : Type 0 where
   pub neighbour_fits : r.neighbour < 65536
   pub vlan_fits : r.vlan < 65536
 
-pub fitting : (v : List ℕ) → Fitting (S.hopOf v)
+pub fitting : (v : List ℕ) → Fitting (S.hop_of v)
 fitting v = omega arith
 
 -- the index for a rank
@@ -238,8 +238,8 @@ rises_all v n next i (suc j) a b =
     let e : i ≡ j = omega arith in
     rw e (next j b))
 
-met_append : (x : NextHop) (l m : List NextHop) → S.serialMet x (l ++ m) ≡ (S.serialMet x l || S.serialMet x m)
-unfolding S.serialMet
+met_append : (x : NextHop) (l m : List NextHop) → S.serial_met x (l ++ m) ≡ (S.serial_met x l || S.serial_met x m)
+unfolding S.serial_met
 met_append x [] m = refl
 met_append x (q ∷ l) m = rw (met_append x l m, or_assoc)
 
@@ -301,15 +301,15 @@ module _ {w : List ℕ} {n first second p : ℕ} {v : List ℕ} (o : Ordered w n
     unfolding S.ruling
     ruling_with apart d = rw (hops_with, hops_without) (simp fold_append (row_slide d w (n - p) p _ r (λ j a b. apart j (omega (arith, within)))))
 
-    met_with : (x : NextHop) → S.serialMet x (hops_from v 0 (suc n)) ≡ (S.serialMet x (hops_from w 0 n) || S.serialMet x (r ∷ []))
-    unfolding S.serialMet
+    met_with : (x : NextHop) → S.serial_met x (hops_from v 0 (suc n)) ≡ (S.serial_met x (hops_from w 0 n) || S.serial_met x (r ∷ []))
+    unfolding S.serial_met
     met_with x =
         rw (hops_with, hops_without)
         (simp met_append
-        (or_turn (S.serialMet x (hops_from w 0 p)) (S.serialMet x (hops_from w p (n - p)))
+        (or_turn (S.serial_met x (hops_from w 0 p)) (S.serial_met x (hops_from w p (n - p)))
         (eqb r.destination x.destination && eqb r.serial x.serial)))
 
-hop_back : (r : NextHop) → Fitting r → hopOf (first_word r) (second_word r) ≡ r
+hop_back : (r : NextHop) → Fitting r → hop_of (first_word r) (second_word r) ≡ r
 hop_back r f =
     let a : first_word r / 281474976710656 ≡ r.destination = omega arith in
     let b : second_word r % 65536 ≡ r.neighbour = omega arith in
@@ -319,8 +319,8 @@ hop_back r f =
     rw (a, b, c, e, g)
 
 row_unmet : (w : List ℕ) (r : NextHop) (k i : ℕ)
-    → ((j : ℕ) → i ≤ j → j < i + k → (hop_at w j).destination ≡ r.destination → (hop_at w j).serial ≡ r.serial → ⊥) → S.serialMet r (hops_from w i k) ≡ false
-unfolding hops_from S.serialMet
+    → ((j : ℕ) → i ≤ j → j < i + k → (hop_at w j).destination ≡ r.destination → (hop_at w j).serial ≡ r.serial → ⊥) → S.serial_met r (hops_from w i k) ≡ false
+unfolding hops_from S.serial_met
 row_unmet w r zero i h = refl
 row_unmet w r (suc k) i h =
     rw (row_unmet w r k (suc i) (λ j a b. h j (omega arith) (omega arith)), or_no)
@@ -336,8 +336,8 @@ module _ (w : List ℕ) {n : ℕ} (r : NextHop) {hops : List NextHop} (few : n <
   abbrev index_in : ℕ
   index_in = index_for w (first_word r / 65536) n
 
-  met_so : met_in w n (first_word r / 65536) ≡ true → S.serialMet r hops ≡ true
-  unfolding S.serialMet hop_at
+  met_so : met_in w n (first_word r / 65536) ≡ true → S.serial_met r hops ≡ true
+  unfolding S.serial_met hop_at
   met_so m =
       let t = met_record w n (first_word r) (second_word r) m in
       let x : (hop_at w index_in).destination ≡ r.destination = omega arith in
@@ -370,7 +370,7 @@ module _ (w : List ℕ) {n : ℕ} (r : NextHop) {hops : List NextHop} (few : n <
           same_met = λ x. rw (met_with s.ordered put_with r is_r x, ← s.same_met x, met_append);
         }
 
-  pub met_is : met_in w n (first_word r / 65536) ≡ S.serialMet r hops
+  pub met_is : met_in w n (first_word r / 65536) ≡ S.serial_met r hops
   met_is =
       by-test (met_in w n (first_word r / 65536)) (λ t. t ∙ sym (met_so t)) (λ f. f ∙ sym (s.same_met r ∙ row_unmet w r n 0 (λ j a c. apart f j (omega arith))))
 

@@ -16,9 +16,9 @@ use Rattle.octets.specs.Words.{be64}
 use Rattle.octets.proofs.{Hops.hop_same, WordLaws.first_part, WordLaws.rest_part}
 use Rattle.rules.specs as rules
 use rules.Octets.{if◌then◌else◌, put, octet, be16, be48, part}
-use rules.Fields.{Field, field, cut, field_at, fields_at, fields, hopSize, lengthGood}
-use rules.Settings.{Settings, hopGood, withField, continues, settingsFrom, settingsOf, opens, opened, switchOf, ways_of, nicknameValid, macGood}
-use rules.{Settings.hopOf, Settings.switchGood, Campus.known}
+use rules.Fields.{Field, field, cut, field_at, fields_at, fields, hop_size, length_good}
+use rules.Settings.{Settings, hop_good, with_field, continues, settings_from, settings_of, opens, opened, switch_of, ways_of, nickname_valid, mac_good}
+use rules.{Settings.hop_of, Settings.switch_good, Campus.known}
 use rules.declared.{FieldRead.FieldRead, NextHop.NextHop}
 use rules.declared.FieldRead.TheVariants.{Taken, Cut}
 use Rattle.rules.proofs as ruleLaws
@@ -68,23 +68,23 @@ module _ (w : List ℕ) (n : ℕ) (is : n ≡ count_by w) where
 
 -- a record: one law for each way that it is refused, and one where it is taken
 module _ (w v : List ℕ) where
-  by_code : (code : ℕ) (u : List ℕ) → code ≡ extending w 2 v → u ≡ (if not (eqb code 0) then w else with_record w (hopOf v)) → Extends w 2 v code u
+  by_code : (code : ℕ) (u : List ℕ) → code ≡ extending w 2 v → u ≡ (if not (eqb code 0) then w else with_record w (hop_of v)) → Extends w 2 v code u
   unfolding extended
   by_code code u e q = record { code = e; words = q ∙ rw (extended, e) }
 
-  pub admit_long : (sized : Bool) → sized ≡ hopSize (length v) → not sized ≡ true → Extends w 2 v 42 w
-  unfolding extending record_code lengthGood
+  pub admit_long : (sized : Bool) → sized ≡ hop_size (length v) → not sized ≡ true → Extends w 2 v 42 w
+  unfolding extending record_code length_good
   admit_long sized is t = by_code 42 w (cc) refl
 
-  module _ (sized : Bool) (s_is : sized ≡ hopSize (length v)) (long : not sized ≡ false) (r : Record) (read : r ≡ record_of v)
-      (ok : Bool) (g : ok ≡ hopGood (hop_by r)) where
-    hop_is : hop_by r ≡ hopOf v
+  module _ (sized : Bool) (s_is : sized ≡ hop_size (length v)) (long : not sized ≡ false) (r : Record) (read : r ≡ record_of v)
+      (ok : Bool) (g : ok ≡ hop_good (hop_by r)) where
+    hop_is : hop_by r ≡ hop_of v
     hop_is = rw read (hop_same v)
 
-    code_is : extending w 2 v ≡ (if not ok then 44 else if not (room_in w) then 46 else if met_by w (hopOf v) then 47 else 0)
-    unfolding extending record_code lengthGood
+    code_is : extending w 2 v ≡ (if not ok then 44 else if not (room_in w) then 46 else if met_by w (hop_of v) then 47 else 0)
+    unfolding extending record_code length_good
     code_is =
-        let good : hopGood (hopOf v) ≡ ok = ap hopGood (sym hop_is) ∙ sym g in
+        let good : hop_good (hop_of v) ≡ ok = ap hop_good (sym hop_is) ∙ sym g in
         rw (record_code, ← s_is, long, good)
 
     pub admit_bad : not ok ≡ true → Extends w 2 v 44 w
@@ -95,10 +95,10 @@ module _ (w v : List ℕ) where
       admit_full f = by_code 46 w (rw (code_is, n, full_so w i c f)) refl
 
       module _ (f : i ≡ 64 → ⊥) (put : Bool) (p : put ≡ not (met_by w (hop_by r))) (u : List ℕ) (q : u ≡ added_to w (hop_by r)) where
-        met_not : met_by w (hopOf v) ≡ not put
+        met_not : met_by w (hop_of v) ≡ not put
         met_not = ap (λ (x : NextHop). met_by w x) (sym hop_is) ∙ rw (p, not-not)
 
-        added : u ≡ (if not put then w else with_record w (hopOf v))
+        added : u ≡ (if not put then w else with_record w (hop_of v))
         added = q ∙ ap (λ (x : NextHop). added_to w x) hop_is ∙ rw met_not
 
         pub admit_met : not put ≡ true → Extends w 2 v 47 u
@@ -205,13 +205,13 @@ roomy_ample r = omega arith
 -- the fields from a place on: what is left decides as the whole does
 pub record Left (s : List ℕ) (whole : Option Settings) (w : List ℕ) (at : ℕ) : Type 0 where
   pub read : Settings
-  pub decides : settingsFrom read (fields_at s at) ≡ whole
+  pub decides : settings_from read (fields_at s at) ≡ whole
   pub stands : Stands w read
 
 pub record Filling (s : List ℕ) (from : ℕ) (w v : List ℕ) (at : ℕ) : Type 0 where
   pub within : at ≤ length s
   pub roomy : Roomy v
-  pub left : (T : Settings) → Stands w T → Left s (settingsFrom T (fields_at s from)) v at
+  pub left : (T : Settings) → Stands w T → Left s (settings_from T (fields_at s from)) v at
 
 module _ (s : List ℕ) (from : ℕ) (w : List ℕ) where
   pub filling_begin : from ≤ length s → Roomy w → Filling s from w w from
@@ -219,7 +219,7 @@ module _ (s : List ℕ) (from : ℕ) (w : List ℕ) where
 
   module _ (v : List ℕ) (at : ℕ) (l : Filling s from w v at) where
     pub filling_end : length s ≤ at → Fills s from w true v
-    unfolding settingsFrom
+    unfolding settings_from
     filling_end h =
         record {
           filled = λ T t.
@@ -275,7 +275,7 @@ module _ (s : List ℕ) (from : ℕ) (w : List ℕ) where
                   let x = l.left T st in
                   let ok : continues x.read (field tag value) ≡ true = sym (checks x.read x.stands) ∙ eq-eqb r 0 n in
                   record {
-                    read = withField x.read (field tag value);
+                    read = with_field x.read (field tag value);
                     decides = rw (← from_on x.read (field tag value) (fields_at s next) ok, ← on) x.decides;
                     stands = rw stepped.words (extended_stands v x.read x.stands (roomy_ample l.roomy) value tag (sym stepped.code ∙ n));
                   };
@@ -296,7 +296,7 @@ pub ruleset open_laws = (rules, open_is, lt_of_lt_of_le)
 
 -- a store opened for a switch is roomy, and stands for it
 module _ (w v u : List ℕ) (is : u ≡ with_switch w v) (long : length w ≡ 164) where
-  pub open_stands : Stands u (switchOf v)
+  pub open_stands : Stands u (switch_of v)
   open_stands = rw is (switch_stands w v (omega arith))
 
   pub open_roomy : Roomy u
@@ -324,7 +324,7 @@ module _ (s : List ℕ) (from : ℕ) (w : List ℕ) (r : Bool) (u : List ℕ) (f
   fill_hinted y n h =
       let roomy = fills_roomy n in
       record {
-        filled = λ T st. hinted roomy (settingsFrom T (fields_at s from)) (rw (not-false r n) at (f.filled T st));
+        filled = λ T st. hinted roomy (settings_from T (fields_at s from)) (rw (not-false r n) at (f.filled T st));
         roomy = λ e. record { size = h.size ∙ roomy.size; most = omega (arith, h.before 3 (omega arith), roomy.most) };
       }
     where
@@ -340,38 +340,38 @@ unknown w none e = refl
 unknown w (some T) e = absurd (false≢true e)
 
 module _ (s : List ℕ) (read : FieldRead) (q : read ≡ field_at s 0) where
-  pub prepare_cut : (w : List ℕ) → read ≡ Cut → Filled w (settingsOf s) false
-  prepare_cut w c = unknown w (settingsOf s) (settings-cut s (sym q ∙ c))
+  pub prepare_cut : (w : List ℕ) → read ≡ Cut → Filled w (settings_of s) false
+  prepare_cut w c = unknown w (settings_of s) (settings-cut s (sym q ∙ c))
 
   module _ (tag size next : ℕ) (t : read ≡ Taken tag size next) (v : List ℕ) (held : v ≡ part s 3 (next - 3)) (o : Bool) (is : o ≡ opens (field tag v)) where
     opens_by : {b : Bool} → o ≡ b → opens (field tag (part s 3 (next - 3))) ≡ b
     opens_by e = sym (rw held at is) ∙ e
 
-    pub prepare_shut : (w : List ℕ) → not o ≡ true → Filled w (settingsOf s) false
-    prepare_shut w n = unknown w (settingsOf s) (settings-bad s (sym q ∙ t) (opens_by (not-true o n)))
+    pub prepare_shut : (w : List ℕ) → not o ≡ true → Filled w (settings_of s) false
+    prepare_shut w n = unknown w (settings_of s) (settings-bad s (sym q ∙ t) (opens_by (not-true o n)))
 
-    pub prepare_filled : not o ≡ false → (w : List ℕ) → Stands w (switchOf v) → (r : Bool) (u : List ℕ) → Fills s next w r u → Filled u (settingsOf s) r
+    pub prepare_filled : not o ≡ false → (w : List ℕ) → Stands w (switch_of v) → (r : Bool) (u : List ℕ) → Fills s next w r u → Filled u (settings_of s) r
     prepare_filled n w stands r u fills =
         let open_so = settings-open s (field tag (part s 3 (next - 3))) (fields_at s next) (first s (sym q ∙ t)) (opens_by (not-false o n)) in
-        rw (open_so, opened-field, ← held) (fills.filled (switchOf v) stands)
+        rw (open_so, opened-field, ← held) (fills.filled (switch_of v) stands)
 
 pub ruleset prepare_laws = (rules, taken, taken_first, open_stands, open_roomy, prepare_cut, prepare_shut, prepare_filled)
 
 -- a store that stands for good settings says what they say
-settings_named : (s : List ℕ) (T : Settings) → settingsOf s ≡ some T → nicknameValid T.nickname ≡ true
-unfolding settingsOf opens opened switchGood
+settings_named : (s : List ℕ) (T : Settings) → settings_of s ≡ some T → nickname_valid T.nickname ≡ true
+unfolding settings_of opens opened switch_good
 settings_named s T e = go (fields s) refl
   where
-    go : (l : List Field) → fields s ≡ l → nicknameValid T.nickname ≡ true
-    go [] is = cc (rw (settingsOf, is) at e)
-    go (cut ∷ fs) is = cc (rw (settingsOf, is) at e)
+    go : (l : List Field) → fields s ≡ l → nickname_valid T.nickname ≡ true
+    go [] is = cc (rw (settings_of, is) at e)
+    go (cut ∷ fs) is = cc (rw (settings_of, is) at e)
     go (field tag v ∷ fs) is =
         by-test (opens (field tag v))
         (λ o.
-        let whole = from-read (switchOf v) T fs (rw (settingsOf, is, o) at e) in
-        let good = (and-true (eqb tag 1 && lengthGood tag (length v)) (nicknameValid (be16 v 0) && macGood (be48 v 2)) o).1 in
-        rw (← whole, switch-fold (λ n m. n)) (and-true (nicknameValid (be16 v 0)) (macGood (be48 v 2)) good).0)
-        (λ o. cc (rw (settingsOf, is, o) at e))
+        let whole = from-read (switch_of v) T fs (rw (settings_of, is, o) at e) in
+        let good = (and-true (eqb tag 1 && length_good tag (length v)) (nickname_valid (be16 v 0) && mac_good (be48 v 2)) o).1 in
+        rw (← whole, switch-fold (λ n m. n)) (and-true (nickname_valid (be16 v 0)) (mac_good (be48 v 2)) good).0)
+        (λ o. cc (rw (settings_of, is, o) at e))
 
 -- the call: one law for each way out
 record Known (w : List ℕ) (o : Option Settings) : Type 0 where
@@ -383,22 +383,22 @@ known_so : (w : List ℕ) (o : Option Settings) (ok : Bool) → Filled w o ok �
 known_so w none ok f t = absurd (false≢true (sym f ∙ t))
 known_so w (some T) ok f t = record { its = T; is = refl; stands = f.1 }
 
-module _ (s store w : List ℕ) (ok : Bool) (f : Filled w (settingsOf s) ok) where
+module _ (s store w : List ℕ) (ok : Bool) (f : Filled w (settings_of s) ok) where
   refusal : (r : ℕ) → 0 < r → r ≡ preparing s (length store) → Prepared s store store r
   refusal r z e =
       record { answered = e; refused = λ n. refl; says = λ T n. absurd (omega arith); handles = λ n. absurd (omega arith); beyond = refl }
 
   pub prepared_bad : not ok ≡ true → Prepared s store store 1
   unfolding preparing
-  prepared_bad n = refusal 1 (omega arith) (answered (settingsOf s) refl f)
+  prepared_bad n = refusal 1 (omega arith) (answered (settings_of s) refl f)
     where
-      answered : (o : Option Settings) → settingsOf s ≡ o → Filled w o ok → 1 ≡ preparing s (length store)
+      answered : (o : Option Settings) → settings_of s ≡ o → Filled w o ok → 1 ≡ preparing s (length store)
       answered none e g = rw (preparing, e)
       answered (some T) e g = cc (not-true ok n, g.0)
 
   module _ (n : not ok ≡ false) where
-    its_known : Known w (settingsOf s)
-    its_known = known_so w (settingsOf s) ok f (not-false ok n)
+    its_known : Known w (settings_of s)
+    its_known = known_so w (settings_of s) ok f (not-false ok n)
 
     pub prepared_short : length store < 164 → Prepared s store store 2
     unfolding preparing

@@ -1,9 +1,9 @@
 -- A store made field by field, from any words: opened for a switch, and extended by a record, a strip flag or an edition.
 use Rattle.std.specs.Prelude.{ℕ, ◌+◌, ◌*◌, ◌/◌, ◌%◌, ◌≡◌, List, [], ◌∷◌, Bool, not, ◌&&◌, ltb, leb, eqb, length, get_or, set}
 use Rattle.rules.specs.Octets.{if◌then◌else◌, octet, put}
-use Rattle.rules.specs.Fields.{field, lengthGood}
+use Rattle.rules.specs.Fields.{field, length_good}
 use Rattle.rules.specs.Settings as S
-use Rattle.rules.specs.Link.{ethertypeTrill}
+use Rattle.rules.specs.Link.{ethertype_trill}
 use Rattle.rules.specs.declared.NextHop.{NextHop}
 use Rattle.octets.specs.Flags.{flag_tag, flag_value}
 use Rattle.stores.specs.Store.{count_in}
@@ -11,10 +11,10 @@ use Rattle.stores.specs.Insert.{first_word, second_word, met_in, inserted_in}
 
 -- the words of a switch without records and with no flag
 abbrev pub switch_words : S.Settings → List ℕ
-switch_words T = T.nickname ∷ (T.mac * 65536 + ethertypeTrill) ∷ 0 ∷ 0 ∷ []
+switch_words T = T.nickname ∷ (T.mac * 65536 + ethertype_trill) ∷ 0 ∷ 0 ∷ []
 
 abbrev pub with_switch : List ℕ → List ℕ → List ℕ
-with_switch w v = put w 0 (switch_words (S.switchOf v))
+with_switch w v = put w 0 (switch_words (S.switch_of v))
 
 -- a store is opened by the value of a good switch, where there are words for it
 unfoldable pub opens_in : List ℕ → List ℕ → Bool
@@ -39,10 +39,10 @@ met_by w r = met_in w (count_in w) (first_word r / 65536)
 -- 0, or the code of a description that refuses the field: 42 its length, 44 its value, 46 no room, 47 serial met, 43 no field of settings
 unfoldable pub record_code : List ℕ → List ℕ → ℕ
 record_code w v =
-    if not (lengthGood 2 (length v)) then 42 else
-    if not (S.hopGood (S.hopOf v)) then 44 else
+    if not (length_good 2 (length v)) then 42 else
+    if not (S.hop_good (S.hop_of v)) then 44 else
     if not (room_in w) then 46 else
-    if met_by w (S.hopOf v) then 47
+    if met_by w (S.hop_of v) then 47
     else 0
 
 unfoldable pub flag_code : List ℕ → ℕ → List ℕ → ℕ
@@ -77,7 +77,7 @@ pub record FlagIn (w : List ℕ) (tag : ℕ) (v : List ℕ) (r : ℕ) (w' : List
 
 -- a field that is refused leaves the words as they were
 unfoldable pub extended : List ℕ → ℕ → List ℕ → List ℕ
-extended w tag v = if not (eqb (extending w tag v) 0) then w else if eqb tag 2 then with_record w (S.hopOf v) else with_flag w tag v
+extended w tag v = if not (eqb (extending w tag v) 0) then w else if eqb tag 2 then with_record w (S.hop_of v) else with_flag w tag v
 
 pub record Extends (w : List ℕ) (tag : ℕ) (v : List ℕ) (r : ℕ) (w' : List ℕ) : Type 0 where
   pub code : r ≡ extending w tag v

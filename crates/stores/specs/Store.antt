@@ -4,7 +4,7 @@ use Rattle.std.proofs.Math.Option.{Option, none, some}
 use Rattle.rules.specs.Octets.{if◌then◌else◌}
 use Rattle.rules.specs.Fields.{fields_at}
 use Rattle.rules.specs.Settings as S
-use Rattle.rules.specs.Handling.{handledWith, handled}
+use Rattle.rules.specs.Handling.{handled_with, handled}
 use Rattle.rules.specs.Answer as A
 use Rattle.rules.specs.WayOut.{WayOut, no_way, way_out_by}
 use Rattle.rules.specs.declared.NextHop.{NextHop}
@@ -39,12 +39,12 @@ dest_of first = first / 281474976710656
 abbrev pub dest_at : List ℕ → ℕ → ℕ
 dest_at w i = dest_of (first_at w i)
 
-abbrev pub hopOf : ℕ → ℕ → NextHop
-hopOf first second =
+abbrev pub hop_of : ℕ → ℕ → NextHop
+hop_of first second =
     record { destination = dest_of first; neighbour = second % 65536; mac = second / 65536; serial = first / 65536 % 4294967296; vlan = first % 65536 }
 
 unfoldable pub hop_at : List ℕ → ℕ → NextHop
-hop_at w i = hopOf (first_at w i) (second_at w i)
+hop_at w i = hop_of (first_at w i) (second_at w i)
 
 -- "if it is a withdrawal, there is no next hop"
 unfoldable pub unless_withdrawn : Ruling → Ruling
@@ -90,11 +90,11 @@ ways_in w =
 
 -- a valid nickname, and no more records than 64 and than there are words for
 unfoldable pub store_good : List ℕ → Bool
-store_good w = leb 4 (length w) && (S.nicknameValid (nickname_in w) && (leb (count_in w) S.hops_most && leb (4 + 2 * count_in w) (length w)))
+store_good w = leb 4 (length w) && (S.nickname_valid (nickname_in w) && (leb (count_in w) S.hops_most && leb (4 + 2 * count_in w) (length w)))
 
 -- the handling by a store: a bad one is bad settings
 unfoldable pub handled_in : List ℕ → List ℕ → ℕ → ℕ → List ℕ → A.Handled
-handled_in w clock room beside_room f = if store_good w then handledWith (ways_in w) clock room beside_room f else A.dropped 1
+handled_in w clock room beside_room f = if store_good w then handled_with (ways_in w) clock room beside_room f else A.dropped 1
 
 -- what a good store is known to have
 pub record Whole (w : List ℕ) : Type 0 where
@@ -117,7 +117,7 @@ pub record StandsFor (w : List ℕ) (n : ℕ) (hops : List NextHop) : Type 0 whe
   pub ordered : Ordered w n
   pub count : length hops ≡ n
   pub same_ruling : (d : ℕ) → S.ruling hops d ≡ S.ruling (hops_from w 0 n) d
-  pub same_met : (x : NextHop) → S.serialMet x hops ≡ S.serialMet x (hops_from w 0 n)
+  pub same_met : (x : NextHop) → S.serial_met x hops ≡ S.serial_met x (hops_from w 0 n)
 
 -- a store of which the words stand for settings
 pub record Stands (w : List ℕ) (T : S.Settings) : Type 0 where
@@ -139,7 +139,7 @@ Filled w (some T) r = (r ≡ true) × Stands w T
 
 -- the fields from a place on
 pub record Fills (s : List ℕ) (from : ℕ) (w : List ℕ) (r : Bool) (v : List ℕ) : Type 0 where
-  pub filled : (T : S.Settings) → Stands w T → Filled v (S.settingsFrom T (fields_at s from)) r
+  pub filled : (T : S.Settings) → Stands w T → Filled v (S.settings_from T (fields_at s from)) r
   pub roomy : r ≡ true → Roomy v
 
 -- other hints: no word before them moves
@@ -149,14 +149,14 @@ pub record Hinted (w v : List ℕ) : Type 0 where
 
 -- what preparing answers: 1 for bad settings, 2 for too few words, else 0
 unfoldable pub preparing : List ℕ → ℕ → ℕ
-preparing settings words = elim (S.settingsOf settings) [ none ↦ 1 | some T ↦ if ltb words store_words then 2 else 0 ]
+preparing settings words = elim (S.settings_of settings) [ none ↦ 1 | some T ↦ if ltb words store_words then 2 else 0 ]
 
 -- and what it leaves. A refusal leaves the words as they were. Else the first 164 words are free but for what they mean: the store is good, says
 -- what the settings say, and so handles every frame as the settings octets do; the words behind them stay.
 pub record Prepared (settings store store' : List ℕ) (r : ℕ) : Type 0 where
   pub answered : r ≡ preparing settings (length store)
   pub refused : (r ≡ 0 → ⊥) → store' ≡ store
-  pub says : (T : S.Settings) → r ≡ 0 → S.settingsOf settings ≡ some T → (store_good store' ≡ true) × (ways_in store' ≡ S.ways_of T)
+  pub says : (T : S.Settings) → r ≡ 0 → S.settings_of settings ≡ some T → (store_good store' ≡ true) × (ways_in store' ≡ S.ways_of T)
   pub handles : r ≡ 0 → (clock : List ℕ) (room beside_room : ℕ) (f : List ℕ)
       → handled_in store' clock room beside_room f ≡ handled settings clock room beside_room f
   pub beyond : drop store_words store' ≡ drop store_words store

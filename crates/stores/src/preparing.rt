@@ -285,7 +285,7 @@ fn hint_all(w: &mut [u64])
 // Whether the settings are good; then the words stand for them.
 pub fn prepare(s: &[u8], w: &mut [u64]) -> bool
     requires { length w.old ≡ 164 }
-    ensures { Filled w.new (S.settingsOf s.now) result × (length w.new ≡ 164) }
+    ensures { Filled w.new (S.settings_of s.now) result × (length w.new ≡ 164) }
 {
     let FieldRead::Taken { tag, next, .. } = octets::field_at(s, 0) else {
         return false;

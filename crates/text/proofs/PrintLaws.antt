@@ -8,7 +8,7 @@ use borrow.Author.Rules.{rules}
 use borrow.Author.Tests.{eq-eqb, ne_eqb, lt-ltb, le-ltb}
 use lib.ListN.{length, get_or, take, drop, length-drop}
 use lib.Seq.{drop-drop}
-use Rattle.rules.specs.Text.{ascii, lineFeed, hex_digit, decimal}
+use Rattle.rules.specs.Text.{ascii, line_feed, hex_digit, decimal}
 use Rattle.rules.proofs.TextLaws.{decimal_one, decimal_two, decimal_three, decimal_four}
 use Rattle.octets.specs.Copy.{Wrote, fitting}
 use Rattle.octets.proofs.Ends.{copied, joined, wrote_none, wrote_long}
@@ -160,11 +160,11 @@ pub ruleset put_lines_laws = (rules, writing_begin, writing_end, line_entry, wri
 
 -- the whole text, by the code
 module _ (code count : ℕ) (trace : List ℕ) where
-  pub text_refused : (code ≡ 0 → ⊥) → ascii "refused " ++ decimal code ++ (lineFeed ∷ []) ≡ text_of code count trace
+  pub text_refused : (code ≡ 0 → ⊥) → ascii "refused " ++ decimal code ++ (line_feed ∷ []) ≡ text_of code count trace
   unfolding text_of
   text_refused h = rw (text_of, ne_eqb code 0 h)
 
-  pub text_handled : code ≡ 0 → lines_of count trace ++ (ascii "handled " ++ decimal count ++ (lineFeed ∷ [])) ≡ text_of code count trace
+  pub text_handled : code ≡ 0 → lines_of count trace ++ (ascii "handled " ++ decimal count ++ (line_feed ∷ [])) ≡ text_of code count trace
   unfolding text_of
   text_handled h = rw (text_of, eq-eqb code 0 h)
 

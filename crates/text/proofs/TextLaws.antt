@@ -13,9 +13,9 @@ use lib.Seq.{length-take-le}
 use Rattle.rules.specs as rules
 use Rattle.rules.proofs.{TestLaws.by-test, OctetLaws.take_put, DescriptionLaws.accepted-good, OutcomeLaws.campus-refused}
 use Rattle.rules.proofs.{OutcomeLaws.campus-needed, DemandLaws.plain-most, DemandLaws.plain-room}
-use rules.Campus.{Described, someEdition2, traceNeeded, Description, refused, accepted, described, State, plainRun, Kind, original, reply}
-use rules.Campus.{hopReceived, egressReceived, kindOctet, entryOctets, traceOctets}
-use rules.Text.{blank, lineFeed, hex2, hex4, decimal, kindLetter, entryText, entriesText, printed}
+use rules.Campus.{Described, some_edition2, trace_needed, Description, refused, accepted, described, State, plain_run, Kind, original, reply}
+use rules.Campus.{hop_received, egress_received, kind_octet, entry_octets, trace_octets}
+use rules.Text.{blank, line_feed, hex2, hex4, decimal, kind_letter, entry_text, entries_text, printed}
 use Rattle.rules.proofs.TextLaws.{refused_ranged, printed_refused, printed_accepted, printed_most}
 use Rattle.text.specs.Print.{PutAt, letter_of, line_of, lines_of, text_of, Printable, Written, TextDone, TextWhole}
 use Rattle.campus.specs.Done.{CampusDone}
@@ -30,7 +30,7 @@ hex_octet n =
     let low : n % 256 % 16 ≡ n % 16 = omega arith in
     rw (high, low)
 
-letter_is : (kind : Kind) → letter_of (kindOctet kind) ≡ kindLetter kind
+letter_is : (kind : Kind) → letter_of (kind_octet kind) ≡ kind_letter kind
 unfolding letter_of
 letter_is original = refl
 letter_is reply = refl
@@ -38,33 +38,33 @@ letter_is reply = refl
 joined : (d a b c e f : List ℕ) → d ++ a ++ b ++ c ++ e ++ f ≡ d ++ (a ++ b ++ c ++ e ++ f)
 joined d a b c e f = simp append_assoc
 
-line_entry : (s : State) (t : List ℕ) → line_of (entryOctets s ++ t) ≡ entryText s
-unfolding line_of entryOctets entryText
+line_entry : (s : State) (t : List ℕ) → line_of (entry_octets s ++ t) ≡ entry_text s
+unfolding line_of entry_octets entry_text
 line_entry s t =
     let n = s.switch.nickname in
-    let e = egressReceived s.frame in
+    let e = egress_received s.frame in
     cc (
       hex_octet n,
       hex_octet (n / 256),
       hex_octet e,
       hex_octet (e / 256),
       letter_is s.kind,
-      joined (decimal s.answer.number) (blank ∷ []) (hex2 (hopReceived s.frame)) (blank ∷ []) (hex4 e) (lineFeed ∷ []),
+      joined (decimal s.answer.number) (blank ∷ []) (hex2 (hop_received s.frame)) (blank ∷ []) (hex4 e) (line_feed ∷ []),
     )
 
-drop_entry : (s : State) (t : List ℕ) → drop 8 (entryOctets s ++ t) ≡ t
-unfolding entryOctets
+drop_entry : (s : State) (t : List ℕ) → drop 8 (entry_octets s ++ t) ≡ t
+unfolding entry_octets
 drop_entry s t = refl
 
-lines_entries : (states : List State) (t : List ℕ) → lines_of (length states) (traceOctets states ++ t) ≡ entriesText states
-unfolding lines_of traceOctets entriesText
+lines_entries : (states : List State) (t : List ℕ) → lines_of (length states) (trace_octets states ++ t) ≡ entries_text states
+unfolding lines_of trace_octets entries_text
 lines_entries [] t = refl
-lines_entries (s ∷ states) t = rw (append_assoc (entryOctets s) (traceOctets states) t, line_entry, drop_entry, lines_entries states t)
+lines_entries (s ∷ states) t = rw (append_assoc (entry_octets s) (trace_octets states) t, line_entry, drop_entry, lines_entries states t)
 
 -- a trace buffer of the size asked
 pub record Enough (file trace : List ℕ) : Type 0 where
   pub least : 640 ≤ length trace
-  pub asked : (d : Described) → described file ≡ accepted d → traceNeeded d ≤ length trace
+  pub asked : (d : Described) → described file ≡ accepted d → trace_needed d ≤ length trace
 
 -- what is printed of the outcome
 module _ {file trace₀ trace : List ℕ} {code count : ℕ} (done : CampusDone file trace₀ trace code count) (enough : Enough file trace₀)
@@ -87,10 +87,10 @@ module _ {file trace₀ trace : List ℕ} {code count : ℕ} (done : CampusDone 
             printable = omega arith;
           }
       go (accepted d) e =
-          let run : List State = plainRun d in
+          let run : List State = plain_run d in
           let m = done.demanded d e (enough.asked d e) in
           let good = accepted-good file d e in
-          let lines : lines_of count trace ≡ entriesText run = rw (m.traces, m.counts) (lines_entries run (drop (8 * length run) trace₀)) in
+          let lines : lines_of count trace ≡ entries_text run = rw (m.traces, m.counts) (lines_entries run (drop (8 * length run) trace₀)) in
           record {
             text = sym (text_handled code count trace m.answers_0) ∙ rw (lines, m.counts, printed_accepted file d e) (simp append_assoc);
             printable = omega (arith, m.answers_0, m.counts, plain-most d good, plain-room d good, enough.asked d e);
@@ -105,12 +105,12 @@ module _ {file trace₀ trace : List ℕ} {code count : ℕ} (done : CampusDone 
 
 -- 32,768 octets are enough for any, and 640 where the answer is not 49
 pub enough_2 : (file : List ℕ) → Enough file (replicate 32768 0)
-unfolding traceNeeded
+unfolding trace_needed
 enough_2 file =
     let long = length-replicate {A = ℕ} 32768 0 in
     record {
       least = omega arith;
-      asked = λ d e. by-test (someEdition2 d.switches) (λ t. rw t (omega arith)) (λ f. rw f (omega arith));
+      asked = λ d e. by-test (some_edition2 d.switches) (λ t. rw t (omega arith)) (λ f. rw f (omega arith));
     }
 
 pub enough_1 : {file trace : List ℕ} {code count : ℕ} → CampusDone file (replicate 640 0) trace code count → (code ≡ 49 → ⊥)
@@ -121,8 +121,8 @@ enough_1 {file} done other =
     record {
       least = least;
       asked = λ d e.
-          by-test (leb (traceNeeded d) room) (λ t. leb-true (traceNeeded d) room t) (λ f.
-          absurd (other (rw (campus-needed file room least d e (leb-false (traceNeeded d) room f)) at done.coded)));
+          by-test (leb (trace_needed d) room) (λ t. leb-true (trace_needed d) room t) (λ f.
+          absurd (other (rw (campus-needed file room least d e (leb-false (trace_needed d) room f)) at done.coded)));
     }
 
 pub ruleset text_of_laws = (rules, printable_so, text_done, enough_2)

@@ -2,7 +2,7 @@
 use Rattle.std.specs.Prelude.{ℕ, zero, suc, ◌+◌, ◌*◌, ◌≤◌, ◌<◌, ◌≡◌, List, [], ◌∷◌, ◌++◌, length, get_or, take, drop, eqb}
 use Rattle.rules.specs.Octets.{if◌then◌else◌}
 use Rattle.octets.specs.Copy.{Wrote, fitting}
-use Rattle.rules.specs.Text.{ascii, blank, lineFeed, hex2, decimal, printed}
+use Rattle.rules.specs.Text.{ascii, blank, line_feed, hex2, decimal, printed}
 
 -- `s`, of `most` octets or fewer, written at a place
 pub record PutAt (out out' : List ℕ) (at end most : ℕ) (s : List ℕ) : Type 0 where
@@ -17,7 +17,7 @@ abbrev pub head_of : List ℕ → List ℕ
 head_of e = hex2 (get_or e 0 0) ++ hex2 (get_or e 1 0) ++ (blank ∷ letter_of (get_or e 2 0) ∷ blank ∷ [])
 
 abbrev pub tail_of : List ℕ → List ℕ
-tail_of e = (blank ∷ []) ++ hex2 (get_or e 4 0) ++ (blank ∷ []) ++ hex2 (get_or e 6 0) ++ hex2 (get_or e 7 0) ++ (lineFeed ∷ [])
+tail_of e = (blank ∷ []) ++ hex2 (get_or e 4 0) ++ (blank ∷ []) ++ hex2 (get_or e 6 0) ++ hex2 (get_or e 7 0) ++ (line_feed ∷ [])
 
 unfoldable pub line_of : List ℕ → List ℕ
 line_of e = head_of e ++ decimal (get_or e 3 0) ++ tail_of e
@@ -30,8 +30,8 @@ lines_of (suc count) trace = line_of trace ++ lines_of count (drop 8 trace)
 unfoldable pub text_of : ℕ → ℕ → List ℕ → List ℕ
 text_of code count trace =
     if eqb code 0
-    then lines_of count trace ++ (ascii "handled " ++ decimal count ++ (lineFeed ∷ []))
-    else (ascii "refused " ++ decimal code ++ (lineFeed ∷ []))
+    then lines_of count trace ++ (ascii "handled " ++ decimal count ++ (line_feed ∷ []))
+    else (ascii "refused " ++ decimal code ++ (line_feed ∷ []))
 
 -- an outcome that can be printed
 pub record Printable (code count : ℕ) (trace : List ℕ) : Type 0 where

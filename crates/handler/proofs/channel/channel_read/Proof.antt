@@ -1,4 +1,4 @@
--- Its contract, by one law of `channelRead` for each way out.
+-- Its contract, by one law of `channel_read` for each way out.
 use Rattle.handler.proofs
 use proofs.ChannelLaws.{channel_read_laws as laws}
 use proofs.channel.channel_read as fn

@@ -1,4 +1,4 @@
--- Its contract, by one law of `headerRefusal` for each way out.
+-- Its contract, by one law of `header_refusal` for each way out.
 use Rattle.handler.proofs
 use proofs.Refusals.{refusal_laws as laws}
 use proofs.header.header_refusal as fn

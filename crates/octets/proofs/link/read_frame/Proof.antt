@@ -1,4 +1,4 @@
--- Its contract, by one law of `readFrame` for each way out.
+-- Its contract, by one law of `read_frame` for each way out.
 use Rattle.octets.proofs
 use proofs.WordLaws.{read_laws as laws}
 use proofs.link.read_frame as fn

@@ -1,4 +1,4 @@
--- Its contract, by one law of `macGood` for each way out.
+-- Its contract, by one law of `mac_good` for each way out.
 use Rattle.octets.proofs
 use proofs.Macs.{mac_good_laws as laws}
 use proofs.values.mac_good as fn

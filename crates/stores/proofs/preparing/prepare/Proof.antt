@@ -1,4 +1,4 @@
--- Its contract, by one law of `settingsOf` for each way out.
+-- Its contract, by one law of `settings_of` for each way out.
 use Rattle.stores.proofs
 use proofs.PrepareLaws.{prepare_laws as laws}
 use proofs.preparing.prepare as fn
