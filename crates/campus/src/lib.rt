@@ -1,4 +1,7 @@
 // A campus of switches over one frame (document 01, "Campus description and run").
+
+#![tactic(auto)]
+
 mod reading;
 mod received;
 mod refusals;

@@ -1,4 +1,7 @@
 // The counters of one switch, lent to the handling call and updated where they are (T-07).
+
+#![tactic(auto)]
+
 ghost use Rattle.std.specs.Prelude.{◌≡◌, length, get_or, set, ◌+◌, ◌<◌};
 ghost use Rattle.rules.specs.Answer.{dropped};
 ghost use Rattle.handler.specs.Shapes.{answer_of};

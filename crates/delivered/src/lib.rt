@@ -1,4 +1,7 @@
 // The call for a delivered part (document 01).
+
+#![tactic(auto)]
+
 ghost use Rattle.std.specs.Prelude.{◌≡◌};
 ghost use Rattle.rules.specs.Handling.{part_of};
 

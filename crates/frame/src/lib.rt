@@ -1,4 +1,7 @@
 // The calls on settings octets, for C; as `prepared` has those on a store.
+
+#![tactic(auto)]
+
 ghost use Rattle.std.specs.Prelude.{length};
 ghost use Rattle.rules.specs.Handling.{handled};
 ghost use Rattle.rules.specs.WayOut.{way_out};

@@ -1,4 +1,7 @@
 // One received frame at one switch: the handling call (document 01), by settings octets and by a store, and the way out.
+
+#![tactic(auto)]
+
 mod answers;
 mod channel;
 mod extension;

@@ -1,5 +1,8 @@
 // Big-endian numbers in an octet string and out of one, copying into a lent buffer, and what settings, descriptions and frames are read
 // from. Total: a place past the end reads 0, and what does not fit is not written.
+
+#![tactic(auto)]
+
 mod link;
 mod values;
 

@@ -1,5 +1,8 @@
 // The calls on a prepared store, for C. They are a library of their own: in it each step of a handling has one caller, and the compiler
 // makes one function of them all.
+
+#![tactic(auto)]
+
 ghost use Rattle.std.specs.Prelude.{length};
 ghost use Rattle.stores.specs.Store.{handled_in, way_out_in};
 ghost use Rattle.handler.specs.Shapes.{WayDone};

@@ -1,5 +1,8 @@
 // A reader that is fed a frame in bursts, and then an end mark (T-04). It is words that the caller lends, beside a buffer in which the octets
 // gather. Any words are taken: what they mean is said in specs/.
+
+#![tactic(auto)]
+
 ghost use Rattle.std.specs.Prelude.{◌≡◌, ◌∷◌, length, take, drop, ◌≤◌};
 ghost use Rattle.rules.specs.Answer.{dropped as droppedOf};
 ghost use Rattle.handler.specs.Shapes.{answer_of};

@@ -173,7 +173,7 @@ laid_walk {floor} (one {o = o} {os = os} k s small n above l) p (suc fuel) h =
     let cut_out : part area at (next - at) ≡ o.octets =
     rw (drop-append_seam p behind) (take_at o.octets (octets_of os) (next - at) (omega arith)) in
     options_on fuel area floor at o.key o.size next (omega arith) taken
-    ∙ rw (cut_out, ← append_assoc p o.octets (octets_of os), ← length-append p o.octets, laid_walk l (p ++ o.octets) fuel (omega arith))
+    ∙ rw (cut_out, ← append_assoc p o.octets (octets_of os), ← length-append p o.octets, laid_walk {floor = o.key + 1} l (p ++ o.octets) fuel (omega arith))
 
 -- each option takes a whole number of words, one or more
 pub laid_words : {floor : ℕ} {os : List TlvOption} → Laid floor os → (length os * 4 ≤ length (octets_of os)) × (length (octets_of os) % 4 ≡ 0)

@@ -1,5 +1,7 @@
 // The shapes that the definitions in specs/ and the code above share, and the numbers of the documents by name. There is no code here.
 
+#![tactic(auto)]
+
 // RFC 6325 and RFC 7178: Ethertypes, an address and nicknames.
 pub const ETHERTYPE_TAG: u16 = 0x8100;
 

@@ -1,4 +1,7 @@
 // The run of a campus, for C.
+
+#![tactic(auto)]
+
 ghost use Rattle.campus.specs.Done.{CampusDone};
 
 use campus::Outcome;

@@ -1,4 +1,7 @@
 // Prints the run of the description on standard input (document 01, "Campus description and run").
+
+#![tactic(auto)]
+
 ghost use Rattle.std.specs.Prelude.{◌≤◌, length};
 ghost use Rattle.text.specs.Print.{TextWhole};
 

@@ -1,4 +1,7 @@
 // A switch's settings as a prepared store, once for all frames: from settings octets, or field by field.
+
+#![tactic(auto)]
+
 mod preparing;
 
 ghost use Rattle.stores.specs.Store.{Prepared};

@@ -1,4 +1,7 @@
 // What is printed of a campus run (document 01, "Campus description and run").
+
+#![tactic(auto)]
+
 mod printing;
 
 ghost use Rattle.std.specs.Prelude.{◌+◌, ◌*◌, ◌≤◌, length};
