@@ -7,7 +7,7 @@ mod link;
 mod values;
 
 ghost use Rattle.std.specs.Prelude.{◌≡◌, ◌++◌, ◌*◌, ◌+◌, ◌/◌, ◌%◌, ◌≤◌, length};
-ghost use Rattle.rules.specs.Octets.{octet as octetOf, be16 as be16Of, be32 as be32Of, be48 as be48Of, octets16, octets48, put};
+ghost use Rattle.rules.specs.Octets.{octet as octet_of, be16 as be16Of, be32 as be32Of, be48 as be48Of, octets16, octets48, put};
 ghost use Rattle.rules.specs.Fields.{field_at};
 ghost use Rattle.octets.specs.Copy.{Wrote, fitting};
 ghost use Rattle.octets.specs.Words.{be64 as be64Of, octets64, low_first, le64 as le64Of, swapped};
@@ -24,7 +24,7 @@ fn pair(high: u8, low: u8) -> u16
 }
 
 pub fn octet(s: &[u8], at: usize) -> u8
-    ensures { result ≡ octetOf s.now at }
+    ensures { result ≡ octet_of s.now at }
 {
     if at < s.len() { s[at] } else { 0 }
 }

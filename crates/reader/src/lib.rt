@@ -4,7 +4,7 @@
 #![tactic(auto)]
 
 ghost use Rattle.std.specs.Prelude.{◌≡◌, ◌∷◌, length, take, drop, ◌≤◌};
-ghost use Rattle.rules.specs.Answer.{dropped as droppedOf};
+ghost use Rattle.rules.specs.Answer.{dropped as dropped_of};
 ghost use Rattle.handler.specs.Shapes.{answer_of};
 ghost use Rattle.stores.specs.Store.{Prepared};
 ghost use Rattle.handler.specs.Tasks.{Both};
@@ -104,7 +104,7 @@ pub extern "C" fn trill_reader_burst(reader: &mut [u64], gathered: &mut [u8], oc
 }
 
 fn dropped(number: u16) -> Answer
-    ensures { result ≡ answer_of (droppedOf number) }
+    ensures { result ≡ answer_of (dropped_of number) }
 {
     Answer {
         number: number,
