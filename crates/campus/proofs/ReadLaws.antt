@@ -29,7 +29,7 @@ use specs.Places.{order_by, counted_by, between, clock_at, entry_value, code_aft
 use specs.Stores.{known_in, end_of, span_of, Kept, Stores, PartOpens, PartExtends, so_far, OfSettings, Took, words_for, ReadDone}
 use specs.declared.reading.Reading.{Reading}
 use Rattle.campus.proofs
-use proofs.StoresLaws.{end_is, part_long, stores_opened, latest_ample, stores_extended, Known-is, span_none, span_more, span_most, stores_sound}
+use proofs.StoresLaws.{end_is, part_long, stores_opened, latest_ample, stores_extended, known_is, span_none, span_more, span_most, stores_sound}
 
 -- the number of switches, and the place of the clock
 module _ (n tag : ℕ) where
@@ -155,7 +155,7 @@ module _ (w starts : List ℕ) (n clock tag : ℕ) (v : List ℕ) where
           entry_code : (l : List Settings) (c : Option (List ℕ)) → Stores w starts l → length l ≡ n
               → (if not x then 48 else 0) ≡ field_refusal (so_far l c) (field tag v)
           unfolding field_refusal order_good value_good nickname_new room_good entry_known
-          entry_code l c s m = rw (e, rw e at its_good, serial_other l c v 5 (omega arith), ← Known-is w starts l s n m (be16 v 0), ← is)
+          entry_code l c s m = rw (e, rw e at its_good, serial_other l c v 5 (omega arith), ← known_is w starts l s n m (be16 v 0), ← is)
 
           pub took_48 : not x ≡ true → Took w starts n clock tag v 48 w starts
           took_48 y = not_taken 48 w (omega arith) refl (λ l c s m k. (rw y at (entry_code l c s m)))
@@ -194,7 +194,7 @@ module _ (w starts : List ℕ) (n clock : ℕ) (v : List ℕ) (k : Kept w starts
   open_code_is : (l : List Settings) (c : Option (List ℕ)) → Stores w starts l → length l ≡ n → field_refusal (so_far l c) (field 1 v) ≡ open_code
   unfolding field_refusal order_good value_good nickname_new room_good entry_known
   open_code_is l c s m =
-      rw (long, serial_other l c v 1 (omega arith), not-not (known (switch_named l (be16 v 0))), ← good_is, ← Known-is w starts l s n m (be16 v 0), ← is, m)
+      rw (long, serial_other l c v 1 (omega arith), not-not (known (switch_named l (be16 v 0))), ← good_is, ← known_is w starts l s n m (be16 v 0), ← is, m)
 
   open_refused : (given : ℕ) → 0 < given → given ≡ open_code → Took w starts n clock 1 v given w' starts
   open_refused given z e = not_taken w starts n clock 1 v given w' z (opened_long o k ends) (λ l c s m q. e ∙ sym (open_code_is l c s m))

@@ -20,7 +20,7 @@ const TRACE_MOST: usize = 32768;
 
 // What the caller is answered: 0 or the code that refuses, and the number of trace entries.
 #[repr(C)]
-#[derive(Drop)]
+#[derive(Clone, Copy)]
 pub struct Outcome {
     pub code: u32,
     pub count: u32,

@@ -10,7 +10,7 @@ use rules::FieldRead;
 const FILE_MOST: usize = 32768;
 
 // 0 with the number of switches, the place of the clock or 0, and the place of the entry field; or the code that refuses.
-#[derive(Drop)]
+#[derive(Clone, Copy)]
 pub struct Reading {
     pub code: u32,
     pub n: usize,

@@ -7,7 +7,7 @@ ghost use Rattle.campus.specs.Steps.{received_of, Readable, AnsweredBy};
 use rules::FrameRead;
 
 // Hop count and egress, zero for a frame unreadable as TRILL.
-#[derive(Drop)]
+#[derive(Clone, Copy)]
 pub struct HopEgress {
     pub hop: u8,
     pub egress: u16,

@@ -15,7 +15,7 @@ use crate::{received, switches};
 use handler::Answer;
 
 // What is handled next: at which switch, whether it is a reply, and how long it is; and the slots of the replies that wait, from head to tail.
-#[derive(Drop)]
+#[derive(Clone, Copy)]
 struct At {
     switch: usize,
     replied: bool,
@@ -24,7 +24,7 @@ struct At {
     tail: usize,
 }
 
-#[derive(Drop)]
+#[derive(Clone, Copy)]
 enum Onward {
     To(At),
     Ends,

@@ -5,7 +5,7 @@ ghost use Rattle.rules.specs.Campus.{some_edition2};
 ghost use Rattle.campus.specs.Stores.{switches_in, number_in, end_of, Started, Sound, Kept, PartOpens, PartExtends};
 
 // The number of a switch, or no such switch.
-#[derive(Drop)]
+#[derive(Clone, Copy)]
 pub enum Named {
     At(usize),
     Unknown,

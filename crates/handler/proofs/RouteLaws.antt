@@ -23,7 +23,7 @@ use rules.declared.FrameRead.TheVariants.{Trill, Unreadable}
 use rules.declared.Ruling.TheVariants.{Absent}
 use rules.declared.ChannelRead.TheVariants.{Fault, BadErr, ErrorHeard, BadEcho, EchoHeard, EchoRequest}
 use rules.declared.Alert.TheVariants.{NoAlert}
-use ruleLaws.HandlingLaws.{inner-short, inner-untagged, inner-any, inner-delivered, Inner-up, inner-channel, routed-faulty}
+use ruleLaws.HandlingLaws.{inner-short, inner-untagged, inner-any, inner-delivered, inner_up, inner-channel, routed-faulty}
 use ruleLaws.HandlingLaws.{routed-stopped, routed-egress, routed-transit, handling-unread, handling-refused, handling-routed, clock-bad, room-short}
 use ruleLaws.HandlingLaws.{beside-short, frame-long, frame-handled}
 use Rattle.octets.specs.Copy.{Wrote}
@@ -176,7 +176,7 @@ module _ (f : List ℕ) (h : Header) (inner : List ℕ) (held : inner ≡ inner_
 
       module _ (n : not all ≡ false) (word : ℕ) (w : word ≡ be16 inner 16) where
         pub egress_up : word ≡ 0x22F4 → Ready f h → (start size : ℕ) → start ≡ inner_start h → size ≡ length inner → Comes f h (Answered 52 start size)
-        egress_up e is start size i z = up 52 start size is i z (λ S clock. Inner-up S clock f h (rw held at a) (cc) (cc (not-false all n)) (cc))
+        egress_up e is start size i z = up 52 start size is i z (λ S clock. inner_up S clock f h (rw held at a) (cc) (cc (not-false all n)) (cc))
 
         pub egress_channel : (word ≡ 0x22F4 → ⊥) → Comes f h Message
         egress_channel e =

@@ -278,14 +278,14 @@ pub ruleset forward_in_laws = (rules, forwardable_ready, transit_replied)
 
 -- the reply to an alert: an error in place of 25, or an echo reply beside 50
 module _ (S : Ways) (clock f : List ℕ) (h : Header) where
-  abbrev Replied-so : Alert → Answer → Answer → List ℕ → List ℕ → List ℕ → List ℕ → Type 0
-  Replied-so alert a r out out1 beside beside1 =
+  abbrev RepliedSo : Alert → Answer → Answer → List ℕ → List ℕ → List ℕ → List ℕ → Type 0
+  RepliedSo alert a r out out1 beside beside1 =
       asks_back alert ≡ true → Answerable f h alert → (before : List ℕ) → Done (transit_quiet S f h alert) a before out
       → Both (transit_at S clock f h alert) r before out1 beside beside1
 
   module _ (a : Answer) (out beside : List ℕ) where
     fault_so : (alert : Alert) → a.number ≡ 25 → (r : Answer) (out1 : List ℕ) → Done (messaged S clock f h) r out out1
-        → Replied-so alert a r out out1 beside beside
+        → RepliedSo alert a r out out1 beside beside
     unfolding channelled alerted
     fault_so NoAlert e r out1 p asks x before = absurd (true≢false (sym asks))
     fault_so (AlertFault code) e r out1 p asks x before =
@@ -298,7 +298,7 @@ module _ (S : Ways) (clock f : List ℕ) (h : Header) where
         (λ n other more d. absurd (other (sym (numbered d) ∙ e)))
         (λ hop d. absurd (omega (arith, e, numbered d)))
 
-    none_so : (alert : Alert) → (a.number ≡ 25 → ⊥) → (a.number ≡ 50 → ⊥) → Replied-so alert a a out out beside beside
+    none_so : (alert : Alert) → (a.number ≡ 25 → ⊥) → (a.number ≡ 50 → ⊥) → RepliedSo alert a a out out beside beside
     none_so NoAlert k n asks x before = absurd (true≢false (sym asks))
     none_so (AlertFault code) k n asks x before =
         by_transit S clock f h (λ quiet over. Done quiet a before out → Both over a before out beside beside) (AlertFault code)
@@ -309,7 +309,7 @@ module _ (S : Ways) (clock f : List ℕ) (h : Header) where
         (λ m other more. both_of beside) (λ hop d. absurd (n (numbered d)))
 
     beside_so : (alert : Alert) → a.number ≡ 50 → (b : Answer) (beside1 : List ℕ) → Done (messaged S clock f h) b beside beside1
-        → Replied-so alert a (beside_by a b) out out beside beside1
+        → RepliedSo alert a (beside_by a b) out out beside beside1
     unfolding channelled
     beside_so NoAlert e b beside1 p asks x before = absurd (true≢false (sym asks))
     beside_so (AlertFault code) e b beside1 p asks x before =

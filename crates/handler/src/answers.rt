@@ -5,7 +5,7 @@ ghost use Rattle.handler.specs.Shapes.{dropped_by, unwritten_by, wrote_by, besid
 // What the driver is answered. `neighbour` is the one used for what was written, 0 where nothing was; `beside` is the length of a reply made
 // beside a forwarded frame, with its neighbour (document 02, T-09).
 #[repr(C)]
-#[derive(Drop)]
+#[derive(Clone, Copy)]
 pub struct Answer {
     pub number: u16,
     pub written: u16,
@@ -17,7 +17,7 @@ pub struct Answer {
 }
 
 // The number that drops a frame, or none.
-#[derive(Drop)]
+#[derive(Clone, Copy)]
 pub enum Refusal {
     Refused(u8),
     Passed,

@@ -17,7 +17,7 @@ use crate::{answers, channel, extension, forward, header, options, reply, way};
 use rules::{Alert, ChannelRead, FrameRead, Header, NextHop, Ruling};
 
 // A frame as received: the number that drops it, or a TRILL frame of which none of 10 to 18 is given.
-#[derive(Drop)]
+#[derive(Clone, Copy)]
 pub enum Received {
     Refused(u8),
     Trill(Header),
@@ -25,7 +25,7 @@ pub enum Received {
 
 // What a frame comes to that is not forwarded: an answer with nothing written, or a channel message to answer. Numbers, no `Answer`: beside
 // fields of 8 bits its fields of 16 would be kept in memory.
-#[derive(Drop)]
+#[derive(Clone, Copy)]
 pub enum Local {
     Dropped {
         number: u8,
@@ -40,7 +40,7 @@ pub enum Local {
 
 // What a transit frame with an area comes to: the number that drops it, with the place of an option at fault; or its alert, and how many octets are
 // sent of its area.
-#[derive(Drop)]
+#[derive(Clone, Copy)]
 pub enum Task {
     Stopped { number: u8, place: usize },
     Forward { alert: Alert, size: usize },

@@ -12,7 +12,7 @@ const LENGTH_RESERVED: u8 = 119;
 
 // How far an area is read: the next place, where what is kept ends, one more than the last key (0 before the first), and whether a critical
 // option of each kind was met. Wide numbers, as narrow ones would be packed anew at each option.
-#[derive(Drop)]
+#[derive(Clone, Copy)]
 pub struct Cursor {
     pub at: usize,
     pub to: usize,
@@ -31,7 +31,7 @@ pub const START: Cursor = Cursor {
 };
 
 // An area read to a place, or the answer number of the first fault and its place.
-#[derive(Drop)]
+#[derive(Clone, Copy)]
 pub enum AreaRead {
     Read(Cursor),
     Faulty { number: u8, place: usize },

@@ -119,7 +119,7 @@ fn admit(s: &[u8], from: usize, seen: &mut [u8], n: usize, size: usize, r: Recor
 }
 
 // What the flags among the fields say.
-#[derive(Drop)]
+#[derive(Clone, Copy)]
 pub struct Flags {
     pub strip: bool,
     pub rfc7179: bool,
@@ -143,7 +143,7 @@ fn flagged(flags: Flags, tag: u8, v: &[u8]) -> Flags
 }
 
 // What one pass over the fields finds: whether they are good, and then the flags and the record that rules for a destination.
-#[derive(Drop)]
+#[derive(Clone, Copy)]
 pub struct Scan {
     pub good: bool,
     pub flags: Flags,
@@ -217,7 +217,7 @@ fn unless_withdrawn(best: Ruling) -> Ruling
 
 // Whether settings are good, and then their flags and the next hop for one destination. What we are ourselves is not handed through: it would
 // be copied, and a processor waits for what was stored in one width and is read in another.
-#[derive(Drop)]
+#[derive(Clone, Copy)]
 pub struct Validated {
     pub good: bool,
     pub strip: bool,

@@ -11,7 +11,7 @@ ghost use Rattle.handler.specs.Shapes.{link_size, ways_by, WayDone};
 use rules::{NextHop, Ruling};
 
 // Own nickname, and own MAC above 16 bits that say nothing: so a store has it, and so its octets are written, eight in one.
-#[derive(Drop)]
+#[derive(Clone, Copy)]
 pub struct Own {
     pub nickname: u16,
     pub word: u64,
@@ -28,7 +28,7 @@ pub fn copy_of(own: Own) -> Own
 }
 
 // With the strip flag, the edition, and the next hop for the one destination that is asked for.
-#[derive(Drop)]
+#[derive(Clone, Copy)]
 pub struct Lookup {
     pub own: Own,
     pub strip: bool,
@@ -81,7 +81,7 @@ pub fn return_path(t: Lookup, ingress: u16) -> Ruling
 
 // What a caller who asks for the way out is answered.
 #[repr(C)]
-#[derive(Drop)]
+#[derive(Clone, Copy)]
 pub struct WayOut {
     pub number: u32,
     pub length: u32,

@@ -63,7 +63,7 @@ pub fn hop_size(size: usize) -> bool
 
 // A next-hop record in two reads and the VLAN, 0 where there is none. In `head` the destination, the neighbour and the first four octets of the
 // MAC; in `tail` the last four and the serial.
-#[derive(Drop)]
+#[derive(Clone, Copy)]
 pub struct Record {
     pub head: u64,
     pub tail: u64,

@@ -42,7 +42,7 @@ module _ (mac : ℕ) (f : List ℕ) (h : Header) (own : Bool) (its_own : own ≡
             unfolding header_refusal
             refuse_16_zero e = simp (← its_own, ours, ← its_v, ← its_m, tests)
 
-            module _ (Some-out : h.egress ≡ 0 → ⊥) where
+            module _ (some_out : h.egress ≡ 0 → ⊥) where
               pub refuse_16 : 0xFFC0 < h.egress → 16 ≡ header_refusal mac f h
               unfolding header_refusal
               refuse_16 g = simp (← its_own, ours, ← its_v, ← its_m, tests)

@@ -30,7 +30,7 @@ pub const OUTPUT_LEAST: usize = 2048;
 pub const BESIDE_LEAST: usize = 576;
 
 // A next-hop record (document 01, "Settings"; document 02, T-01). A neighbour of 0 is a withdrawal, a VLAN of 0 none.
-#[derive(Drop)]
+#[derive(Clone, Copy)]
 pub struct NextHop {
     pub destination: u16,
     pub neighbour: u16,
@@ -40,21 +40,21 @@ pub struct NextHop {
 }
 
 // The record that rules for a destination, or none.
-#[derive(Drop)]
+#[derive(Clone, Copy)]
 pub enum Ruling {
     Found(NextHop),
     Absent,
 }
 
 // A field of settings or of a description: its value starts three octets after its place.
-#[derive(Drop)]
+#[derive(Clone, Copy)]
 pub enum FieldRead {
     Taken { tag: u8, length: usize, next: usize },
     Cut,
 }
 
 // A TRILL header (RFC 6325, 3): where it starts, its first 16 bits, and the two nicknames.
-#[derive(Drop)]
+#[derive(Clone, Copy)]
 pub struct Header {
     pub place: usize,
     pub word: u16,
@@ -63,14 +63,14 @@ pub struct Header {
 }
 
 // A frame readable as TRILL, or the answer number of one that is not.
-#[derive(Drop)]
+#[derive(Clone, Copy)]
 pub enum FrameRead {
     Trill(Header),
     Unreadable(u8),
 }
 
 // What a channel message is found to be (RFC 7178, 3.2; document 01, "Channel messages").
-#[derive(Drop)]
+#[derive(Clone, Copy)]
 pub enum ChannelRead {
     Fault { code: u8 },
     BadErr,
@@ -82,7 +82,7 @@ pub enum ChannelRead {
 
 // What a transit switch of edition 2 does with a channel message that an alert flag shows it (document 02, T-09): nothing but forward it;
 // an error reply, or 26, in its place; or an echo reply beside it.
-#[derive(Drop)]
+#[derive(Clone, Copy)]
 pub enum Alert {
     NoAlert,
     AlertFault { code: u8 },

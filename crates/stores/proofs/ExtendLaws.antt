@@ -22,7 +22,7 @@ use specs.Extend.{with_switch, room_in, record_code, flag_code, met_by, extendin
 use Rattle.octets.specs.Flags.{flag_tag, flag_value, flag_by}
 use Rattle.octets.proofs.{FlagLaws.flag_continues, Cases.coded}
 use Rattle.stores.proofs
-use proofs.InsertLaws.{Fitting, fitting, inserted_so, met_is, stands_more, Stands-same}
+use proofs.InsertLaws.{Fitting, fitting, inserted_so, met_is, stands_more, stands_same}
 use proofs.LookupLaws.{serves}
 use Rattle.rules.specs.Settings as S
 
@@ -106,7 +106,7 @@ module _ {w : List ℕ} {r : NextHop} (ok : Admitted w r) where
   record_stands fits T s =
       let more = stands_more w r ok.few ok.room fits s.records ok.new in
       same_first (with_record w r) s (λ j h. other j (omega arith) ∙ shifted.before j (omega arith))
-      (rw record_counts (Stands-same u (with_record w r) more (λ j a b. other j (omega arith))))
+      (rw record_counts (stands_same u (with_record w r) more (λ j a b. other j (omega arith))))
 
 -- the word of the flags set anew
 module _ (w : List ℕ) (long : 4 ≤ length w) (T : Settings) (s : Stands w T) where
@@ -119,7 +119,7 @@ module _ (w : List ℕ) (long : 4 ≤ length w) (T : Settings) (s : Stands w T) 
         mac = rw (unmoved 1 (omega arith)) s.mac;
         strip = rw word a;
         rfc7179 = rw word b;
-        records = rw (unmoved 3 (omega arith)) (Stands-same w (set w 2 x) s.records (λ j p q. unmoved j (omega arith)));
+        records = rw (unmoved 3 (omega arith)) (stands_same w (set w 2 x) s.records (λ j p q. unmoved j (omega arith)));
       }
     where
       unmoved : (j : ℕ) → (j ≡ 2 → ⊥) → get_or (set w 2 x) j 0 ≡ get_or w j 0
@@ -261,4 +261,4 @@ module _ (w : List ℕ) (T : Settings) (s : Stands w T) where
 -- and words that agree with them as far as the records go
 pub stands_too : (w u : List ℕ) (T : Settings) → ((j : ℕ) → j < 4 + 2 * count_in w → get_or u j 0 ≡ get_or w j 0) → Stands w T → Stands u T
 stands_too w u T same s =
-    same_first u s (λ j h. same j (omega arith)) (rw (same 3 (omega arith)) (Stands-same w u s.records (λ j a b. same j b)))
+    same_first u s (λ j h. same j (omega arith)) (rw (same 3 (omega arith)) (stands_same w u s.records (λ j a b. same j b)))

@@ -9,7 +9,7 @@ ghost use Rattle.text.specs.Print.{text_of, Printable, Written, TextDone};
 
 // What is written, 0 where the text does not fit, and how long the text is.
 #[repr(C)]
-#[derive(Drop)]
+#[derive(Clone, Copy)]
 pub struct Printed {
     pub written: u32,
     pub needed: u32,

@@ -1,8 +1,0 @@
--- Its contract, by whether the hint is taken.
-use Rattle.handler.proofs
-use proofs.StoreLaws.{index_in_laws as laws}
-use proofs.store.index_inlined as fn
-
-pub index-inlined-spec : {M : Type 1} → fn.Statement.statement M
-index-inlined-spec = fn.Tie.close (fn.Tie.spec
-    (λ c. search laws) (λ c _. search laws) (λ c _. search laws) (λ c. search laws) (λ c _. search laws) (λ c. search laws))

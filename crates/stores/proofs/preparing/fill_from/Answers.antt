@@ -1,0 +1,27 @@
+-- Its contract. The invariant: the words stand for what was read, and the fields from `at` on decide as all do.
+use Rattle.stores.proofs.PrepareLaws.{fill_from_laws as laws}
+use Rattle.stores.proofs.preparing.fill_from.Goals as goal
+
+pub returns-in_default : goal.returns-in_default
+returns-in_default c = search laws
+
+pub slice_bounds-extend-count : goal.slice_bounds-extend-count
+slice_bounds-extend-count c = search laws
+
+pub slice_bounds-extend-start : goal.slice_bounds-extend-start
+slice_bounds-extend-start c = search laws
+
+pub slice_bounds-extend-end : goal.slice_bounds-extend-end
+slice_bounds-extend-end c = search laws
+
+pub returns-then-extend-ne0 : goal.returns-then-extend-ne0
+returns-then-extend-ne0 c = search laws
+
+pub loop-at-smaller : goal.loop-at-smaller
+loop-at-smaller c = search laws
+
+pub loop-at-preserved : goal.loop-at-preserved
+loop-at-preserved c = search laws
+
+pub returns : goal.returns
+returns c = search laws
