@@ -251,12 +251,12 @@ module _ (rfc7179 : Bool) (f : List ℕ) (h : Header) (area : List ℕ) (held : 
         (λ t. rw t (to (critical_alert (flags_word area)) (not (stops_by rfc7179 true area)) (channel_read inner) refl)) (λ t. rw t Prim.tt)
       where
         to : (critical answered : Bool) (c : ChannelRead) → channel_read inner ≡ c → Answerable f h (alert_to critical answered c)
-        to critical answered (Fault code) q = elim critical [ true ↦ rw within at q | false ↦ Prim.tt ]
-        to critical answered BadErr q = elim critical [ true ↦ Prim.tt | false ↦ Prim.tt ]
+        to critical answered (Fault code) q = elim critical as (λ k. Answerable f h (alert_to k answered (Fault code))) [ true ↦ rw within at q | false ↦ Prim.tt ]
+        to critical answered BadErr q = elim critical as (λ k. Answerable f h (alert_to k answered BadErr)) [ true ↦ Prim.tt | false ↦ Prim.tt ]
         to critical answered ErrorHeard q = Prim.tt
         to critical answered BadEcho q = Prim.tt
         to critical answered EchoHeard q = Prim.tt
-        to critical answered EchoRequest q = elim answered [ true ↦ rw within at q | false ↦ Prim.tt ]
+        to critical answered EchoRequest q = elim answered as (λ k. Answerable f h (alert_to critical k EchoRequest)) [ true ↦ rw within at q | false ↦ Prim.tt ]
 
     pub route_transit : stops ≡ false → Ready f h → (inner : List ℕ) → inner ≡ inner_of f h → (alert : Alert) → alert ≡ alert_by rfc7179 area inner
         → RoutesRead rfc7179 size f h (Forward alert size)

@@ -134,8 +134,8 @@ module _ (s : List ℕ) {tag size next : ℕ} (e : field_at s 0 ≡ Taken tag si
   pub flags_read : (r : Flags) → FoldedFrom flagged_by no_flags s next r → r ≡ flags_of (settings_read s)
   flags_read r f = cc (read_on s e, fold_along flags_of flagged_by flags_with (switch_of (part s 3 (next - 3))) (fields_at s next))
 
-  pub rules : (d : ℕ) (b : Ruling) → FoldedFrom (ruled_by d) Absent s next b → ruling (settings_read s).hops d ≡ b
-  rules d b f =
+  pub as_folded : (d : ℕ) (b : Ruling) → FoldedFrom (ruled_by d) Absent s next b → ruling (settings_read s).hops d ≡ b
+  as_folded d b f =
       cc (
         read_on s e,
         fold_along (λ S. ruling S.hops d) (ruled_by d) (ruling_with d) (switch_of (part s 3 (next - 3))) (fields_at s next),
@@ -249,7 +249,7 @@ module _ (s : List ℕ) (d : ℕ) (read : FieldRead) (q : read ≡ field_at s 0)
           finds = λ g own o.
               let said = flags_read s (sym q ∙ t) scan.flags (y.flagged g) in
               finds (switch_at s) d own scan.flags.strip scan.flags.rfc7179 hop o (cc) (cc)
-              (cc (rules s (sym q ∙ t) d scan.best (y.ruled g), next_hop_lem (settings_read s) d));
+              (cc (as_folded s (sym q ∙ t) d scan.best (y.ruled g), next_hop_lem (settings_read s) d));
         }
 
 pub ruleset validate_laws = (rules, taken, taken_first, validated_cut, validated_shut, validated_scan)

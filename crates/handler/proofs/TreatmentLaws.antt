@@ -3,7 +3,7 @@ use Rattle.handler.proofs.Stages.{parts}
 use mathlib.Core.{Path.◌≡◌, Path.refl, Path.sym, Path.◌∙◌, List.List}
 use mathlib.Core.Bool.{Bool, true, false, not, ◌&&◌, ◌||◌, false≢true}
 use Prim.Native.Nat.{ℕ, ◌%◌, ◌<◌}
-use borrow.Author.{Needs.needs, Tests.eq-eqb, Tests.ne_eqb, Tests.not-true, Tests.not-false}
+use borrow.Author.{Rules.rules, Tests.eq-eqb, Tests.ne_eqb, Tests.not-true, Tests.not-false}
 use lib.Dec.{eqb}
 use Rattle.rules.specs.Options.{hop_by_hop_critical, ingress_to_egress_critical, implemented, strippable}
 use Rattle.rules.proofs.TestLaws.{and_no, and_yes, by_equal, every_below, each_below}
@@ -67,8 +67,8 @@ module _ (key size : ℕ) where
       pub other_goes : b ≡ false → {r : Bool} → r ≡ strip_applies entry → r ≡ (strip && stripped_by entry key size)
       other_goes e t = rw (not-false strip on, sym is ∙ e) t
 
-pub ruleset alone_laws = (needs, alone_discards)
+pub ruleset alone_laws = (rules, alone_discards)
 
-pub ruleset flow_id_laws = (needs, no_flow_id, flow_id)
+pub ruleset flow_id_laws = (rules, no_flow_id, flow_id)
 
-pub ruleset stripped_laws = (needs, none_goes, flow_stays, other_goes)
+pub ruleset stripped_laws = (rules, none_goes, flow_stays, other_goes)

@@ -2,8 +2,11 @@
 
 #![tactic(auto)]
 
-ghost use Rattle.std.specs.Prelude.{◌≤◌, length};
+ghost use Rattle.std.specs.Prelude.{◌≤◌, length, IfOk};
 ghost use Rattle.text.specs.Print.{TextWhole};
+
+use std::io;
+use std::io::{Read, Write};
 
 // What is printed of a description; the buffer is never too small for it.
 fn text_of(description: &[u8], text: &mut [u8]) -> usize
@@ -13,14 +16,26 @@ fn text_of(description: &[u8], text: &mut [u8]) -> usize
     text::campus_text(description, text).written as usize
 }
 
-fn main() {
+// How many octets were read: all that `buf` takes, or fewer where the input ends.
+fn read_full<R: Read>(input: &mut R, buf: &mut [u8]) -> io::Result<usize>
+    ensures { IfOk result (λ n. n ≤ length buf.new) }
+{
+    let mut done = 0;
+    while done < buf.len() {
+        let n = input.read(&mut buf[done..])?;
+        if n == 0 {
+            break;
+        }
+        done += n;
+    }
+    Ok(done)
+}
+
+fn main(rt: HostRuntime) -> io::Result<()> {
     // Twice what a description may have: of a longer one this much is read, and it is refused all the same.
-    let mut description = io::large_buffer();
-    let read = io::read_full(libc::STDIN_FILENO, &mut description);
+    let mut description = [0u8; 65536];
+    let read = read_full(&mut rt.stdin(), &mut description)?;
     let mut text = [0u8; 73741];
     let size = text_of(&description[..read], &mut text);
-    let done = io::write_all(libc::STDOUT_FILENO, &text[..size]);
-    if !done {
-        os::fail(b"standard output");
-    }
+    rt.stdout().write_all(&text[..size])
 }

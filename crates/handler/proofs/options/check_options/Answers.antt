@@ -1,0 +1,18 @@
+-- Its contract. The invariant: what was met so far, with what the walk finds from here on, is what it finds in all.
+use Rattle.handler.proofs.Walks.{check_options_laws as laws}
+use Rattle.handler.proofs.options.check_options.Goals as goal
+
+pub loop-c-init : goal.loop-c-init
+loop-c-init c = search laws
+
+pub returns-in_default : goal.returns-in_default
+returns-in_default c = search laws
+
+pub loop-c-smaller : goal.loop-c-smaller
+loop-c-smaller c = search laws
+
+pub loop-c-preserved : goal.loop-c-preserved
+loop-c-preserved c = search laws
+
+pub returns : goal.returns
+returns c = search laws

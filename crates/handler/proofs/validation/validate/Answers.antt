@@ -1,0 +1,24 @@
+-- Its contract, by one law for each way out.
+use Rattle.handler.proofs.ScanLaws.{validate_laws as laws}
+use Rattle.handler.proofs.validation.validate.Goals as goal
+
+pub returns-in_default : goal.returns-in_default
+returns-in_default c = search laws
+
+pub slice_bounds-opens-count : goal.slice_bounds-opens-count
+slice_bounds-opens-count c = search laws
+
+pub slice_bounds-opens-start : goal.slice_bounds-opens-start
+slice_bounds-opens-start c = search laws
+
+pub slice_bounds-opens-end : goal.slice_bounds-opens-end
+slice_bounds-opens-end c = search laws
+
+pub returns-then-not-opens : goal.returns-then-not-opens
+returns-then-not-opens c = search laws
+
+pub scan_from-r-requires : goal.scan_from-r-requires
+scan_from-r-requires c = search laws
+
+pub returns : goal.returns
+returns c = search laws
