@@ -1,8 +1,9 @@
 -- Its contract, by arithmetic.
+use Rattle.std.proofs.Common.{arith}
+use lib.Bits.{and_mask}
 use Rattle.handler.specs.Ranks.{mix_of}
-use borrow.Author.Rules.{rules}
 use Rattle.handler.proofs.validation.mix.Goals as goal
 
 pub returns : goal.returns
 unfolding mix_of
-returns c = search rules
+returns c = rw (and_mask c.args.rank 32)
