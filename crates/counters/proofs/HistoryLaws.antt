@@ -1,6 +1,6 @@
 -- The history theorem: from zero, the sum of the answer counters is the number of handlings, each counter that of its own answer, and the total
 -- their number. By induction over the calls, from any counters.
-use mathlib.Core.Path.{◌≡◌, refl, sym, ◌∙◌}
+use mathlib.Core.Path.{◌≡◌, refl, sym, ap, ◌∙◌}
 use mathlib.Core.List.{List, [], ◌∷◌}
 use mathlib.Core.Bool.{true≢false}
 use Prim.Native.Nat.{ℕ, zero, suc, ◌+◌, ◌<◌}
@@ -38,7 +38,10 @@ each_one_more : (l : List ℕ) (n : ℕ) → n < length l → (k : ℕ) (ns : Li
 unfolding occurrences
 each_one_more l n h k ns =
     by-test (eqb n k)
-    (λ t. rw (t, ← eqb-true n k t, get_or-set_same l n (get_or l n 0 + 1) 0 h) (omega arith))
+    (λ t.
+    let e = eqb-true n k t in
+    let same : occurrences n ns ≡ occurrences k ns = ap (λ (m : ℕ). occurrences m ns) e in
+    rw (t, ← e, get_or-set_same l n (get_or l n 0 + 1) 0 h) (omega (arith, same)))
     (λ t. rw (t, get_or-set_other l n k (get_or l n 0 + 1) 0 (λ e. eqb-false n k t (sym e))))
 
 -- counters d grown out of c by handlings

@@ -96,7 +96,6 @@ fn count(
     out: &mut [u8],
     beside: &mut [u8],
 ) -> Counted
-    requires { Words counts.old }
     ensures { CallDone
         (counted (made counts.old total)
         (call_of settings.now clock.now out.old beside.old frame.now))
