@@ -13,17 +13,17 @@ use borrow.Author.Tests.{ne_eqb, le-leb, leb-true}
 use lib.Dec.{eqb, leb}
 use lib.ListN.{length, take, drop, replicate, length-take, length-drop, length-replicate}
 use Rattle.rules.specs as rules
-use rules.{Octets.be16, Octets.part, Demand.replies_in, Demand.single_run}
+use rules.{Octets.if◌then◌else◌, Octets.be16, Octets.part, Demand.replies_in, Demand.single_run}
 use rules.Settings.{Settings, Ways, ways_of}
 use rules.Campus.{Described, switch_named, original, run_from, handlings_most, plain_run, clock_of, some_edition2, trace_needed, accepted, described, refusal}
-use rules.Campus.{campus, trace_after}
-use Rattle.rules.proofs as ruleLaws
-use ruleLaws.{TestLaws.by-test, OctetLaws.put-none, OctetLaws.put_front, RunLaws.named_nickname, RunLaws.few_replies, RunLaws.named_member, StepLaws.hop_most}
-use ruleLaws.DescriptionLaws.{Accepted, accepted-good}
-use ruleLaws.OutcomeLaws.{campus-short, campus-refused, campus-needed, campus-accepted}
-use ruleLaws.DemandLaws.{plain-run, plain-most, plain-room, demand}
-use ruleLaws.AlikeLaws.{Both, Same, run-alike}
-use ruleLaws.SingleLaws.{Draft, edition-1-all, single, one-reply}
+use rules.Campus.{campus, trace_after, trace_least}
+use Rattle.rules.proofs as rule_laws
+use rule_laws.{TestLaws.by-test, OctetLaws.put-none, OctetLaws.put_front, RunLaws.named_nickname, RunLaws.few_replies, RunLaws.named_member, StepLaws.hop_most}
+use rule_laws.DescriptionLaws.{Accepted, accepted-good}
+use rule_laws.OutcomeLaws.{campus-short, campus-refused, campus-needed, campus-accepted}
+use rule_laws.DemandLaws.{plain-run, plain-most, plain-room, demand}
+use rule_laws.AlikeLaws.{Both, Same, run-alike}
+use rule_laws.SingleLaws.{Draft, edition-1-all, single, one-reply}
 use Rattle.octets.specs.Copy.{Wrote, fitting}
 use Rattle.octets.proofs.Ends.{copied}
 use Rattle.campus.specs
@@ -253,7 +253,7 @@ module _ (file trace : List ℕ) where
         unfolding trace_needed
         needed_so =
             rw (is, edition_same w starts accepts.switches accepts.stores r.n accepts.count ∙ sym e)
-            (elim two [ true ↦ refl | false ↦ refl ])
+            (elim two as (λ (k : Bool). (if k then 32768 else trace_least) ≡ needed_by k) [ true ↦ refl | false ↦ refl ])
 
         pub done_needed : length trace < room → CampusDone file trace trace 49 0
         done_needed k = refusal_done 49 (campus-needed file (length trace) h its accepts.is (omega (arith, needed_so)))

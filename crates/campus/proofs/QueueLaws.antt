@@ -25,7 +25,7 @@ use specs.declared.switches.Named.TheVariants.{At, Unknown}
 use specs.declared.running.{At.At as Turn, Onward.Onward}
 use specs.declared.running.Onward.TheVariants.{To, Ends}
 use specs.{Stores.settings_at, Stores.switches_in, Stores.number_in, Stores.Sound, Steps.kind_by}
-use specs.Queue.{waiting_by, slot_octets, Free, Slot, Held, Queue, Waits, replies_by, WaitReady, sent_to, onward_by, NextReady, Leads, OnwardReady, Onwarded}
+use specs.Queue.{waiting_by, slot_octets, Free, Slot, Held, Queue, Waits, replies_by, WaitReady, sent_to, onward_by, NextReady, Onwards, Leads, OnwardReady, Onwarded}
 use Rattle.campus.proofs.StoresLaws.{lent, named_none, named_some}
 
 -- a part of a buffer written at a place: before it, and there
@@ -217,7 +217,13 @@ module _ {w starts : List ℕ} {n : ℕ} {waiting : List ℕ} {head tail : ℕ} 
   pub leads_over : (cur : List ℕ) → head ≡ tail → Leads w starts n waiting head tail cur Ends first_waiting
   unfolding first_waiting
   leads_over cur e =
-      record { leads = λ q. elim q [ [] ↦ λ h. tt | x ∷ l ↦ λ h. absurd (omega (arith, held_long w starts n waiting l (suc head) tail h.1)) ] }
+      record {
+        leads = λ q.
+            elim q as (λ (p : List Waiting). Held w starts n waiting p head tail → Onwards w starts n waiting cur tail Ends (first_waiting p)) [
+              | [] ↦ λ h. tt
+              | x ∷ l ↦ λ h. absurd (omega (arith, held_long w starts n waiting l (suc head) tail h.1))
+            ];
+      }
 
   module _ (some : head ≡ tail → ⊥) where
     first_slot : (q : List Waiting) → Held w starts n waiting q head tail → Free waiting head × (be16 (drop (head * 579) waiting) 1 ≤ 576)
@@ -261,9 +267,10 @@ module _ {w starts : List ℕ} {n : ℕ} {waiting : List ℕ} {head tail : ℕ} 
             let piece : length (take size (drop 3 slot)) ≡ size = sym (rw less at first_part) in
             let begins = copied_begins (rw less at c) (omega (arith, size_small)) in
             let one : head + 1 ≡ suc head = omega arith in
+            let onward : Onward = To (record { switch = i; replied = true; size = size; head = head + 1; tail = tail }) in
             record {
               leads = λ q.
-                  elim q [
+                  elim q as (λ (p : List Waiting). Held w starts n waiting p head tail → Onwards w starts n waiting cur' tail onward (first_waiting p)) [
                     | [] ↦ λ h. absurd (some h)
                     | x ∷ l ↦ λ h.
                         let its = slot_read (drop (head * 579) waiting) h.0.place x.frame h.0.short h.0.holds in

@@ -29,7 +29,7 @@ use specs.Places.{order_by, counted_by, between, clock_at, entry_value, code_aft
 use specs.Stores.{known_in, end_of, span_of, Kept, Stores, PartOpens, PartExtends, so_far, OfSettings, Took, words_for, ReadDone}
 use specs.declared.reading.Reading.{Reading}
 use Rattle.campus.proofs
-use proofs.StoresLaws.{end_is, part_long, stores_opened, latest_ample, stores_extended, known_is, span_none, span_more, span_most, stores_sound}
+use proofs.StoresLaws.{end_is, part_long, stores_along, stores_opened, latest_ample, stores_extended, known_is, span_none, span_more, span_most, stores_sound}
 
 -- the number of switches, and the place of the clock
 module _ (n tag : ℕ) where
@@ -223,7 +223,8 @@ module _ (w starts : List ℕ) (n clock : ℕ) (v : List ℕ) (k : Kept w starts
               checked = λ l c s m q. sym (open_code_is l c s m ∙ rw (t, y, lt-ltb n 16 (omega arith)));
               stored = λ l c s m z.
                   let span : end ≡ span_of l = ends ∙ ap (end_of w starts) (sym m) ∙ end_is w starts l s in
-                  rw (with_switch_lem, span, ← m) (stores_opened w starts v l s (omega arith) (omega arith) (rw (long, ← good_is) (not-false r t)));
+                  stores_along (switch_of v ∷ l) (with_switch_lem ∙ ap (λ (k : ℕ). take k w ++ with_switch (drop k w) v) span) (cc)
+                  (stores_opened w starts v l s (omega arith) (omega arith) (rw (long, ← good_is) (not-false r t)));
             }
 
 pub ruleset open_laws = (rules, open_44, open_45, open_46, open_taken, opened_long)
@@ -261,8 +262,8 @@ module _ (w starts : List ℕ) (n clock tag : ℕ) (v : List ℕ) (k : Kept w st
       latest_stored : r ≡ 0 → Stores w' starts (with_next (so_far (T ∷ l) c) (field tag v)).switches
       unfolding with_next
       latest_stored z =
-          rw (ne_eqb tag 1 of.no_switch, ne_eqb tag 4 of.no_clock, ne_eqb tag 5 of.no_entry, x.words, at_is)
-          (stores_extended w starts T l s room tag v (sym (rw at_is at x.code) ∙ z))
+          rw (ne_eqb tag 1 of.no_switch, ne_eqb tag 4 of.no_clock, ne_eqb tag 5 of.no_entry)
+          (stores_along (with_field T (field tag v) ∷ l) (rw at_is at x.words) refl (stores_extended w starts T l s room tag v (sym (rw at_is at x.code) ∙ z)))
 
     latest : (l : List Settings) (c : Option (List ℕ)) → Stores w starts l → length l ≡ n
         → (r ≡ field_refusal (so_far l c) (field tag v)) × (r ≡ 0 → Stores w' starts (with_next (so_far l c) (field tag v)).switches)

@@ -18,13 +18,13 @@ use rules.Campus.{hop_received, egress_received, kind_octet, entry_octets, Kind,
 use rules.Campus.{next_after, run_from, trace_octets}
 use rules.declared.{Header.Header, FrameRead.FrameRead}
 use rules.declared.FrameRead.TheVariants.{Trill, Unreadable}
-use Rattle.rules.proofs as ruleLaws
-use ruleLaws.{TestLaws.by-test, StepLaws.hop_read, StepLaws.egress_read, StepLaws.reply_short}
-use ruleLaws.HandledLaws.{final, How, ends, forwards, faults, echoes, how, Bounded, handling-bounded}
-use ruleLaws.HandlingLaws.{frame-handled, handling-unread, unread-number, length-forwarded}
-use ruleLaws.FrameLaws.{frame-read, length-tagged, length-plain, read-trill, read-other, link-length, link-written}
-use ruleLaws.OctetLaws.{length-put, put-put, put-none, take_put}
-use ruleLaws.RunLaws.{run_step, rest, no-replies, replies-on, length-trace}
+use Rattle.rules.proofs as rule_laws
+use rule_laws.{TestLaws.by-test, StepLaws.hop_read, StepLaws.egress_read, StepLaws.reply_short}
+use rule_laws.HandledLaws.{final, How, ends, forwards, faults, echoes, how, Bounded, handling-bounded}
+use rule_laws.HandlingLaws.{frame-handled, handling-unread, unread-number, length-forwarded}
+use rule_laws.FrameLaws.{frame-read, length-tagged, length-plain, read-trill, read-other, link-length, link-written}
+use rule_laws.OctetLaws.{length-put, put-put, put-none, take_put}
+use rule_laws.RunLaws.{run_step, rest, no-replies, replies-on, length-trace}
 use Rattle.octets.specs.Copy.{Wrote, fitting}
 use Rattle.octets.proofs.Ends.{copied}
 use Rattle.stores.specs.Store.{handled_in}

@@ -1,6 +1,6 @@
 -- The stores of a description's switches, one behind the other in a row of words: how the code looks through them, what one more store or field leaves,
 -- what they say, and what is found by nickname. By computation, and induction on the switches.
-use mathlib.Core.Path.{◌≡◌, refl, sym, ap, ◌∙◌, fun_ext}
+use mathlib.Core.Path.{◌≡◌, refl, sym, ap, subst, ◌∙◌, fun_ext}
 use mathlib.Core.List.{List, [], ◌++◌, append-nil, ◌∷◌}
 use mathlib.Core.Bool.{Bool, true, false, ◌||◌}
 use mathlib.Core.Option.{Option, none, some}
@@ -184,6 +184,11 @@ module _ (w : List ℕ) (a : ℕ) (x : List ℕ) (h : a ≤ length w) where
     },
     stores_front starts starts' l (omega (arith, span_more T l)) (λ i b. kept i (omega arith)) s.1,
   )
+
+-- equal words hold equal stores
+pub stores_along : {w w' starts starts' : List ℕ} (l : List Settings) → w' ≡ w → starts' ≡ starts → Stores w starts l → Stores w' starts' l
+stores_along {w} {w'} {starts} {starts'} l e f s =
+    subst (λ (u : List ℕ). Stores w' u l) (sym f) (subst (λ (u : List ℕ). Stores u starts l) (sym e) s)
 
 -- one more switch
 pub stores_opened : (w starts v : List ℕ) (l : List Settings) → Stores w starts l → span_of l + 4 ≤ length w → length l < length starts

@@ -11,8 +11,8 @@ use native.Mathlib.Omega.{arith}
 use native.Mathlib.Nat.{zero-add}
 use borrow.Author.Rules.{rules}
 use borrow.Author.Tests.{lt-leb, le-leb, not-true, not-false}
-use Rattle.rules.proofs as ruleLaws
-use ruleLaws.{TestLaws.by-test, TestLaws.apart, TestLaws.and_yes, TestLaws.and_no, OctetLaws.take_put, OptionLaws.area_number, FrameLaws.header_passed}
+use Rattle.rules.proofs as rule_laws
+use rule_laws.{TestLaws.by-test, TestLaws.apart, TestLaws.and_yes, TestLaws.and_no, OctetLaws.take_put, OptionLaws.area_number, FrameLaws.header_passed}
 use lib.Dec.{eqb}
 use lib.ListN.{length, length-drop}
 use rules.{Octets.be16, Octets.be32, Settings.Ways, Options.WellFormed, Options.draft_read, Channel.channel_read}
@@ -23,9 +23,9 @@ use rules.declared.FrameRead.TheVariants.{Trill, Unreadable}
 use rules.declared.Ruling.TheVariants.{Absent}
 use rules.declared.ChannelRead.TheVariants.{Fault, BadErr, ErrorHeard, BadEcho, EchoHeard, EchoRequest}
 use rules.declared.Alert.TheVariants.{NoAlert}
-use ruleLaws.HandlingLaws.{inner-short, inner-untagged, inner-any, inner-delivered, inner_up, inner-channel, routed-faulty}
-use ruleLaws.HandlingLaws.{routed-stopped, routed-egress, routed-transit, handling-unread, handling-refused, handling-routed, clock-bad, room-short}
-use ruleLaws.HandlingLaws.{beside-short, frame-long, frame-handled}
+use rule_laws.HandlingLaws.{inner-short, inner-untagged, inner-any, inner-delivered, inner_up, inner-channel, routed-faulty}
+use rule_laws.HandlingLaws.{routed-stopped, routed-egress, routed-transit, handling-unread, handling-refused, handling-routed, clock-bad, room-short}
+use rule_laws.HandlingLaws.{beside-short, frame-long, frame-handled}
 use Rattle.octets.specs.Copy.{Wrote}
 use Rattle.handler.specs
 use specs.declared.answers.Refusal.{Refusal}

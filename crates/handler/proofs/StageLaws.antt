@@ -17,10 +17,10 @@ use borrow.Author.Rules.{rules}
 use lib.ListN.{length, length-append, length-take, take, drop, length-drop}
 use rules.{Octets.octet, Settings.Ways, Link.link, Extension.area_sent}
 use rules.Channel.{error_body, echo_body, error_reply, echo_reply, reply_rest, reply_inner, body_of, return_path, silenced}
-use Rattle.rules.proofs as ruleLaws
-use ruleLaws.FrameLaws.{link-most, frame-read, link-length, length-link}
-use ruleLaws.{ReplyLaws.echo_body_length, OptionLaws.stripped_word}
-use ruleLaws.OctetLaws.{put-none, length_part}
+use Rattle.rules.proofs as rule_laws
+use rule_laws.FrameLaws.{link-most, frame-read, link-length, length-link}
+use rule_laws.{ReplyLaws.echo_body_length, OptionLaws.stripped_word}
+use rule_laws.OctetLaws.{put-none, length_part}
 use Rattle.handler.specs
 use specs.declared.way.{Own.Own, Lookup.Lookup}
 use specs.declared.answers.Answer.{Answer}
@@ -28,8 +28,8 @@ use specs.Shapes.{Owns, Sends, reply_octets, Replied, answer_of, wrote_by, link_
 use mathlib.Core.Bool.{Bool, true, false, not, ◌&&◌}
 use lib.Seq.{drop-drop}
 use rules.Handling.{forwarded, forwarded_rest, onward, faulted, echoed}
-use ruleLaws.TestLaws.{by-test}
-use ruleLaws.HandlingLaws.{onward-long, onward-sent, faulted-silent, faulted-none, faulted-over, echoed-mode, echoed-none, echoed-over}
+use rule_laws.TestLaws.{by-test}
+use rule_laws.HandlingLaws.{onward-long, onward-sent, faulted-silent, faulted-none, faulted-over, echoed-mode, echoed-none, echoed-over}
 use Rattle.rules.specs.Answer as A
 
 -- a frame that was read

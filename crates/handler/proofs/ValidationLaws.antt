@@ -16,18 +16,18 @@ use Rattle.rules.specs as rules
 use rules.{Octets.part, Campus.known}
 use rules.Fields.{hop_size, field, cut, field_at, fields_at, length_good}
 use rules.Settings.{hop_good, hop_of, Settings, serial_met, with_field, opens, opened, continues, settings_from, settings_of}
-use Rattle.rules.proofs as ruleLaws
-use ruleLaws.TestLaws.{and_no, or_no, or_yes, by-test, by_equal, by_order}
+use Rattle.rules.proofs as rule_laws
+use rule_laws.TestLaws.{and_no, or_no, or_yes, by-test, by_equal, by_order}
 use Rattle.octets.specs.Flags.{flag_by}
 use Rattle.octets.proofs.FlagLaws.{flag_continues}
 use Rattle.handler.specs
 use specs.Ranks.{rank_of, mix_of, slot_by, mark_by, marked_by, covers_by, rank_met, ranks_in, ranks_met, with_rank, ranks_with}
 use specs.Ranks.{Kept, hop_taken, field_taken, Taking, Verdict}
-use ruleLaws.FieldLaws.{field_read, fields-at-end, fields-at-cut, fields-at-on}
+use rule_laws.FieldLaws.{field_read, fields-at-end, fields-at-cut, fields-at-on}
 use rules.declared.{NextHop.NextHop, FieldRead.FieldRead}
 use rules.declared.FieldRead.TheVariants.{Taken, Cut}
-use ruleLaws.{SettingsLaws.from_on, SettingsLaws.from-bad, Taken.taken}
-use ruleLaws.FirstLaws.{continues-cut, first, settings-open}
+use rule_laws.{SettingsLaws.from_on, SettingsLaws.from-bad, Taken.taken}
+use rule_laws.FirstLaws.{continues-cut, first, settings-open}
 
 -- the ranks among the fields from a place on, by the field there
 module _ (s : List ℕ) (at : ℕ) where

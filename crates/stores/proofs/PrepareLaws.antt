@@ -21,11 +21,11 @@ use rules.Settings.{Settings, hop_good, with_field, continues, settings_from, se
 use rules.{Settings.hop_of, Settings.switch_good, Campus.known}
 use rules.declared.{FieldRead.FieldRead, NextHop.NextHop}
 use rules.declared.FieldRead.TheVariants.{Taken, Cut}
-use Rattle.rules.proofs as ruleLaws
-use ruleLaws.TestLaws.{by-test, and-true, tests}
-use ruleLaws.{OctetLaws.put_front, OctetLaws.length-put, HandlingLaws.settings_good, Taken.taken, Taken.taken_first}
-use ruleLaws.FieldLaws.{IsField, field_read, fields-at-end, fields-at-cut, fields-at-on}
-use ruleLaws.SettingsLaws.{from_on, from-bad, from-read}
+use Rattle.rules.proofs as rule_laws
+use rule_laws.TestLaws.{by-test, and-true, tests}
+use rule_laws.{OctetLaws.put_front, OctetLaws.length-put, HandlingLaws.settings_good, Taken.taken, Taken.taken_first}
+use rule_laws.FieldLaws.{IsField, field_read, fields-at-end, fields-at-cut, fields-at-on}
+use rule_laws.SettingsLaws.{from_on, from-bad, from-read}
 use Rattle.stores.specs
 use specs.Store.{count_in, handled_in, Stands, Roomy, Filled, Fills, Hinted, preparing, Prepared}
 use specs.Insert.{first_word, second_word, met_in, inserted_in}
@@ -33,7 +33,7 @@ use specs.Extend.{with_switch, opens_in, Opens, room_in, count_by, met_by, added
 use specs.Extend.{extended, with_record, Extends}
 use Rattle.octets.specs.{Flags.flag_tag, Flags.flag_value, Flags.flag_by, Records.record_of, Records.hop_by}
 use Rattle.octets.specs.declared.values.Record.{Record}
-use ruleLaws.FirstLaws.{continues-cut, opened-field, first, settings-open, settings-bad, settings-cut, switch-fold}
+use rule_laws.FirstLaws.{continues-cut, opened-field, first, settings-open, settings-bad, settings-cut, switch-fold}
 use Rattle.stores.proofs
 use proofs.InsertLaws.{inserted_long}
 use proofs.ExtendLaws.{Ample, record_long, extending_continues, extended_stands, extended_long, extended_few, switch_stands}
