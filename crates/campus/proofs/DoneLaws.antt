@@ -1,4 +1,5 @@
 -- From what was read to the run, and from the run to the outcome, by the laws of descriptions, runs and the demand.
+use Rattle.std.specs.Prelude.{if◌then◌else◌}
 use mathlib.Core.Path.{◌≡◌, refl, sym, ap, ◌∙◌}
 use mathlib.Core.List.Memᴰ
 use mathlib.Core.List.{List, [], ◌∷◌, append-nil, Memᴰ}
@@ -13,7 +14,7 @@ use borrow.Author.Tests.{ne_eqb, le-leb, leb-true}
 use lib.Dec.{eqb, leb}
 use lib.ListN.{length, take, drop, replicate, length-take, length-drop, length-replicate}
 use Rattle.rules.specs as rules
-use rules.{Octets.if◌then◌else◌, Octets.be16, Octets.part, Demand.replies_in, Demand.single_run}
+use rules.{Octets.be16, Octets.part, Demand.replies_in, Demand.single_run}
 use rules.Settings.{Settings, Ways, ways_of}
 use rules.Campus.{Described, switch_named, original, run_from, handlings_most, plain_run, clock_of, some_edition2, trace_needed, accepted, described, refusal}
 use rules.Campus.{campus, trace_after, trace_least}

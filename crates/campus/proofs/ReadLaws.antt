@@ -1,5 +1,6 @@
 -- Reading a description. One field more, checked and taken into the stores: by the tests of `field_refusal`, and the laws of stores. Then the loop: the words
 -- stand for the switches read so far, and the rest of the fields decides as the whole does. One law for each way out and each need.
+use Rattle.std.specs.Prelude.{if◌then◌else◌}
 use mathlib.Core.Path.{◌≡◌, refl, sym, ap, ◌∙◌}
 use mathlib.Core.List.{List, [], ◌∷◌, ◌++◌}
 use mathlib.Core.Bool.{Bool, true, false, not, ◌||◌, false≢true, not-not}
@@ -11,7 +12,7 @@ use borrow.Author.Tests.{ne_eqb, eqb-true, eqb-false, lt-ltb, le-leb, not-true, 
 use lib.Dec.{eqb, ltb, leb}
 use lib.ListN.{length, get_or, set, take, drop, length-set, length-drop, length-append}
 use Rattle.rules.specs as rules
-use rules.Octets.{if◌then◌else◌, be16, part}
+use rules.Octets.{be16, part}
 use rules.Fields.{field, length_good, Field, cut, field_at, fields_from, fields}
 use rules.Settings.{Settings, switch_of, opens, switch_good, hop_of, serial_met, with_field}
 use rules.Campus.{switch_named, known, order_good, value_good, nickname_new, room_good, serial_new, entry_known, field_refusal, with_next, Described, on_latest}

@@ -1,7 +1,7 @@
 -- A description as the code holds it: its switches, and the places where its clock and its entry field start.
-use Rattle.std.specs.Prelude.{ℕ, ◌+◌, ◌-◌, List, [], ◌∷◌, Bool, true, not, ◌&&◌, ◌||◌, length, drop, leb, eqb}
+use Rattle.std.specs.Prelude.{ℕ, ◌+◌, ◌-◌, List, [], ◌∷◌, Bool, true, not, ◌&&◌, ◌||◌, length, drop, leb, eqb, if◌then◌else◌}
 use Rattle.std.proofs.Math.Option.{Option, none, some}
-use Rattle.rules.specs.Octets.{if◌then◌else◌, be16, part}
+use Rattle.rules.specs.Octets.{be16, part}
 use Rattle.rules.specs.Fields.{field_at, length_good}
 use Rattle.rules.specs.Settings.{Settings}
 use Rattle.rules.specs.Campus.{Described, switch_named}

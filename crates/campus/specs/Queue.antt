@@ -1,7 +1,7 @@
 -- The replies that wait, as the code holds them: slots of 579 octets from a head to a tail, none used twice.
-use Rattle.std.specs.Prelude.{ℕ, suc, ◌+◌, ◌*◌, ◌/◌, ◌%◌, ◌≤◌, ◌<◌, ◌≡◌, List, [], ◌∷◌, ◌++◌, true, false, ◌&&◌, eqb, length, take, drop}
+use Rattle.std.specs.Prelude.{ℕ, suc, ◌+◌, ◌*◌, ◌/◌, ◌%◌, ◌≤◌, ◌<◌, ◌≡◌, List, [], ◌∷◌, ◌++◌, true, false, ◌&&◌, eqb, length, take, drop, if◌then◌else◌}
 use Rattle.std.proofs.Math.Option.{some}
-use Rattle.rules.specs.Octets.{if◌then◌else◌, put}
+use Rattle.rules.specs.Octets.{put}
 use Rattle.rules.specs.Settings.{Settings}
 use Rattle.rules.specs.Campus.{switch_named, Kind, Waiting, writes_reply, replies_made, in_campus, staying, Next, over, next, first_waiting, next_after, entry_octets}
 use Rattle.rules.specs.Demand.{replies_in}

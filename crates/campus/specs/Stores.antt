@@ -1,7 +1,6 @@
 -- The switches as the code holds them: stores one behind the other in a row of words, and where each starts.
-use Rattle.std.specs.Prelude.{ℕ, zero, suc, ◌+◌, ◌*◌, ◌/◌, ◌%◌, ◌≤◌, ◌<◌, ◌≡◌, List, [], ◌∷◌, ◌++◌, Bool, true, false, not, length, get_or, take, drop, leb, eqb}
+use Rattle.std.specs.Prelude.{ℕ, zero, suc, ◌+◌, ◌*◌, ◌/◌, ◌%◌, ◌≤◌, ◌<◌, ◌≡◌, List, [], ◌∷◌, ◌++◌, Bool, true, false, not, length, get_or, take, drop, leb, eqb, if◌then◌else◌}
 use Rattle.std.proofs.Math.Option.{Option, none}
-use Rattle.rules.specs.Octets.{if◌then◌else◌}
 use Rattle.rules.specs.Fields.{field, length_good}
 use Rattle.rules.specs.Settings.{Settings, nickname_valid, ways_of}
 use Rattle.rules.specs.Campus.{Described, known, field_refusal, with_next, refused, accepted, described}

@@ -1,6 +1,5 @@
 -- T-07: "one counter for each answer number, 64 bits, and a total"; what one call answers, writes and counts.
-use Rattle.std.specs.Prelude.{ℕ, ◌+◌, ◌≤◌, ◌<◌, ◌≡◌, List, [], ◌∷◌, Bool, false, ◌||◌, length, get_or, set, eqb}
-use Rattle.rules.specs.Octets.{if◌then◌else◌}
+use Rattle.std.specs.Prelude.{ℕ, ◌+◌, ◌≤◌, ◌<◌, ◌≡◌, List, [], ◌∷◌, Bool, false, ◌||◌, length, get_or, set, eqb, if◌then◌else◌}
 use Rattle.rules.specs.Answer.{Handled, dropped}
 use Rattle.rules.specs.Handling.{handled}
 use Rattle.handler.specs.Tasks.{Both}

@@ -1,7 +1,6 @@
 -- T-07: "After any sequence of handlings from zero the sum of the answer counters equals the number of handlings in the history, each counter
 -- the number of its own answer, and so the total."
-use Rattle.std.specs.Prelude.{ℕ, suc, ◌+◌, ◌<◌, ◌≡◌, List, [], ◌∷◌, length, get_or, replicate, eqb}
-use Rattle.rules.specs.Octets.{if◌then◌else◌}
+use Rattle.std.specs.Prelude.{ℕ, suc, ◌+◌, ◌<◌, ◌≡◌, List, [], ◌∷◌, length, get_or, replicate, eqb, if◌then◌else◌}
 use Rattle.counters.specs.Counting.{Call, counted}
 use Rattle.counters.specs.declared.Counters.{Counters}
 

@@ -1,5 +1,6 @@
 -- A buffer written in stages: what fits is written, and writes to places side by side are one write. So a link header, a forwarded frame behind
 -- it (its header and the rest in one, or another area before the inner frame), and the two replies. By laws of parts and of `put`.
+use Rattle.std.specs.Prelude.{if◌then◌else◌}
 use Rattle.rules.specs as rules
 use rules.{Settings.Ways, Channel.echo_body, Channel.ethertype_channel, Channel.all_egress_rbridges}
 use rules.Link.{outer_tag, link, ethertype_tag, ethertype_trill}
@@ -7,7 +8,7 @@ use rules.Header.{op_length, inner_start, read_frame, area_of, inner_of}
 use Rattle.rules.proofs.{TestLaws.and_left, TestLaws.and_right, TestLaws.by-test}
 use borrow.Author.Tests.{eq-eqb, ne_eqb}
 use borrow.Author.Rules.{rules}
-use rules.Octets.{if◌then◌else◌, be16, octets16, octets48, octet, part, put}
+use rules.Octets.{be16, octets16, octets48, octet, part, put}
 use mathlib.Core.Path.{◌≡◌, ◌∙◌, refl, sym, ap}
 use mathlib.Core.List.{List, ◌++◌, append_assoc, [], ◌∷◌}
 use Prim.Native.Nat.{ℕ, ◌+◌, ◌-◌, ◌≤◌, ◌*◌, ◌/◌, ◌<◌, ◌%◌}

@@ -1,4 +1,5 @@
 -- One option by its ways out; a walk: what was met and written so far, with what is found from here on, is what is found in all; the area by its summary.
+use Rattle.std.specs.Prelude.{if◌then◌else◌}
 use mathlib.Core.Path.{◌≡◌, refl, sym, ap, ◌∙◌}
 use mathlib.Core.List.{List, [], ◌∷◌, ◌++◌, append_assoc, append-nil}
 use mathlib.Core.Bool.{Bool, true, false, not, ◌&&◌, ◌||◌}
@@ -9,7 +10,7 @@ use borrow.Author.Tests.{eqb-true, ne_eqb, not-true, not-false}
 use lib.ListN.{length, take, drop, get_or, replicate, take-append-drop, drop_of_length-le}
 use lib.Seq.{drop-cons, take_all, length-take-le}
 use Rattle.rules.specs as rules
-use rules.Octets.{if◌then◌else◌, be16, part, put}
+use rules.Octets.{be16, part, put}
 use rules.Options.{Taken, Fault, TlvOption, Options, options, fault, key_of, length_of, option_size, option_first, option_at, options_from, options_of}
 use rules.Options.{some_key, ie, hop_by_hop_critical, ingress_to_egress_critical, chbh, cite, summarized, draft_read, draft_stops}
 use rules.Options.{strippable, octets_of}

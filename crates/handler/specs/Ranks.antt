@@ -1,6 +1,5 @@
 -- The ranks of the records met so far, and the filter that stands for them: how settings are validated in one pass.
-use Rattle.std.specs.Prelude.{ℕ, ◌+◌, ◌*◌, ◌/◌, ◌%◌, ◌≡◌, List, [], ◌∷◌, ◌++◌, Bool, true, false, not, ◌&&◌, ◌||◌, length, get_or, take, ltb, eqb}
-use Rattle.rules.specs.Octets.{if◌then◌else◌}
+use Rattle.std.specs.Prelude.{ℕ, ◌+◌, ◌*◌, ◌/◌, ◌%◌, ◌≡◌, List, [], ◌∷◌, ◌++◌, Bool, true, false, not, ◌&&◌, ◌||◌, length, get_or, take, ltb, eqb, if◌then◌else◌}
 use Rattle.rules.specs.Fields.{Field, field, cut, fields_at, hop_size}
 use Rattle.rules.specs.Settings.{Settings, hop_good, hop_of, hops_most, settings_from, settings_of, settings_read, ways_of}
 use Rattle.rules.specs.Campus.{known}

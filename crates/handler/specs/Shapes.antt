@@ -1,7 +1,7 @@
 -- The rules' answers, settings and readings in the shapes that the code hands on.
-use Rattle.std.specs.Prelude.{ℕ, ◌+◌, ◌-◌, ◌/◌, ◌%◌, ◌≤◌, ◌<◌, ◌≡◌, Bool, false, not, ◌&&◌, ◌||◌, length, eqb}
+use Rattle.std.specs.Prelude.{ℕ, ◌+◌, ◌-◌, ◌/◌, ◌%◌, ◌≤◌, ◌<◌, ◌≡◌, Bool, false, not, ◌&&◌, ◌||◌, length, eqb, if◌then◌else◌}
 use mathlib.Core.List.{List, [], ◌++◌, foldl}
-use Rattle.rules.specs.Octets.{if◌then◌else◌, octet, be16, octets16, octets48, part, put}
+use Rattle.rules.specs.Octets.{octet, be16, octets16, octets48, part, put}
 use Rattle.rules.specs.Fields.{Field, field, cut, fields_at}
 use Rattle.rules.specs.Settings.{Ways, newer, hop_of}
 use Rattle.rules.specs.Link.{ethertype_tag}

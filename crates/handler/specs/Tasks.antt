@@ -1,6 +1,6 @@
 -- What is left of a handling once a frame is received, and once its area is read: an answer, or what a next hop is asked for.
-use Rattle.std.specs.Prelude.{ℕ, ◌≤◌, ◌≡◌, List, [], Bool, true, false, not, ◌&&◌, ◌||◌, length, take}
-use Rattle.rules.specs.Octets.{if◌then◌else◌, put}
+use Rattle.std.specs.Prelude.{ℕ, ◌≤◌, ◌≡◌, List, [], Bool, true, false, not, ◌&&◌, ◌||◌, length, take, if◌then◌else◌}
+use Rattle.rules.specs.Octets.{put}
 use Rattle.rules.specs.Settings.{Ways}
 use Rattle.rules.specs.Header.{area_of, inner_of, we_are_egress}
 use Rattle.rules.specs.Options as O

@@ -1,6 +1,6 @@
 // The options area (source document 001): one option, and the walk over all, which puts aside what is sent of the area.
-ghost use Rattle.std.specs.Prelude.{◌≡◌, true, false, ◌||◌, ◌&&◌, not, ◌+◌, ◌%◌, ◌<◌, ◌≤◌, length};
-ghost use Rattle.rules.specs.Octets.{if◌then◌else◌, put};
+ghost use Rattle.std.specs.Prelude.{◌≡◌, true, false, ◌||◌, ◌&&◌, not, ◌+◌, ◌%◌, ◌<◌, ◌≤◌, length, if◌then◌else◌};
+ghost use Rattle.rules.specs.Octets.{put};
 ghost use Rattle.rules.specs.Options as O;
 ghost use Rattle.handler.specs.Shapes.{AreaWords, CursorIn, WholeOption, cursor_by, read_by, area_read_of, summarized_by};
 ghost use Rattle.handler.specs.Shapes.{AreaWalked, OptionsChecked, AreaKept, AllKept};

@@ -1,6 +1,6 @@
 -- What a copy into a buffer writes.
-use Rattle.std.specs.Prelude.{ℕ, ◌+◌, ◌≡◌, List, [], length, leb}
-use Rattle.rules.specs.Octets.{if◌then◌else◌, put}
+use Rattle.std.specs.Prelude.{ℕ, ◌+◌, ◌≡◌, List, [], length, leb, if◌then◌else◌}
+use Rattle.rules.specs.Octets.{put}
 
 -- octets written from a place to where they end, and nothing else
 pub record Wrote (octets : List ℕ) (at end : ℕ) (out out' : List ℕ) : Type 0 where

@@ -1,6 +1,5 @@
 -- A strip flag or an edition among the fields of settings or of a description, and the code by which it is refused.
-use Rattle.std.specs.Prelude.{ℕ, List, Bool, not, ◌||◌, eqb, length}
-use Rattle.rules.specs.Octets.{if◌then◌else◌}
+use Rattle.std.specs.Prelude.{ℕ, List, Bool, not, ◌||◌, eqb, length, if◌then◌else◌}
 use Rattle.rules.specs.Settings.{strip_good, edition_good}
 
 -- a strip flag or an edition, and whether its value is good

@@ -1,4 +1,5 @@
 -- One law for each way out of the reader's calls that the tests alone do not decide. By the tests in their order.
+use Rattle.std.specs.Prelude.{if◌then◌else◌}
 use mathlib.Core.Path.{◌≡◌, refl, sym, ap, ◌∙◌}
 use mathlib.Core.List.{List, [], ◌∷◌, ◌++◌, append-nil}
 use mathlib.Core.Bool.{Bool, true, false, not}
@@ -13,7 +14,7 @@ use lib.Dec.{ltb, eqb}
 use lib.ListN.{length, get_or, set, take, drop, length-drop}
 use borrow.Rule.Slice.PartMut.{put_mid, post_of, Post-is}
 use lib.Seq.{drop_at, drop-length, take_all, take-length, length-take-le, sets-eq}
-use Rattle.rules.specs.Octets.{if◌then◌else◌, be48, octets48, put}
+use Rattle.rules.specs.Octets.{be48, octets48, put}
 use Rattle.rules.specs.{Settings.Settings, Settings.settings_of, Answer.Handled, Answer.dropped}
 use Rattle.rules.proofs.{TestLaws.tests, OctetLaws.put-none}
 use Rattle.octets.specs.Copy.{Wrote, fitting}

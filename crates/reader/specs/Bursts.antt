@@ -1,7 +1,7 @@
 -- T-04: "a reader fed bursts and then an end mark". What the words of a reader mean, whatever they are, and what each call answers and leaves.
-use Rattle.std.specs.Prelude.{ℕ, ◌+◌, ◌%◌, ◌≤◌, ◌<◌, ◌≡◌, List, [], ◌∷◌, Bool, true, false, not, length, get_or, set, take, drop, ltb, eqb}
+use Rattle.std.specs.Prelude.{ℕ, ◌+◌, ◌%◌, ◌≤◌, ◌<◌, ◌≡◌, List, [], ◌∷◌, Bool, true, false, not, length, get_or, set, take, drop, ltb, eqb, if◌then◌else◌}
 use Rattle.std.proofs.Math.Option.{none, some}
-use Rattle.rules.specs.Octets.{if◌then◌else◌, be48, octets48, put}
+use Rattle.rules.specs.Octets.{be48, octets48, put}
 use Rattle.rules.specs.Answer.{Handled, dropped}
 use Rattle.rules.specs.Handling.{frame_most}
 use Rattle.rules.specs.Settings.{settings_of}

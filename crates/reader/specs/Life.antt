@@ -1,7 +1,6 @@
 -- T-04: "However the frame is cut, an empty burst among them, the answer and the written octets equal those of the whole-frame call." A reader's life:
 -- a start, bursts, a mark, and whatever comes after it; the caller leaves what it lent alone in between.
-use Rattle.std.specs.Prelude.{ℕ, ◌+◌, ◌≤◌, ◌≡◌, List, [], ◌∷◌, ◌++◌, not, length, replicate, ltb, eqb}
-use Rattle.rules.specs.Octets.{if◌then◌else◌}
+use Rattle.std.specs.Prelude.{ℕ, ◌+◌, ◌≤◌, ◌≡◌, List, [], ◌∷◌, ◌++◌, not, length, replicate, ltb, eqb, if◌then◌else◌}
 use Rattle.rules.specs.Answer.{Handled, dropped}
 use Rattle.rules.specs.Handling.{frame_most, handled, output_after, beside_after}
 use Rattle.reader.specs.Bursts.{reader_words, gathered_least, Started, saying, burst, Mark, marking, mark}

@@ -1,7 +1,7 @@
 -- "Campus description and run": what a description says or why it is refused, the plain run, its trace, and the whole call.
-use Rattle.std.specs.Prelude.{ℕ, zero, suc, List, [], ◌∷◌, ◌++◌, Bool, true, false, not, ◌&&◌, ◌||◌, length, drop, ltb, eqb}
+use Rattle.std.specs.Prelude.{ℕ, zero, suc, List, [], ◌∷◌, ◌++◌, Bool, true, false, not, ◌&&◌, ◌||◌, length, drop, ltb, eqb, if◌then◌else◌}
 use Rattle.std.proofs.Math.Option.{Option, none, some}
-use Rattle.rules.specs.Octets.{if◌then◌else◌, be16, octets16, put}
+use Rattle.rules.specs.Octets.{be16, octets16, put}
 use Rattle.rules.specs.Fields.{Field, field, cut, fields, length_good}
 use Rattle.rules.specs.Settings.{Settings, hop_good, switch_good, serial_met, switch_of, hop_of, strip_good, edition_good, hops_most, with_field, ways_of}
 use Rattle.rules.specs.Header.{hop_count, read_frame}

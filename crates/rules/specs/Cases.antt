@@ -1,8 +1,7 @@
 -- "Boundary frames": C1 to C12 as one table of cases, each with what the definitions compute and what the paper says; then cases of the requests.
 -- Cases that the paper gives in part are completed to whole frames, on both sides of each boundary.
-use Rattle.std.specs.Prelude.{ℕ, ◌+◌, ◌-◌, ◌*◌, List, [], ◌∷◌, ◌++◌, map, length, drop, replicate, leb}
+use Rattle.std.specs.Prelude.{ℕ, ◌+◌, ◌-◌, ◌*◌, List, [], ◌∷◌, ◌++◌, map, length, drop, replicate, leb, if◌then◌else◌}
 use Prim.Native.String.{String}
-use Rattle.rules.specs.Octets.{if◌then◌else◌}
 use Rattle.rules.specs.Fields.{field_at, fields_from, fields, length_good}
 use Rattle.rules.specs.Settings.{hop_good, newer, ruling, next_hop, serial_met, switch_good, with_field}
 use Rattle.rules.specs.Settings.{opens, continues, opened, settings_from, settings_of}

@@ -1,6 +1,6 @@
 -- "Channel messages" (RFC 7178; source document 004 for the echo body): what a message is found to be, and the two replies.
-use Rattle.std.specs.Prelude.{ℕ, ◌+◌, ◌-◌, ◌*◌, ◌/◌, ◌%◌, List, [], ◌∷◌, ◌++◌, Bool, not, ◌&&◌, ◌||◌, length, take, drop, ltb, eqb}
-use Rattle.rules.specs.Octets.{if◌then◌else◌, octet, be16, octets16, octets48, part}
+use Rattle.std.specs.Prelude.{ℕ, ◌+◌, ◌-◌, ◌*◌, ◌/◌, ◌%◌, List, [], ◌∷◌, ◌++◌, Bool, not, ◌&&◌, ◌||◌, length, take, drop, ltb, eqb, if◌then◌else◌}
+use Rattle.rules.specs.Octets.{octet, be16, octets16, octets48, part}
 use Rattle.rules.specs.Settings.{Ways}
 use Rattle.rules.specs.Link.{link, ethertype_tag}
 use Rattle.rules.specs.declared.NextHop.{NextHop}

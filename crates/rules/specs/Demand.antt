@@ -1,8 +1,7 @@
 -- Demand 3 of the minutes as one claim about a call that runs a campus, in their order and with their words.
-use Rattle.std.specs.Prelude.{◌≡◌, false, ℕ, zero, suc, ◌+◌, ◌*◌, ◌≤◌, min, length, drop, eqb}
+use Rattle.std.specs.Prelude.{◌≡◌, false, ℕ, zero, suc, ◌+◌, ◌*◌, ◌≤◌, min, length, drop, eqb, if◌then◌else◌}
 use mathlib.Core.List.{List, [], ◌∷◌, ◌++◌, Memᴰ}
 use Rattle.std.proofs.Math.Option.{Option, none, some}
-use Rattle.rules.specs.Octets.{if◌then◌else◌}
 use Rattle.rules.specs.Settings.{Settings, ways_of}
 use Rattle.rules.specs.Header.{hop_count, read_frame}
 use Rattle.rules.specs.Handling.{handling}

@@ -1,7 +1,7 @@
 -- T-09: "In edition 2 the first word is the extended flags word with its three critical summary bits and both channel alert flags"
 -- (RFC 7179, 2), and then an options area by the edition that the settings choose.
-use Rattle.std.specs.Prelude.{ℕ, ◌/◌, ◌%◌, List, Bool, not, ◌&&◌, ◌||◌, length, eqb}
-use Rattle.rules.specs.Octets.{if◌then◌else◌, be32}
+use Rattle.std.specs.Prelude.{ℕ, ◌/◌, ◌%◌, List, Bool, not, ◌&&◌, ◌||◌, length, eqb, if◌then◌else◌}
+use Rattle.rules.specs.Octets.{be32}
 use Rattle.rules.specs.Settings.{Ways}
 use Rattle.rules.specs.Options.{AreaRead, WellFormed, Faulty, draft_read, draft_stops, stripped}
 

@@ -1,6 +1,6 @@
 -- "Fields: one-byte tag, two-byte length, big-endian throughout." The layout that settings and descriptions share.
-use Rattle.std.specs.Prelude.{ℕ, zero, suc, ◌+◌, List, [], ◌∷◌, Bool, true, false, ◌&&◌, ◌||◌, length, ltb, leb, eqb}
-use Rattle.rules.specs.Octets.{if◌then◌else◌, octet, be16, part}
+use Rattle.std.specs.Prelude.{ℕ, zero, suc, ◌+◌, List, [], ◌∷◌, Bool, true, false, ◌&&◌, ◌||◌, length, ltb, leb, eqb, if◌then◌else◌}
+use Rattle.rules.specs.Octets.{octet, be16, part}
 use Rattle.rules.specs.declared.FieldRead.{FieldRead}
 use Rattle.rules.specs.declared.FieldRead.TheVariants.{Taken, Cut}
 

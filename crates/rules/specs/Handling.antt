@@ -1,7 +1,7 @@
 -- "Answers of one handling. .. Order is as listed." Then the whole call with its refusals, and the call for a delivered part.
-use Rattle.std.specs.Prelude.{ℕ, ◌+◌, ◌-◌, ◌/◌, ◌%◌, List, [], ◌++◌, Bool, true, not, ◌&&◌, ◌||◌, length, ltb, leb, eqb}
+use Rattle.std.specs.Prelude.{ℕ, ◌+◌, ◌-◌, ◌/◌, ◌%◌, List, [], ◌++◌, Bool, true, not, ◌&&◌, ◌||◌, length, ltb, leb, eqb, if◌then◌else◌}
 use Rattle.std.proofs.Math.Option.{none, some}
-use Rattle.rules.specs.Octets.{if◌then◌else◌, be16, be48, octets16, part, put}
+use Rattle.rules.specs.Octets.{be16, be48, octets16, part, put}
 use Rattle.rules.specs.Settings.{Ways, ways_of, settings_of}
 use Rattle.rules.specs.Link.{link, ethertype_tag}
 use Rattle.rules.specs.Header.{version, reserved, multi, hop_count, header_word, any_rbridge, read_frame}

@@ -1,7 +1,7 @@
 -- "TRILL header, 6 octets: the first 16 bits split into V 2, R 2, M 1, Op-Length 5, Hop Count 6, high bits first;
 -- then egress nickname, ingress nickname." With the answers that the headers decide, in their order.
-use Rattle.std.specs.Prelude.{ℕ, ◌+◌, ◌*◌, ◌/◌, ◌%◌, List, Bool, not, ◌||◌, length, drop, ltb, leb, eqb}
-use Rattle.rules.specs.Octets.{if◌then◌else◌, be16, be48, part}
+use Rattle.std.specs.Prelude.{ℕ, ◌+◌, ◌*◌, ◌/◌, ◌%◌, List, Bool, not, ◌||◌, length, drop, ltb, leb, eqb, if◌then◌else◌}
+use Rattle.rules.specs.Octets.{be16, be48, part}
 use Rattle.rules.specs.Link.{link_length, link_ethertype, ethertype_trill}
 use Rattle.rules.specs.declared.Header.{Header}
 use Rattle.rules.specs.declared.FrameRead.{FrameRead}

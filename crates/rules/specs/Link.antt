@@ -1,6 +1,6 @@
 -- "Link header: DA 6, SA 6, optional tag 0x8100 with two octets, Ethertype 0x22F3. So 14 or 18 octets."
-use Rattle.std.specs.Prelude.{ℕ, ◌-◌, List, [], ◌++◌, eqb}
-use Rattle.rules.specs.Octets.{if◌then◌else◌, be16, octets16, octets48}
+use Rattle.std.specs.Prelude.{ℕ, ◌-◌, List, [], ◌++◌, eqb, if◌then◌else◌}
+use Rattle.rules.specs.Octets.{be16, octets16, octets48}
 use Rattle.rules.specs.Settings.{Ways}
 use Rattle.rules.specs.declared.NextHop.{NextHop}
 

@@ -1,10 +1,6 @@
 -- Octet strings: numbers in them, big-endian throughout, a part of one, and a buffer after something was written into it.
 use Rattle.std.specs.Prelude.{ℕ, ◌+◌, ◌*◌, ◌/◌, ◌%◌, List, [], ◌∷◌, ◌++◌, Bool, cond, length, get_or, take, drop}
 
-infix 1 if◌then◌else◌
-abbrev pub if◌then◌else◌ : {A : Type 0} → Bool → A → A → A
-if b then x else y = cond b x y
-
 -- a place past the end reads 0, and a number above 255, which no octet string has, by its low eight bits
 abbrev pub octet : List ℕ → ℕ → ℕ
 octet s at = get_or s at 0 % 256

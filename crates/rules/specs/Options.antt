@@ -1,6 +1,6 @@
 -- "Options area (source document 001)", edition 1: one option, all of them, well formed, and what is left of an area once stripped.
-use Rattle.std.specs.Prelude.{ℕ, zero, suc, ◌+◌, ◌-◌, ◌*◌, ◌/◌, ◌%◌, ◌<◌, ◌≤◌, ◌≡◌, List, [], ◌∷◌, ◌++◌, Bool, true, false, not, ◌&&◌, ◌||◌, length, take, drop, ltb, leb, eqb}
-use Rattle.rules.specs.Octets.{if◌then◌else◌, octet, be16, part}
+use Rattle.std.specs.Prelude.{ℕ, zero, suc, ◌+◌, ◌-◌, ◌*◌, ◌/◌, ◌%◌, ◌<◌, ◌≤◌, ◌≡◌, List, [], ◌∷◌, ◌++◌, Bool, true, false, not, ◌&&◌, ◌||◌, length, take, drop, ltb, leb, eqb, if◌then◌else◌}
+use Rattle.rules.specs.Octets.{octet, be16, part}
 
 -- "First word: bit 0 CHbH, bit 1 CItE, 30 bit options." An empty area has both summary bits 0.
 abbrev pub chbh : List ℕ → Bool

@@ -1,8 +1,8 @@
 -- "Settings": the settings of one switch, the record that rules for a destination, and the octets that the C driver gives.
-use Rattle.std.specs.Prelude.{ℕ, ◌/◌, ◌%◌, Bool, true, false, not, ◌&&◌, ◌||◌, length, ltb, leb, eqb}
+use Rattle.std.specs.Prelude.{ℕ, ◌/◌, ◌%◌, Bool, true, false, not, ◌&&◌, ◌||◌, length, ltb, leb, eqb, if◌then◌else◌}
 use mathlib.Core.List.{List, [], ◌∷◌, ◌++◌, foldl}
 use Rattle.std.proofs.Math.Option.{Option, none, some}
-use Rattle.rules.specs.Octets.{if◌then◌else◌, octet, be16, be32, be48}
+use Rattle.rules.specs.Octets.{octet, be16, be32, be48}
 use Rattle.rules.specs.Fields.{Field, field, cut, fields, length_good}
 use Rattle.rules.specs.declared.NextHop.{NextHop}
 use Rattle.rules.specs.declared.Ruling.{Ruling}

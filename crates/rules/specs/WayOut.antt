@@ -1,8 +1,7 @@
 -- T-11: "one call takes the destination and writes the link header of its ruling record, saying 0 and its length, or writes nothing and
 -- says 1 for bad settings, else 21 for no next hop, else 2 for a buffer too short for it".
-use Rattle.std.specs.Prelude.{ℕ, List, [], length, ltb}
+use Rattle.std.specs.Prelude.{ℕ, List, [], length, ltb, if◌then◌else◌}
 use Rattle.std.proofs.Math.Option.{none, some}
-use Rattle.rules.specs.Octets.{if◌then◌else◌}
 use Rattle.rules.specs.Settings.{Ways, ways_of, settings_of}
 use Rattle.rules.specs.Link.{link}
 use Rattle.rules.specs.declared.Ruling.TheVariants.{Found, Absent}

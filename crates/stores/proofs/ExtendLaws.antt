@@ -1,5 +1,6 @@
 -- A store opened and extended field by field stands for settings with these fields, and refuses what does not go with them. By the laws of
 -- insertion, and word by word.
+use Rattle.std.specs.Prelude.{if◌then◌else◌}
 use Prim.Native.Nat.{ℕ, suc, ◌+◌, ◌*◌, ◌/◌, ◌%◌, ◌≤◌, ◌<◌}
 use mathlib.Core.Path.{◌≡◌, refl, ◌∙◌, fun_ext}
 use mathlib.Core.List.{List, [], ◌∷◌}
@@ -10,7 +11,7 @@ use lib.Dec.{ltb, leb, eqb}
 use lib.ListN.{length, get_or, set, length-set}
 use lib.Seq.{get_or-set_same, get_or-set_other}
 use Rattle.rules.specs as rules
-use rules.{Octets.if◌then◌else◌, Octets.octet, Octets.put, Link.ethertype_trill, Fields.field, Fields.length_good}
+use rules.{Octets.octet, Octets.put, Link.ethertype_trill, Fields.field, Fields.length_good}
 use rules.declared.NextHop.{NextHop}
 use rules.Settings.{Settings, hop_good, hop_of, serial_met, with_hop, with_field, continues, nickname_valid, ways_of}
 use Rattle.rules.proofs.TestLaws.{and-true, and_yes, by_order, by_equal, tests}

@@ -1,10 +1,10 @@
 -- What a search by halving comes to: an index at which the test holds, unless it is 0, and behind which it holds nowhere, if it holds nowhere behind
 -- one at which it fails. By what each step keeps.
+use Rattle.std.specs.Prelude.{if◌then◌else◌}
 use Prim.Native.Nat.{ℕ, ◌+◌, ◌*◌, ◌<◌, ◌≤◌}
 use mathlib.Core.Path.{◌≡◌}
 use mathlib.Core.Bool.{Bool, true, false}
 use native.Mathlib.Omega.{arith}
-use Rattle.rules.specs.Octets.{if◌then◌else◌}
 use Rattle.rules.proofs.TestLaws.{by-test}
 use Rattle.stores.specs.Halving.{halved, twice_halved, six_times}
 

@@ -1,5 +1,6 @@
 -- Settings octets into a store as the code does it: one law for each need of the loops, of one more field, and of the whole. By position, and by the
 -- laws of insertion, of fields and of settings for each step.
+use Rattle.std.specs.Prelude.{if◌then◌else◌}
 use Prim.Native.Nat.{ℕ, ◌+◌, ◌-◌, ◌*◌, ◌/◌, ◌%◌, ◌≤◌, ◌<◌}
 use mathlib.Core.Path.{◌≡◌, refl, sym, ap, ◌∙◌}
 use mathlib.Core.List.{List, [], ◌∷◌, ◌++◌}
@@ -15,7 +16,7 @@ use lib.Seq.{get_or-set_other, sets-eq, drop_at}
 use Rattle.octets.specs.Words.{be64}
 use Rattle.octets.proofs.{Hops.hop_same, WordLaws.first_part, WordLaws.rest_part}
 use Rattle.rules.specs as rules
-use rules.Octets.{if◌then◌else◌, put, octet, be16, be48, part}
+use rules.Octets.{put, octet, be16, be48, part}
 use rules.Fields.{Field, field, cut, field_at, fields_at, fields, hop_size, length_good}
 use rules.Settings.{Settings, hop_good, with_field, continues, settings_from, settings_of, opens, opened, switch_of, ways_of, nickname_valid, mac_good}
 use rules.{Settings.hop_of, Settings.switch_good, Campus.known}

@@ -1,6 +1,6 @@
 -- A store made field by field, from any words: opened for a switch, and extended by a record, a strip flag or an edition.
-use Rattle.std.specs.Prelude.{ℕ, ◌+◌, ◌*◌, ◌/◌, ◌%◌, ◌≡◌, List, [], ◌∷◌, Bool, not, ◌&&◌, ltb, leb, eqb, length, get_or, set}
-use Rattle.rules.specs.Octets.{if◌then◌else◌, octet, put}
+use Rattle.std.specs.Prelude.{ℕ, ◌+◌, ◌*◌, ◌/◌, ◌%◌, ◌≡◌, List, [], ◌∷◌, Bool, not, ◌&&◌, ltb, leb, eqb, length, get_or, set, if◌then◌else◌}
+use Rattle.rules.specs.Octets.{octet, put}
 use Rattle.rules.specs.Fields.{field, length_good}
 use Rattle.rules.specs.Settings as S
 use Rattle.rules.specs.Link.{ethertype_trill}

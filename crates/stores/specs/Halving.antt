@@ -1,6 +1,5 @@
 -- A search by halving for the last index of 64 at which a test holds.
-use Rattle.std.specs.Prelude.{ℕ, ◌+◌, ◌*◌, Bool}
-use Rattle.rules.specs.Octets.{if◌then◌else◌}
+use Rattle.std.specs.Prelude.{ℕ, ◌+◌, ◌*◌, Bool, if◌then◌else◌}
 
 -- one step: half as far on, if the test holds there
 unfoldable pub halved : (ℕ → Bool) → ℕ → ℕ → ℕ

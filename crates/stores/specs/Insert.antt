@@ -1,6 +1,6 @@
 -- One more record among those of a store.
-use Rattle.std.specs.Prelude.{ℕ, suc, ◌+◌, ◌-◌, ◌*◌, ◌/◌, ◌%◌, ◌≤◌, ◌<◌, ◌≡◌, List, ◌∷◌, Bool, ◌&&◌, ltb, leb, eqb, length, get_or}
-use Rattle.rules.specs.Octets.{if◌then◌else◌, part, put}
+use Rattle.std.specs.Prelude.{ℕ, suc, ◌+◌, ◌-◌, ◌*◌, ◌/◌, ◌%◌, ◌≤◌, ◌<◌, ◌≡◌, List, ◌∷◌, Bool, ◌&&◌, ltb, leb, eqb, length, get_or, if◌then◌else◌}
+use Rattle.rules.specs.Octets.{part, put}
 use Rattle.rules.specs.declared.NextHop.{NextHop}
 use Rattle.stores.specs.Halving.{six_times}
 use Rattle.stores.specs.Store.{rank_at}

@@ -1,6 +1,5 @@
 -- The text as the code makes it, from an outcome and its trace's octets, number by number; and what the call on a description is promised to do.
-use Rattle.std.specs.Prelude.{ℕ, zero, suc, ◌+◌, ◌*◌, ◌≤◌, ◌<◌, ◌≡◌, List, [], ◌∷◌, ◌++◌, length, get_or, take, drop, eqb}
-use Rattle.rules.specs.Octets.{if◌then◌else◌}
+use Rattle.std.specs.Prelude.{ℕ, zero, suc, ◌+◌, ◌*◌, ◌≤◌, ◌<◌, ◌≡◌, List, [], ◌∷◌, ◌++◌, length, get_or, take, drop, eqb, if◌then◌else◌}
 use Rattle.octets.specs.Copy.{Wrote, fitting}
 use Rattle.rules.specs.Text.{ascii, blank, line_feed, hex2, decimal, printed}
 
