@@ -31,9 +31,10 @@ def files(pattern):
 
 def imported(text):
     """The names that a file takes from a library."""
+    aliases = re.findall(rf"^\s*(?:ghost )?use (?:Rattle\.)?(?:{'|'.join(CRATES)}|specs|proofs)\b\S* as (\w+)", text, re.M)
     for path, names in USE.findall(text):
         root = path.replace("·", ".").split(".")
-        if root[0] in ("specs", "proofs", "crate", *CRATES) or (root[0] == "Rattle" and root[1] in CRATES):
+        if root[0] in ("specs", "proofs", "crate", *CRATES, *aliases) or (root[0] == "Rattle" and root[1] in CRATES):
             continue
         if root[0][0].islower() or root[:2] == ["Rattle", "std"] or root[0] in ("Prim",):
             for name in names.split(","):

@@ -19,12 +19,12 @@ use rules.Settings.{Settings, Ways, ways_of}
 use rules.Campus.{Described, switch_named, original, run_from, handlings_most, plain_run, clock_of, some_edition2, trace_needed, accepted, described, refusal}
 use rules.Campus.{campus, trace_after, trace_least}
 use Rattle.rules.proofs as rule_laws
-use rule_laws.{TestLaws.by-test, OctetLaws.put-none, OctetLaws.put_front, RunLaws.named_nickname, RunLaws.few_replies, RunLaws.named_member, StepLaws.hop_most}
-use rule_laws.DescriptionLaws.{Accepted, accepted-good}
-use rule_laws.OutcomeLaws.{campus-short, campus-refused, campus-needed, campus-accepted}
-use rule_laws.DemandLaws.{plain-run, plain-most, plain-room, demand}
-use rule_laws.AlikeLaws.{Both, Same, run-alike}
-use rule_laws.SingleLaws.{Draft, edition-1-all, single, one-reply}
+use rule_laws.{TestLaws.by_test, OctetLaws.put_none, OctetLaws.put_front, RunLaws.named_nickname, RunLaws.few_replies, RunLaws.named_member, StepLaws.hop_most}
+use rule_laws.DescriptionLaws.{Accepted, accepted_good}
+use rule_laws.OutcomeLaws.{campus_short, campus_refused, campus_needed, campus_accepted}
+use rule_laws.DemandLaws.{plain_run_lem, plain_most, plain_room, demand}
+use rule_laws.AlikeLaws.{Both, Same, run_alike}
+use rule_laws.SingleLaws.{Draft, edition_1_all, single, one_reply}
 use Rattle.octets.specs.Copy.{Wrote, fitting}
 use Rattle.octets.proofs.Ends.{copied}
 use Rattle.campus.specs
@@ -47,7 +47,7 @@ module _ (s : List ℕ) (clock : ℕ) where
 
   clock_is : (l : List Settings) (place : ℕ) → clock_of (described_by s l clock place) ≡ clock_from s clock
   unfolding clock_of clock_at clock_from
-  clock_is l place = by-test (eqb clock 0) (λ t. rw (clock_of, clock_at, clock_from, t)) (λ f. rw (clock_of, clock_at, clock_from, f))
+  clock_is l place = by_test (eqb clock 0) (λ t. rw (clock_of, clock_at, clock_from, t)) (λ f. rw (clock_of, clock_at, clock_from, f))
 
   module _ (six : length (clock_from s clock) ≡ 6) (h : clock ≡ 0 → ⊥) where
     clock_some : clock_from s clock ≡ part s clock 6
@@ -99,7 +99,7 @@ both_some (some S) T b = (S, refl, b)
 accepts_sound : {s w starts : List ℕ} {n clock place : ℕ} → Accepts s w starts n clock place → Sound w starts n
 accepts_sound {s} {w} {starts} {n} {clock} {place} a =
     stores_sound w starts a.switches a.stores n a.count a.span
-    (omega (arith, (accepted-good s (described_by s a.switches clock place) a.is).few_switches))
+    (omega (arith, (accepted_good s (described_by s a.switches clock place) a.is).few_switches))
 
 module _ {s w starts : List ℕ} {n clock place : ℕ} {trace : List ℕ} (ready : RunReady s w starts n clock place trace) where
   pub run_started : Started w starts n
@@ -117,7 +117,7 @@ module _ {s w starts : List ℕ} {n clock place : ℕ} {trace : List ℕ} (ready
     run_unknown e =
         let none_named = both_none (switch_named l b) (rw (named_none w starts n b found ef e) at alike) in
         let none_run = states_so s _ ready.read.is ∙ plain_none (described_by s l clock place) (rw (← ev, ← eb) none_named) in
-        rw none_run (record { counted = refl; traced = rw trace_none (sym (put-none trace 0)) })
+        rw none_run (record { counted = refl; traced = rw trace_none (sym (put_none trace 0)) })
 
     pub entry_ready : (first : ℕ) → found ≡ At first → EntryReady s w starts n clock place first v trace
     entry_ready first e =
@@ -150,7 +150,7 @@ module _ {s w starts : List ℕ} {n clock place first : ℕ} {v trace : List ℕ
   d = described_by s m clock place
 
   good : Accepted d
-  good = accepted-good s d at.ready.read.is
+  good = accepted_good s d at.ready.read.is
 
   pub clock_six : length (clock_from s clock) ≡ 6
   clock_six = rw (← clock_is s clock m place) good.six_clock
@@ -168,12 +168,12 @@ module _ {s w starts : List ℕ} {n clock place first : ℕ} {v trace : List ℕ
     plain : plain_run d ≡ run_from handlings_most 1 m clock' entry.nickname original frame []
     plain =
         rw (ec, ← clock_is s clock m place, frame_is, ← ap (λ (x : Ways). x.nickname) at.same)
-        (plain-run d at.entry (rw (← at.value) at.entered))
+        (plain_run_lem d at.entry (rw (← at.value) at.entered))
 
     same : Same (plain_run d) (run_of w starts n first clock' frame)
     same =
         rw plain
-        (run-alike m all (named_same w starts m at.ready.read.stores n at.ready.read.count) clock'
+        (run_alike m all (named_same w starts m at.ready.read.stores n at.ready.read.count) clock'
         handlings_most 1 entry.nickname original frame [])
 
     sound : Sound w starts n
@@ -193,8 +193,8 @@ module _ {s w starts : List ℕ} {n clock place first : ℕ} {v trace : List ℕ
     loop-ready few h waiting enough =
         let short : length frame ≤ 2048 = rw frame_is good.short_frame in
         let count = same.count in
-        let most = plain-most d good in
-        let room = plain-room d good in
+        let most = plain_most d good in
+        let room = plain_room d good in
         search (arith, sound, named, six)
 
     module _ (two : Bool) (is : two ≡ some_edition2 (switches_in w starts n)) where
@@ -205,11 +205,11 @@ module _ {s w starts : List ℕ} {n clock place first : ℕ} {v trace : List ℕ
 
       pub loop-1 : two ≡ false → LoopReady w starts n first clock' frame (replicate 579 0) trace
       loop-1 t =
-          loop-ready 1 (rw one (one-reply all clock' six draft handlings_most 1 entry original frame (named_member all entry.nickname entry named)))
+          loop-ready 1 (rw one (one_reply all clock' six draft handlings_most 1 entry original frame (named_member all entry.nickname entry named)))
           (replicate 579 0) (omega (arith, length-replicate {A = ℕ} 579 0))
         where
           draft : (S : Settings) → Memᴰ S all → Draft S
-          draft S j = record { nickname_fits = fit S j; edition_1 = edition-1-all all (sym is ∙ t) S j }
+          draft S j = record { nickname_fits = fit S j; edition_1 = edition_1_all all (sym is ∙ t) S j }
 
           one : run_of w starts n first clock' frame ≡ single_run handlings_most 1 all clock' entry original frame
           one = single all clock' six draft handlings_most 1 entry.nickname entry named original frame
@@ -230,14 +230,14 @@ module _ (file trace : List ℕ) where
       search
 
   refusal_done : (code : ℕ) → campus file (length trace) ≡ refusal code → CampusDone file trace trace code 0
-  refusal_done code o = done_so (rw o) (rw o) (rw o (sym (put-none trace 0)))
+  refusal_done code o = done_so (rw o) (rw o) (rw o (sym (put_none trace 0)))
 
   pub done_short : length trace < 640 → CampusDone file trace trace 49 0
-  done_short h = refusal_done 49 (campus-short file (length trace) h)
+  done_short h = refusal_done 49 (campus_short file (length trace) h)
 
   module _ (h : 640 ≤ length trace) (w starts : List ℕ) (r : Reading) (read : ReadDone file w starts r) where
     pub done_refused : (r.code ≡ 0 → ⊥) → CampusDone file trace trace r.code 0
-    done_refused z = refusal_done r.code (campus-refused file (length trace) h r.code (sym (read.refuses z)))
+    done_refused z = refusal_done r.code (campus_refused file (length trace) h r.code (sym (read.refuses z)))
 
     module _ (z : r.code ≡ 0) where
       abbrev accepts : Accepts file w starts r.n r.clock r.place
@@ -257,7 +257,7 @@ module _ (file trace : List ℕ) where
             (elim two as (λ (k : Bool). (if k then 32768 else trace_least) ≡ needed_by k) [ true ↦ refl | false ↦ refl ])
 
         pub done_needed : length trace < room → CampusDone file trace trace 49 0
-        done_needed k = refusal_done 49 (campus-needed file (length trace) h its accepts.is (omega (arith, needed_so)))
+        done_needed k = refusal_done 49 (campus_needed file (length trace) h its accepts.is (omega (arith, needed_so)))
 
         pub run_ready : room ≤ length trace → RunReady file w starts r.n r.clock r.place trace
         run_ready k = record { read = accepts; room = omega (arith, needed_so) }
@@ -265,7 +265,7 @@ module _ (file trace : List ℕ) where
         pub done_run : room ≤ length trace → {trace' : List ℕ} {count : ℕ} → Ran (states_of file) trace trace' count
             → CampusDone file trace trace' 0 count
         done_run k {trace'} {count} ran =
-            let o = campus-accepted file (length trace) its accepts.is (omega (arith, needed_so)) in
+            let o = campus_accepted file (length trace) its accepts.is (omega (arith, needed_so)) in
             let p = states_so file its accepts.is in
             done_so (rw o) (rw o (rw p at ran.counted)) (rw o (rw p at ran.traced))
 
@@ -291,6 +291,6 @@ module _ (octets : ℕ) where
   pub words_all : words_for octets ≤ length {A = ℕ} (replicate 2118 0)
   words_all =
       rw (length-replicate {A = ℕ} 2118 0)
-      (by-test (leb octets 5808) (λ t. rw t (omega (arith, leb-true octets 5808 t))) (λ t. rw t (omega arith)))
+      (by_test (leb octets 5808) (λ t. rw t (omega (arith, leb-true octets 5808 t))) (λ t. rw t (omega arith)))
 
 pub ruleset campus_run_laws = (rules, done_short, words_80, words_256, words_512, words_1024, words_all)

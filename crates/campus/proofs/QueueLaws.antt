@@ -14,8 +14,8 @@ use lib.ListN.{length, get_or, take, drop, length-take, length-drop, take-append
 use lib.Seq.{length-take-le, take-append-le, drop-append-le, take-append_seam, drop_at}
 use Rattle.rules.specs.Octets.{be16, put}
 use Rattle.rules.specs.Campus.{switch_named, Kind, Waiting, writes_reply, in_campus, staying, first_waiting}
-use Rattle.rules.proofs.OctetLaws.{length-put, put_front, take_put}
-use Rattle.rules.proofs.{NextLaws.stays_none, NextLaws.stays_in, NextLaws.stays_left, TestLaws.by-test}
+use Rattle.rules.proofs.OctetLaws.{length_put, put_front, take_put}
+use Rattle.rules.proofs.{NextLaws.stays_none, NextLaws.stays_in, NextLaws.stays_left, TestLaws.by_test}
 use Rattle.octets.specs.Copy.{Wrote, fitting}
 use Rattle.octets.proofs.Ends.{copied, copied_on, wrote_long}
 use Rattle.handler.specs.declared.answers.Answer.{Answer}
@@ -96,7 +96,7 @@ module _ (waiting : List ℕ) (tail i : ℕ) (f : List ℕ) (free : Free waiting
       (copied_on first w₂ refl (omega arith)).after
 
   after_long : length (put waiting (tail * 579) (slot_octets i f)) ≡ length waiting
-  after_long = length-put waiting (tail * 579) (slot_octets i f) room
+  after_long = length_put waiting (tail * 579) (slot_octets i f) room
 
   free_still : {h : ℕ} → Free waiting h → Free after h
   free_still a = omega (arith, after_long)
@@ -299,7 +299,7 @@ module _ (w starts : List ℕ) (n : ℕ) (a : Answer) where
     sent_unknown : found ≡ Unknown → (eqb a.number 50 && in_campus (switches_in w starts n) a.neighbour) ≡ false
     unfolding sent_to
     sent_unknown e =
-        by-test (eqb a.number 50)
+        by_test (eqb a.number 50)
         (λ t. rw (t, named_none w starts n a.neighbour (number_in w starts n a.neighbour) refl (rw (is, t) at e)))
         (λ t. rw t)
 
@@ -307,7 +307,7 @@ module _ (w starts : List ℕ) (n : ℕ) (a : Answer) where
         → (eqb a.number 50 ≡ true) × ((i < n) × (switch_named (switches_in w starts n) a.neighbour ≡ some (settings_at w starts i)))
     unfolding sent_to
     sent_at i e =
-        let fifty : eqb a.number 50 ≡ true = by-test (eqb a.number 50) (λ t. t) (λ t. cc (rw (is, t) at e)) in
+        let fifty : eqb a.number 50 ≡ true = by_test (eqb a.number 50) (λ t. t) (λ t. cc (rw (is, t) at e)) in
         (fifty, named_some w starts n a.neighbour (number_in w starts n a.neighbour) refl i (rw (is, fifty) at e))
 
     -- the frame that was forwarded, if it stays; else that reply

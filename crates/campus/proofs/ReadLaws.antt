@@ -19,7 +19,7 @@ use rules.Campus.{switch_named, known, order_good, value_good, nickname_new, roo
 use rules.Campus.{refused, described_from, described, file_most}
 use rules.declared.FieldRead.{FieldRead}
 use rules.declared.FieldRead.TheVariants.{Taken, Cut}
-use Rattle.rules.proofs.{TestLaws.by-test, TestLaws.and_yes, FrameLaws.none_given, OctetLaws.length_part, Taken.taken}
+use Rattle.rules.proofs.{TestLaws.by_test, TestLaws.and_yes, FrameLaws.none_given, OctetLaws.length_part, Taken.taken}
 use Rattle.rules.proofs.FieldLaws.{IsField, field_read, fields_end, fields_cut, fields_on}
 use Rattle.rules.proofs.DescriptionLaws.{described_end, described_none, described_on, described_refused}
 use Rattle.octets.specs.Flags.{flag_tag, flag_value, flag_by}
@@ -81,11 +81,11 @@ order_is : (l : List Settings) (c : Option (List ℕ)) (n clock tag : ℕ) → l
     → order_good (so_far l c) tag ≡ order_by n clock tag
 unfolding order_good order_by
 order_is l c n clock tag h k =
-    by-test (eqb tag 2 || eqb tag 3 || eqb tag 6)
+    by_test (eqb tag 2 || eqb tag 3 || eqb tag 6)
     (λ t.
-    let no_clock : eqb tag 4 ≡ false = by-test (eqb tag 4) (λ e. cc (rw (eqb-true tag 4 e) at t)) (λ f. f) in
+    let no_clock : eqb tag 4 ≡ false = by_test (eqb tag 4) (λ e. cc (rw (eqb-true tag 4 e) at t)) (λ f. f) in
     rw (t, h, no_clock) (and_yes (not (eqb n 0))))
-    (λ f. by-test (eqb tag 4) (λ e. rw (f, e, k) (not-not (eqb clock 0))) (λ e. rw (f, e)))
+    (λ f. by_test (eqb tag 4) (λ e. rw (f, e, k) (not-not (eqb clock 0))) (λ e. rw (f, e)))
 
 -- a record and a flag, of the latest switch
 module _ (T : Settings) (l : List Settings) (c : Option (List ℕ)) (v : List ℕ) where
@@ -99,15 +99,15 @@ module _ (T : Settings) (l : List Settings) (c : Option (List ℕ)) (v : List �
   code_flag : (tag : ℕ) → (eqb tag 3 || eqb tag 6) ≡ true → flag_by tag v ≡ field_refusal (so_far (T ∷ l) c) (field tag v)
   unfolding field_refusal order_good value_good nickname_new room_good serial_new entry_known flag_tag flag_value length_good
   code_flag tag t =
-      by-test (eqb tag 3) (λ b. rw (eqb-true tag 3 b, some_switch)) (λ b. rw (eqb-true tag 6 (rw b at t), some_switch))
+      by_test (eqb tag 3) (λ b. rw (eqb-true tag 3 b, some_switch)) (λ b. rw (eqb-true tag 6 (rw b at t), some_switch))
 
 -- the tags of settings
 settings_tag : {tag size : ℕ} → OfSettings tag size → (eqb tag 2 || eqb tag 3 || eqb tag 6) ≡ true
 unfolding length_good
 settings_tag {tag} o =
-    by-test (eqb tag 2) (λ t. rw t) (λ f.
-    by-test (eqb tag 3) (λ t. rw (f, t)) (λ g.
-    by-test (eqb tag 6) (λ t. rw (f, g, t)) (λ h.
+    by_test (eqb tag 2) (λ t. rw t) (λ f.
+    by_test (eqb tag 3) (λ t. rw (f, t)) (λ g.
+    by_test (eqb tag 6) (λ t. rw (f, g, t)) (λ h.
     cc (rw (ne_eqb tag 1 o.no_switch, f, g, ne_eqb tag 4 o.no_clock, ne_eqb tag 5 o.no_entry, h) at o.good))))
 
 -- what a refusal leaves
@@ -168,7 +168,7 @@ module _ (w starts : List ℕ) (n clock tag : ℕ) (v : List ℕ) where
         pub of_switch : OfSettings tag (length v) → 0 < n
         unfolding order_by
         of_switch o =
-            by-test (eqb n 0)
+            by_test (eqb n 0)
             (λ z. absurd (false≢true (rw (order_by, settings_tag o, z) at in_order)))
             (λ z. omega (arith, eqb-false n 0 z))
 
@@ -180,7 +180,7 @@ pub opened_long : {w starts v w' : List ℕ} {n end : ℕ} {r : Bool} → PartOp
 opened_long {w} {v = v} {end = end} o k e =
     rw o.words
     (part_long w end _ (omega arith)
-    (by-test (opens_in (drop end w) v) (λ t. rw t (switch_long (drop end w) v (rw length-drop (omega arith)))) (λ f. rw f)))
+    (by_test (opens_in (drop end w) v) (λ t. rw t (switch_long (drop end w) v (rw length-drop (omega arith)))) (λ f. rw f)))
 
 module _ (w starts : List ℕ) (n clock : ℕ) (v : List ℕ) (k : Kept w starts n) (long : length_good 1 (length v) ≡ true)
     (x : Bool) (is : x ≡ known_in w starts n (be16 v 0)) (end : ℕ) (ends : end ≡ end_of w starts n)
@@ -254,7 +254,7 @@ module _ (w starts : List ℕ) (n clock tag : ℕ) (v : List ℕ) (k : Kept w st
           let ample = latest_ample w starts T l s room in
           x.code
           ∙ rw at_is
-          (by-test (eqb tag 2)
+          (by_test (eqb tag 2)
           (λ t. rw (eqb-true tag 2 t) (record_checked (drop (span_of l) w) T s.0.stands ample v ∙ code_2 T l c v))
           (λ f.
           flag_checked (drop (span_of l) w) T s.0.stands ample v tag (eqb-false tag 2 f)
@@ -357,7 +357,7 @@ module _ (s : List ℕ) (at : ℕ) (h : at < length s) (d : Described) (k : know
           let v : List ℕ = part s (at + 3) size in
           let l : length v ≡ size = length_part s (at + 3) size (omega arith) in
           let on = fields_on g s at tag size next h (sym e) in
-          by-test (length_good tag size)
+          by_test (length_good tag size)
           (λ b. refuses (field tag v) (fields_from g s next) 43 on (rw (l, b, k))
           (after_order s at (Taken tag size next) e h tag size next refl true (sym b) refl) (omega arith))
           (λ b. refuses (field tag v) (fields_from g s next) 42 on (rw (l, b))
@@ -365,11 +365,11 @@ module _ (s : List ℕ) (at : ℕ) (h : at < length s) (d : Described) (k : know
 
 clock_known : (s : List ℕ) (clock : ℕ) → known (clock_at s clock) ≡ not (eqb clock 0)
 unfolding clock_at
-clock_known s clock = by-test (eqb clock 0) (λ e. rw e) (λ e. rw e)
+clock_known s clock = by_test (eqb clock 0) (λ e. rw e) (λ e. rw e)
 
 hop_long : (k : ℕ) → length_good 2 k ≡ true → 14 ≤ k
 unfolding length_good
-hop_long k e = by-test (eqb k 14) (λ t. omega (arith, eqb-true k 14 t)) (λ t. omega (arith, eqb-true k 16 (rw t at e)))
+hop_long k e = by_test (eqb k 14) (λ t. omega (arith, eqb-true k 14 t)) (λ t. omega (arith, eqb-true k 16 (rw t at e)))
 
 -- the switches with one more field
 module _ (l : List Settings) (c : Option (List ℕ)) (tag : ℕ) (v : List ℕ) where
@@ -387,9 +387,9 @@ module _ (l : List Settings) (c : Option (List ℕ)) (tag : ℕ) (v : List ℕ) 
   hops_with : (T : Settings) → length (with_field T (field tag v)).hops ≤ length T.hops + more
   unfolding with_field
   hops_with T =
-      by-test (eqb tag 2) (λ a. rw (a, length-append T.hops) (omega arith)) (λ a.
-      by-test (eqb tag 3) (λ b. rw (a, b) (omega arith)) (λ b.
-      by-test (eqb tag 6) (λ e. rw (a, b, e) (omega arith)) (λ e. rw (a, b, e) (omega arith))))
+      by_test (eqb tag 2) (λ a. rw (a, length-append T.hops) (omega arith)) (λ a.
+      by_test (eqb tag 3) (λ b. rw (a, b) (omega arith)) (λ b.
+      by_test (eqb tag 6) (λ e. rw (a, b, e) (omega arith)) (λ e. rw (a, b, e) (omega arith))))
 
   on_latest_lem : (m : List Settings) → (length (on_latest (λ T. with_field T (field tag v)) m) ≡ length m)
       × (span_of (on_latest (λ T. with_field T (field tag v)) m) ≤ span_of m + 2 * more)
@@ -399,26 +399,26 @@ module _ (l : List Settings) (c : Option (List ℕ)) (tag : ℕ) (v : List ℕ) 
   after_other : eqb tag 1 ≡ false → (length after ≡ length l) × (span_of after ≤ span_of l + 2 * more)
   unfolding with_next
   after_other a =
-      by-test (eqb tag 4) (λ b. rw (a, b, after) (refl, omega arith)) (λ b.
-      by-test (eqb tag 5) (λ e. rw (a, b, e, after) (refl, omega arith)) (λ e. rw (a, b, e, after) (on_latest_lem l)))
+      by_test (eqb tag 4) (λ b. rw (a, b, after) (refl, omega arith)) (λ b.
+      by_test (eqb tag 5) (λ e. rw (a, b, e, after) (refl, omega arith)) (λ e. rw (a, b, e, after) (on_latest_lem l)))
 
   after_count : length after ≡ counted_by (length l) tag
   unfolding counted_by
-  after_count = by-test (eqb tag 1) (λ a. rw (after_1 a, a) (omega arith)) (λ a. rw a (after_other a).0)
+  after_count = by_test (eqb tag 1) (λ a. rw (after_1 a, a) (omega arith)) (λ a. rw a (after_other a).0)
 
   after_span : length_good tag (length v) ≡ true → 11 * span_of after ≤ 11 * span_of l + 4 * (3 + length v)
   unfolding length_good
   after_span good =
-      by-test (eqb tag 1)
+      by_test (eqb tag 1)
       (λ a. omega (arith, ap span_of (after_1 a), span_more (switch_of v) l, eqb-true (length v) 8 (rw a at good)))
       (λ a.
-      by-test (eqb tag 2)
+      by_test (eqb tag 2)
       (λ b. omega (arith, rw b at (after_other a).1, hop_long (length v) (rw (eqb-true tag 2 b) at good)))
       (λ b. omega (arith, rw b at (after_other a).1)))
 
   after_few : room_good (so_far l c) tag ≡ true → length l ≤ 16 → counted_by (length l) tag ≤ 16
   unfolding counted_by room_good
-  after_few r h = by-test (eqb tag 1) (λ a. rw a (omega (arith, ltb-true (length l) 16 (rw a at r)))) (λ a. rw a h)
+  after_few r h = by_test (eqb tag 1) (λ a. rw a (omega (arith, ltb-true (length l) 16 (rw a at r)))) (λ a. rw a h)
 
 -- what is answered
 abbrev pub refusing : ℕ → Reading
@@ -477,7 +477,7 @@ module _ {s w₀ starts₀ w starts : List ℕ} {n clock at : ℕ} (h : Holding 
   module _ (more : at < length s) where
     span_room : span_of h.switches + 6 ≤ length w
     span_room =
-        by-test (leb (length s) 5808)
+        by_test (leb (length s) 5808)
         (λ t. omega (arith, rw t at h.words))
         (λ f. omega (arith, rw f at h.words, span_most w starts h.switches h.stores))
 
@@ -535,8 +535,8 @@ module _ {s w₀ starts₀ w starts : List ℕ} {n clock at : ℕ} (h : Holding 
           next_is : (tag ≡ 5 → ⊥) → so_far (with_next d (field tag v)).switches (clock_at s (clocked_by clock tag at)) ≡ with_next d (field tag v)
           unfolding with_next clocked_by clock_at length_good
           next_is five =
-              by-test (eqb tag 1) (λ a. rw (eqb-true tag 1 a)) (λ a.
-              by-test (eqb tag 4)
+              by_test (eqb tag 1) (λ a. rw (eqb-true tag 1 a)) (λ a.
+              by_test (eqb tag 4)
               (λ b.
               let six : next - (at + 3) ≡ 6 = sym v_long ∙ eqb-true (length v) 6 (rw (eqb-true tag 4 b) at passed.its_length) in
               rw (a, b, ne_eqb (at + 3) 0 (omega arith), six))
@@ -586,7 +586,7 @@ module _ {s w₀ starts₀ w starts : List ℕ} {n clock at : ℕ} (h : Holding 
             pub done_entered : {r : Reading} → r ≡ record { code = code_after s next; n = n; clock = clock; place = at } → ReadDone s w' starts' r
             done_entered is =
                 rw is
-                (by-test (leb (length s) next)
+                (by_test (leb (length s) next)
                 (λ b.
                 let l = leb-true (length s) next b in
                 record {

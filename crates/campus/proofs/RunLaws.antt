@@ -19,12 +19,12 @@ use rules.Campus.{next_after, run_from, trace_octets}
 use rules.declared.{Header.Header, FrameRead.FrameRead}
 use rules.declared.FrameRead.TheVariants.{Trill, Unreadable}
 use Rattle.rules.proofs as rule_laws
-use rule_laws.{TestLaws.by-test, StepLaws.hop_read, StepLaws.egress_read, StepLaws.reply_short}
-use rule_laws.HandledLaws.{final, How, ends, forwards, faults, echoes, how, Bounded, handling-bounded}
-use rule_laws.HandlingLaws.{frame-handled, handling-unread, unread-number, length-forwarded}
-use rule_laws.FrameLaws.{frame-read, length-tagged, length-plain, read-trill, read-other, link-length, link-written}
-use rule_laws.OctetLaws.{length-put, put-put, put-none, take_put}
-use rule_laws.RunLaws.{run_step, rest, no-replies, replies-on, length-trace}
+use rule_laws.{TestLaws.by_test, StepLaws.hop_read, StepLaws.egress_read, StepLaws.reply_short}
+use rule_laws.HandledLaws.{final, How, ends, forwards, faults, echoes, how, Bounded, handling_bounded}
+use rule_laws.HandlingLaws.{frame_handled, handling_unread, unread_number, length_forwarded}
+use rule_laws.FrameLaws.{frame_read, length_tagged, length_plain, read_trill, read_other, link_length_lem, link_written}
+use rule_laws.OctetLaws.{length_put, put_put, put_none, take_put}
+use rule_laws.RunLaws.{run_step, rest, no_replies, replies_on, length_trace}
 use Rattle.octets.specs.Copy.{Wrote, fitting}
 use Rattle.octets.proofs.Ends.{copied}
 use Rattle.stores.specs.Store.{handled_in}
@@ -43,14 +43,14 @@ use Rattle.campus.proofs.{StoresLaws.lent, StoresLaws.name_here, QueueLaws.copie
 -- a tag at the end of the link header
 module _ (f : List ℕ) (high a : ℕ) (is_high : high ≡ octet f 12) (is_a : a ≡ ethertype_tag / 256 % 256) where
   pub untagged_high : (high ≡ a → ⊥) → 14 ≡ link_length f
-  untagged_high h = length-plain f (be16 f 12) refl (λ e. h (omega arith))
+  untagged_high h = length_plain f (be16 f 12) refl (λ e. h (omega arith))
 
   module _ (low b : ℕ) (is_low : low ≡ octet f 13) (is_b : b ≡ ethertype_tag % 256) where
     pub untagged_low : (low ≡ b → ⊥) → 14 ≡ link_length f
-    untagged_low h = length-plain f (be16 f 12) refl (λ e. h (omega arith))
+    untagged_low h = length_plain f (be16 f 12) refl (λ e. h (omega arith))
 
     pub tagged : high ≡ a → low ≡ b → 18 ≡ link_length f
-    tagged e g = length-tagged f (be16 f 12) refl (omega arith)
+    tagged e g = length_tagged f (be16 f 12) refl (omega arith)
 
 pub ruleset link_length_laws = (rules, untagged_high, untagged_low, tagged)
 
@@ -73,21 +73,21 @@ pub ruleset in_any_laws = (rules, received_none, received_trill)
 module _ {f : List ℕ} (r : Readable f) where
   pub readable_long : link_length f + 6 ≤ length f
   readable_long =
-      let i = frame-read f r.header r.is in
+      let i = frame_read f r.header r.is in
       omega arith
 
   header_is : read_frame f
       ≡ Trill (record { place = link_length f; word = be16 f (link_length f); egress = be16 f (link_length f + 2); ingress = be16 f (link_length f + 4) })
   header_is =
-      let i = frame-read f r.header r.is in
+      let i = frame_read f r.header r.is in
       let n = link_length f in
       let long : 14 ≤ length f = omega arith in
       let whole : n ≤ length f = omega arith in
-      by-test (eqb (link_ethertype f) ethertype_trill)
+      by_test (eqb (link_ethertype f) ethertype_trill)
       (λ t.
-      let there = read-trill f n refl long whole (link_ethertype f) (eqb-true _ _ t) refl (be16 f n) (be16 f (n + 2)) (be16 f (n + 4)) in
+      let there = read_trill f n refl long whole (link_ethertype f) (eqb-true _ _ t) refl (be16 f n) (be16 f (n + 2)) (be16 f (n + 4)) in
       sym (there readable_long refl refl refl))
-      (λ t. cc (read-other f n refl long whole (link_ethertype f) refl (eqb-false _ _ t), r.is))
+      (λ t. cc (read_other f n refl long whole (link_ethertype f) refl (eqb-false _ _ t), r.is))
 
   pub in_header : {at hop egress : ℕ} → at ≡ link_length f → hop ≡ hop_count (get_or f (at + 1) 0 % 256) → egress ≡ be16 f (at + 2)
       → record { hop = hop; egress = egress } ≡ received_of f
@@ -103,7 +103,7 @@ pub is_readable : {f : List ℕ} {number : ℕ} → AnsweredBy f number → 12 �
 is_readable {f} given h =
     elim (read_frame f) as (λ x. read_frame f ≡ x → Readable f) [
       | Trill g ↦ λ e. record { header = g; is = e }
-      | Unreadable m ↦ λ e. absurd (omega (arith, given.unread m e, (unread-number f m e).1))
+      | Unreadable m ↦ λ e. absurd (omega (arith, given.unread m e, (unread_number f m e).1))
     ] refl
 
 pub ruleset received_laws = (rules, is_readable)
@@ -143,7 +143,7 @@ forwards_linked : (S : Ways) (clock f : List ℕ) {a : Handled} → How S clock 
 unfolding given
 forwards_linked S clock f {a} (ends o) e = absurd (true≢false (sym o.closed ∙ ap final e))
 forwards_linked S clock f (forwards h r t found fits b) e =
-    omega (arith, length-forwarded S r f h, (link-written S r).long, link-length (link S r))
+    omega (arith, length_forwarded S r f h, (link_written S r).long, link_length_lem (link S r))
 forwards_linked S clock f (faults h r code t two found c) e = absurd (omega arith)
 forwards_linked S clock f (echoes h r t found c) e = absurd (omega arith)
 
@@ -158,16 +158,16 @@ module _ {w starts clock : List ℕ} {at : At} {trace : List ℕ} {k : ℕ} (rea
   frame_short = rw (is, length-take) (omega arith)
 
   bounded : Bounded (handling (ways_of T) clock frame)
-  bounded = handling-bounded (ways_of T) clock frame ready.six frame_short
+  bounded = handling_bounded (ways_of T) clock frame ready.six frame_short
 
   both : Both (handling (ways_of T) clock frame) a out out' beside beside'
-  both = rw (frame-handled (ways_of T) clock 2048 576 frame ready.six (omega arith) (omega arith) frame_short) at h
+  both = rw (frame_handled (ways_of T) clock 2048 576 frame ready.six (omega arith) (omega arith) frame_short) at h
 
   pub step_number : a.number < 64
   step_number = rw both.answer bounded.number_small
 
   pub step_answers : AnsweredBy frame a.number
-  step_answers = record { unread = λ m e. rw (both.answer, handling-unread (ways_of T) clock frame m e) }
+  step_answers = record { unread = λ m e. rw (both.answer, handling_unread (ways_of T) clock frame m e) }
 
   pub step_done : {trace' : List ℕ}
       → trace' ≡ put trace (k * 8) (entry_by (settings_at w starts at.switch).nickname (kind_by at.replied) a.number frame)
@@ -205,8 +205,8 @@ no_more [] e = refl
 no_more (x ∷ l) e = absurd (omega arith)
 
 replies_join : (a b : List State) → replies_in (a ++ b) ≡ replies_in a + replies_in b
-replies_join [] b = omega (arith, no-replies)
-replies_join (s ∷ a) b = omega (arith, replies-on s (a ++ b), replies-on s a, replies_join a b)
+replies_join [] b = omega (arith, no_replies)
+replies_join (s ∷ a) b = omega (arith, replies_on s (a ++ b), replies_on s a, replies_join a b)
 
 -- what was made and what is next, by the answer's numbers and by both buffers
 module _ {h : Handled} {a : Answer} {out out' beside beside' : List ℕ} (b : Both h a out out' beside beside') where
@@ -280,7 +280,7 @@ run_begins {w} {starts} {n} {first} {clock} {frame} {waiting₀} {trace₀} read
       nickname = (settings_at w starts first).nickname;
       queue = [];
       long = refl;
-      is = rw trace_none (sym (put-none trace₀ 0));
+      is = rw trace_none (sym (put_none trace₀ 0));
       remains = rw b.holds;
       holds = search;
       made = omega arith;
@@ -331,22 +331,22 @@ module _ {w starts : List ℕ} {n first : ℕ} {clock frame waiting₀ trace₀ 
     turn_ready =
         let replies = sym (replies_join l.done (state ∷ later)) ∙ ap replies_in rest_is in
         let queue : Queue w starts n waiting at.head at.tail = record { queue = l.queue; held = l.holds.held } in
-        let free : 0 < length (replies_made h) → Free waiting at.tail = omega (arith, replies-on state later) in
+        let free : 0 < length (replies_made h) → Free waiting at.tail = omega (arith, replies_on state later) in
         let entry_room : k * 8 + 8 ≤ length trace = omega (arith, enough) in
         search
 
     module _ {waiting' trace' cur' : List ℕ} {r : Onward} (did : Turned w starts n clock at cur cur' waiting waiting' trace trace' k r) where
       entered : trace' ≡ put trace₀ 0 (trace_octets (l.done ++ (state ∷ [])))
       entered =
-          let long = length-trace l.done in
+          let long = length_trace l.done in
           did.traced
           ∙ rw (l.is, trace_snoc)
-          (put-put trace₀ 0 (trace_octets l.done) (k * 8) (entry_octets state) (omega arith))
+          (put_put trace₀ 0 (trace_octets l.done) (k * 8) (entry_octets state) (omega arith))
 
       pub trace_same : length trace' ≡ length trace₀
       trace_same =
           rw did.traced
-          (length-put trace (k * 8) (entry_octets state) (omega (arith, entry_length state, enough)) ∙ l.same)
+          (length_put trace (k * 8) (entry_octets state) (omega (arith, entry_length state, enough)) ∙ l.same)
 
       one_more : length (l.done ++ (state ∷ [])) ≡ k + 1
       one_more = rw length-append (omega arith)
@@ -383,7 +383,7 @@ module _ {w starts : List ℕ} {n first : ℕ} {clock frame waiting₀ trace₀ 
                 is = entered;
                 remains = rw (less, add-one, held.is_kind, held.is_frame, append_assoc l.done) (rw z at rest_is);
                 holds = rw (held.is_kind, held.is_frame) held;
-                made = omega (arith, replies_join l.done (state ∷ []), replies-on state [], no-replies);
+                made = omega (arith, replies_join l.done (state ∷ []), replies_on state [], no_replies);
                 most = omega arith;
                 same = trace_same;
                 same_waiting = did.same ∙ l.same_waiting;

@@ -15,7 +15,7 @@ use lib.Seq.{take_all, get_or-drop, get_or-set_same, get_or-set_other, get_or-ta
 use lib.Dec.{eqb, ltb}
 use Rattle.rules.specs.{Campus.some_edition2, Campus.switch_named, Campus.known, Fields.field, Fields.length_good}
 use Rattle.rules.specs.Settings.{Settings, Ways, switch_of, with_field, opens, switch_good, nickname_valid, mac_good, next_hop, ways_of}
-use Rattle.rules.proofs.{TestLaws.by-test, TestLaws.and-true, AlikeLaws.Both}
+use Rattle.rules.proofs.{TestLaws.by_test, TestLaws.and_true, AlikeLaws.Both}
 use Rattle.stores.specs.Extend.{Opens, Extends, with_switch, extending, extended}
 use Rattle.stores.specs.Store.{unless_withdrawn, Stands}
 use Rattle.stores.proofs.{LookupLaws.next_hop_lem, IndexLaws.good_whole}
@@ -202,7 +202,7 @@ stores_opened w starts v l s room few o =
         start = get_or-set_same starts (length l) (span_of l) 0 few;
         stands = rw (back_is w (span_of l) x h) (switch_stands (drop (span_of l) w) v (rw length-drop (omega arith)));
         valid =
-            (and-true (nickname_valid (switch_of v).nickname) (mac_good (switch_of v).mac) (and-true (length_good 1 (length v)) (switch_good (switch_of v)) o).1).0;
+            (and_true (nickname_valid (switch_of v).nickname) (mac_good (switch_of v).mac) (and_true (length_good 1 (length v)) (switch_good (switch_of v)) o).1).0;
       },
       stores_front w (span_of l) x h starts (set starts (length l) (span_of l)) l (omega arith)
           (λ i b. get_or-set_other starts (length l) i (span_of l) 0 (omega arith)) s,
@@ -212,9 +212,9 @@ stores_opened w starts v l s room few o =
 name_with : (T : Settings) (tag : ℕ) (v : List ℕ) → (with_field T (field tag v)).nickname ≡ T.nickname
 unfolding with_field
 name_with T tag v =
-    by-test (eqb tag 2) (λ e. rw e) (λ e.
-    by-test (eqb tag 3) (λ f. rw (e, f)) (λ f.
-    by-test (eqb tag 6) (λ g. rw (e, f, g)) (λ g. rw (e, f, g))))
+    by_test (eqb tag 2) (λ e. rw e) (λ e.
+    by_test (eqb tag 3) (λ f. rw (e, f)) (λ f.
+    by_test (eqb tag 6) (λ g. rw (e, f, g)) (λ g. rw (e, f, g))))
 
 module _ (w starts : List ℕ) (T : Settings) (l : List Settings) (s : Stores w starts (T ∷ l)) (room : span_of (T ∷ l) + 6 ≤ length w) where
   pub latest_ample : Ample (drop (span_of l) w)
@@ -247,7 +247,7 @@ module _ (w starts : List ℕ) where
   sound_each : (l : List Settings) → Stores w starts l → span_of l ≤ length w → length l ≤ length starts → (i : ℕ) → i < length l → SoundAt w starts i
   sound_each [] s room listed i h = absurd (omega arith)
   sound_each (T ∷ l) s room listed i h =
-      by-test (ltb i (length l))
+      by_test (ltb i (length l))
       (λ t. sound_each l s.1 (omega (arith, span_more T l)) (omega arith) i (ltb-true i (length l) t))
       (λ f.
       let e : i ≡ length l = omega (arith, ltb-false i (length l) f) in
@@ -267,7 +267,7 @@ module _ (w starts : List ℕ) where
   named_alike x (T ∷ l) s =
       let same = ways_at l T s.0 in
       let name : T.nickname ≡ (settings_at w starts (length l)).nickname = ap (λ (y : Ways). y.nickname) same in
-      by-test (eqb T.nickname x) (λ t. rw (t, (rw name at t)) same) (λ f. rw (f, (rw name at f)) (named_alike x l s.1))
+      by_test (eqb T.nickname x) (λ t. rw (t, (rw name at t)) same) (λ f. rw (f, (rw name at f)) (named_alike x l s.1))
 
   edition_alike : (l : List Settings) → Stores w starts l → some_edition2 l ≡ some_edition2 (switches_in w starts (length l))
   unfolding some_edition2 switches_in
@@ -288,7 +288,7 @@ module _ (w starts : List ℕ) (n x : ℕ) where
   lookup_first zero h = refl
   lookup_first (suc m) h =
       let name = name_here w starts m in
-      by-test (eqb (settings_at w starts m).nickname x) (λ t. rw (t, (rw name at t)) (h, refl)) (λ f. rw (f, (rw name at f)) (lookup_first m (omega arith)))
+      by_test (eqb (settings_at w starts m).nickname x) (λ t. rw (t, (rw name at t)) (h, refl)) (λ f. rw (f, (rw name at f)) (lookup_first m (omega arith)))
 
   lookup : Lookup (number_in w starts n x) (switch_named (switches_in w starts n) x)
   lookup = lookup_first n (omega arith)

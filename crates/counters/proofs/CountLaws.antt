@@ -15,8 +15,8 @@ use mir.Syntax.{w64}
 use lib.ListN.{length, get_or, set, drop}
 use lib.Seq.{drop-cons, drop-length}
 use Rattle.rules.specs.{Answer.dropped, Handling.handled}
-use Rattle.rules.proofs.TestLaws.{by-test, or_false, or_no, or_assoc}
-use Rattle.rules.proofs.{OctetLaws.put-none, HandledLaws.handled_bounded}
+use Rattle.rules.proofs.TestLaws.{by_test, or_false, or_no, or_assoc}
+use Rattle.rules.proofs.{OctetLaws.put_none, HandledLaws.handled_bounded}
 use Rattle.handler.specs.{Shapes.answer_of, Tasks.Both}
 use Rattle.handler.specs.declared.answers.Answer.{Answer}
 use Rattle.counters.specs
@@ -65,7 +65,7 @@ module _ (counts : List ℕ) (total : ℕ) where
         record {
           within = omega arith;
           over = omega (arith, m.over);
-          each = λ j k. by-test (eqb j i) (λ t. rw (eqb-true j i t) new) (λ t. omega (arith, m.each j (omega (arith, eqb-false j i t))));
+          each = λ j k. by_test (eqb j i) (λ t. rw (eqb-true j i t) new) (λ t. omega (arith, m.each j (omega (arith, eqb-false j i t))));
         }
 
     pub meeting_ends : 64 ≤ i → Above counts total met
@@ -124,7 +124,7 @@ module _ (counts : List ℕ) (total : ℕ) (x : Call) (found : Bool) (scanned : 
   pub refuses : found ≡ true → r ≡ answer_of (dropped 4) → CallDone (counted (made counts total) x) r (made counts total) out out beside beside
   refuses t is =
       rw (counted_full (made counts total) x (sym scanned ∙ t))
-      (record { both = record { answer = is; after = sym (put-none out 0); after_beside = sym (put-none beside 0) }; counters = refl })
+      (record { both = record { answer = is; after = sym (put_none out 0); after_beside = sym (put_none beside 0) }; counters = refl })
 
   pub counts_one : found ≡ false → (out' beside' counts' : List ℕ) → Both (uncounted x) r out out' beside beside'
       → counts' ≡ set counts r.number (get_or counts r.number 0 + 1)

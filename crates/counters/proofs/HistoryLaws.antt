@@ -10,7 +10,7 @@ use lib.Dec.{eqb}
 use lib.ListN.{length, get_or, set, length-set, get_or-replicate}
 use lib.Seq.{get_or-set_same, get_or-set_other}
 use Rattle.rules.specs.Answer.{given}
-use Rattle.rules.proofs.{TestLaws.by-test, HandledLaws.handled_bounded}
+use Rattle.rules.proofs.{TestLaws.by_test, HandledLaws.handled_bounded}
 use Rattle.counters.proofs.CountLaws.{counted_full, counted_open}
 use Rattle.counters.specs
 use specs.Counting.{full, one_more, Call, uncounted}
@@ -37,7 +37,7 @@ each_one_more : (l : List ℕ) (n : ℕ) → n < length l → (k : ℕ) (ns : Li
     → get_or (set l n (get_or l n 0 + 1)) k 0 + occurrences k ns ≡ get_or l k 0 + occurrences k (n ∷ ns)
 unfolding occurrences
 each_one_more l n h k ns =
-    by-test (eqb n k)
+    by_test (eqb n k)
     (λ t.
     let e = eqb-true n k t in
     let same : occurrences n ns ≡ occurrences k ns = ap (λ (m : ℕ). occurrences m ns) e in
@@ -54,7 +54,7 @@ grown : (xs : List Call) (c : Counters) → length c.by_answer ≡ 64 → Grown 
 unfolding counters_after answers handlings occurrences one_more
 grown [] c whole = record { all = omega arith; each = λ k h. omega arith; total = omega arith }
 grown (x ∷ xs) c whole =
-    by-test (full c)
+    by_test (full c)
     (λ e. rw (counted_full c x e) (grown xs c whole))
     (λ e.
     let n = (uncounted x).number in

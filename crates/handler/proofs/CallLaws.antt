@@ -26,8 +26,8 @@ use Prim.Native.Nat.{ℕ}
 use borrow.Author.Rules.{rules}
 use borrow.Author.Tests.{not-true, not-false}
 use lib.ListN.{length}
-use Rattle.rules.proofs.{TestLaws.by-test, SettingsLaws.settings_read_lem, HandlingLaws.settings-bad, HandlingLaws.settings_good}
-use Rattle.rules.proofs.HandlingLaws.{routed-egress, routed-transit}
+use Rattle.rules.proofs.{TestLaws.by_test, SettingsLaws.settings_read_lem, HandlingLaws.settings_bad_lem, HandlingLaws.settings_good}
+use Rattle.rules.proofs.HandlingLaws.{routed_egress, routed_transit}
 use Rattle.rules.specs.Answer as A
 
 -- the switch of settings octets
@@ -60,7 +60,7 @@ module _ (s clock f out beside : List ℕ) (d : ℕ) (j : Validated) (is : Valid
   answer = handled s clock (length out) (length beside) f
 
   pub trill_bad : not j.good ≡ true → (r : Answer) → r ≡ dropped_by 1 → Both answer r out out beside beside
-  trill_bad n r e = rw (settings-bad s clock (length out) (length beside) f (settings_none s d j is n)) (both_of beside (done_dropped 1 refl e))
+  trill_bad n r e = rw (settings_bad_lem s clock (length out) (length beside) f (settings_none s d j is n)) (both_of beside (done_dropped 1 refl e))
 
   module _ (n : not j.good ≡ false) (own : Own) (o : Owns own (switch_at s)) (received : Received)
       (x : Receiving own clock f (length out) (length beside) received) where
@@ -117,14 +117,14 @@ module _ (S : Ways) (clock f : List ℕ) (h : Header) (none : op_length h.word �
 
   routed_only : routed S clock f h ≡ routed only clock f h
   routed_only =
-      by-test (we_are_egress S.nickname h)
-      (λ e. routed-egress S clock f h (none_read S clock f h none) (none_stops S clock f h none (we_are_egress S.nickname h)) e
+      by_test (we_are_egress S.nickname h)
+      (λ e. routed_egress S clock f h (none_read S clock f h none) (none_stops S clock f h none (we_are_egress S.nickname h)) e
       ∙ same_egress
-      ∙ rw e (sym (routed-egress (only_for h.ingress S) clock f h (none_read (only_for h.ingress S) clock f h none)
+      ∙ rw e (sym (routed_egress (only_for h.ingress S) clock f h (none_read (only_for h.ingress S) clock f h none)
       (none_stops (only_for h.ingress S) clock f h none (we_are_egress S.nickname h)) e)))
-      (λ e. routed-transit S clock f h (none_read S clock f h none) (none_stops S clock f h none (we_are_egress S.nickname h)) e
+      (λ e. routed_transit S clock f h (none_read S clock f h none) (none_stops S clock f h none (we_are_egress S.nickname h)) e
       ∙ same_onward
-      ∙ rw e (sym (routed-transit (only_for h.egress S) clock f h (none_read (only_for h.egress S) clock f h none)
+      ∙ rw e (sym (routed_transit (only_for h.egress S) clock f h (none_read (only_for h.egress S) clock f h none)
       (none_stops (only_for h.egress S) clock f h none (we_are_egress S.nickname h)) e)))
 
 module _ {s : List ℕ} {d : ℕ} (own : Own) (j : Validated) (x : LookupOf s d (lookup_by own j)) where

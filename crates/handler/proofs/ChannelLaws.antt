@@ -15,7 +15,7 @@ use rules.declared.ChannelRead.{ChannelRead}
 use rules.declared.ChannelRead.TheVariants.{Fault, BadErr, ErrorHeard, BadEcho, EchoHeard, EchoRequest}
 use Rattle.handler.specs.Shapes.{foreign_by, short_code, silenced_by_sl}
 use Rattle.handler.proofs.Stages.{lent_rest}
-use Rattle.rules.proofs.TestLaws.{by-test}
+use Rattle.rules.proofs.TestLaws.{by_test}
 
 -- the inner frame's tag
 module _ (inner : List ℕ) (e : ℕ) (is_e : e ≡ be16 inner 12) where
@@ -87,7 +87,7 @@ pub ruleset short_code_laws = (rules, short_foreign, short_known)
 -- a channel message, by its tests in their order
 pub read_short : (inner : List ℕ) → length inner < 22 → (code : ℕ) → code ≡ short_code inner → Fault code ≡ channel_read inner
 unfolding channel_read
-read_short inner h code is = by-test (foreign_by (be16 inner 16)) (λ t. rw (is, t)) (λ t. rw (is, t, lt-ltb (length inner) 22 h))
+read_short inner h code is = by_test (foreign_by (be16 inner 16)) (λ t. rw (is, t)) (λ t. rw (is, t, lt-ltb (length inner) 22 h))
 
 module _ (inner : List ℕ) (e : ℕ) (is_e : e ≡ be16 inner 16) (b : Bool) (is_b : b ≡ foreign_by e) where
   pub read_foreign : b ≡ true → Fault 2 ≡ channel_read inner

@@ -9,7 +9,7 @@ use Rattle.octets.specs.Words.{be64}
 use mathlib.Core.Bool.{false}
 use borrow.Author.Tests.{eqb-true, eqb-false}
 use lib.Dec.{eqb}
-use Rattle.rules.proofs.{TestLaws.apart, TestLaws.by-test, HeaderLaws.header_refusal_laws}
+use Rattle.rules.proofs.{TestLaws.apart, TestLaws.by_test, HeaderLaws.header_refusal_laws}
 use Rattle.handler.specs
 use specs.declared.answers.Refusal.TheVariants.{Refused, Passed}
 use specs.Shapes.{refusal_by}
@@ -25,11 +25,11 @@ module _ (m : ℕ) where
 
   pub refused_is : {n : ℕ} → refusal_by m ≡ Refused n → (m ≡ n) × (m ≡ 0 → ⊥)
   unfolding refusal_by
-  refused_is e = by-test (eqb m 0) (λ t. apart (cc (rw t at e))) (λ t. (cc (rw t at e), eqb-false m 0 t))
+  refused_is e = by_test (eqb m 0) (λ t. apart (cc (rw t at e))) (λ t. (cc (rw t at e), eqb-false m 0 t))
 
   pub passed_is : refusal_by m ≡ Passed → m ≡ 0
   unfolding refusal_by
-  passed_is e = by-test (eqb m 0) (eqb-true m 0) (λ t. cc (rw t at e))
+  passed_is e = by_test (eqb m 0) (eqb-true m 0) (λ t. cc (rw t at e))
 
 pub ruleset refusal_laws = (header_refusal_laws, refused_so, passed_so)
 

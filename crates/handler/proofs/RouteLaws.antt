@@ -12,7 +12,7 @@ use native.Mathlib.Nat.{zero-add}
 use borrow.Author.Rules.{rules}
 use borrow.Author.Tests.{lt-leb, le-leb, not-true, not-false}
 use Rattle.rules.proofs as rule_laws
-use rule_laws.{TestLaws.by-test, TestLaws.apart, TestLaws.and_yes, TestLaws.and_no, OctetLaws.take_put, OptionLaws.area_number, FrameLaws.header_passed}
+use rule_laws.{TestLaws.by_test, TestLaws.apart, TestLaws.and_yes, TestLaws.and_no, OctetLaws.take_put, OptionLaws.area_number, FrameLaws.header_passed}
 use lib.Dec.{eqb}
 use lib.ListN.{length, length-drop}
 use rules.{Octets.be16, Octets.be32, Settings.Ways, Options.WellFormed, Options.draft_read, Channel.channel_read}
@@ -23,9 +23,9 @@ use rules.declared.FrameRead.TheVariants.{Trill, Unreadable}
 use rules.declared.Ruling.TheVariants.{Absent}
 use rules.declared.ChannelRead.TheVariants.{Fault, BadErr, ErrorHeard, BadEcho, EchoHeard, EchoRequest}
 use rules.declared.Alert.TheVariants.{NoAlert}
-use rule_laws.HandlingLaws.{inner-short, inner-untagged, inner-any, inner-delivered, inner_up, inner-channel, routed-faulty}
-use rule_laws.HandlingLaws.{routed-stopped, routed-egress, routed-transit, handling-unread, handling-refused, handling-routed, clock-bad, room-short}
-use rule_laws.HandlingLaws.{beside-short, frame-long, frame-handled}
+use rule_laws.HandlingLaws.{inner_short, inner_untagged, inner_any, inner_delivered, inner_up, inner_channel, routed_faulty}
+use rule_laws.HandlingLaws.{routed_stopped, routed_egress, routed_transit, handling_unread, handling_refused, handling_routed, clock_bad, room_short}
+use rule_laws.HandlingLaws.{beside_short, frame_long, frame_handled}
 use Rattle.octets.specs.Copy.{Wrote}
 use Rattle.handler.specs
 use specs.declared.answers.Refusal.{Refusal}
@@ -154,7 +154,7 @@ pub ruleset alert_of_laws = (rules, alert_draft, alert_none, alert_other, alert_
 -- 22 to 24, 51 and 52
 module _ (f : List ℕ) (h : Header) (inner : List ℕ) (held : inner ≡ inner_of f h) where
   pub egress_short : length inner < 18 → Comes f h (Dropped 22)
-  egress_short a = record { same = λ S clock. inner-short S clock f h (rw held at a); ends = Prim.tt }
+  egress_short a = record { same = λ S clock. inner_short S clock f h (rw held at a); ends = Prim.tt }
 
   -- delivered in whole
   up : (n start size : ℕ) → Ready f h → start ≡ inner_start h → size ≡ length inner
@@ -164,15 +164,15 @@ module _ (f : List ℕ) (h : Header) (inner : List ℕ) (held : inner ≡ inner_
 
   module _ (a : 18 ≤ length inner) (tag : Bool) (t : tag ≡ untagged inner) where
     pub egress_untagged : tag ≡ true → Comes f h (Dropped 23)
-    egress_untagged b = record { same = λ S clock. inner-untagged S clock f h (rw held at a) (cc); ends = Prim.tt }
+    egress_untagged b = record { same = λ S clock. inner_untagged S clock f h (rw held at a) (cc); ends = Prim.tt }
 
     module _ (b : tag ≡ false) (all : Bool) (m : all ≡ to_all_egress_rbridges inner) where
       pub egress_any : not all ≡ true → h.egress ≡ 0xFFC0 → Comes f h (Dropped 24)
-      egress_any n e = record { same = λ S clock. inner-any S clock f h (rw held at a) (cc) e (cc (not-true all n)); ends = Prim.tt }
+      egress_any n e = record { same = λ S clock. inner_any S clock f h (rw held at a) (cc) e (cc (not-true all n)); ends = Prim.tt }
 
       pub egress_delivered : not all ≡ true → (h.egress ≡ 0xFFC0 → ⊥) → Ready f h → (start size : ℕ) → start ≡ inner_start h → size ≡ length inner
           → Comes f h (Answered 51 start size)
-      egress_delivered n e is start size i z = up 51 start size is i z (λ S clock. inner-delivered S clock f h (rw held at a) (cc) e (cc (not-true all n)))
+      egress_delivered n e is start size i z = up 51 start size is i z (λ S clock. inner_delivered S clock f h (rw held at a) (cc) e (cc (not-true all n)))
 
       module _ (n : not all ≡ false) (word : ℕ) (w : word ≡ be16 inner 16) where
         pub egress_up : word ≡ 0x22F4 → Ready f h → (start size : ℕ) → start ≡ inner_start h → size ≡ length inner → Comes f h (Answered 52 start size)
@@ -180,7 +180,7 @@ module _ (f : List ℕ) (h : Header) (inner : List ℕ) (held : inner ≡ inner_
 
         pub egress_channel : (word ≡ 0x22F4 → ⊥) → Comes f h Message
         egress_channel e =
-            record { same = λ S clock. inner-channel S clock f h (rw held at a) (cc) (cc (not-false all n)) (λ x. e (cc)); ends = Prim.tt }
+            record { same = λ S clock. inner_channel S clock f h (rw held at a) (cc) (cc (not-false all n)) (λ x. e (cc)); ends = Prim.tt }
 
 pub ruleset decapsulated_laws = (rules, ready, inner_held, egress_short, egress_untagged, egress_any, egress_delivered, egress_up, egress_channel)
 
@@ -209,7 +209,7 @@ module _ (rfc7179 : Bool) (f : List ℕ) (h : Header) (area : List ℕ) (held : 
 
   faulty_same : (S : Ways) (clock : List ℕ) → rfc7179 ≡ S.rfc7179 → routed S clock f h ≡ A.dropped_at n p
   unfolding area_read
-  faulty_same S clock two = routed-faulty S clock f h n p (cc faulty)
+  faulty_same S clock two = routed_faulty S clock f h n p (cc faulty)
 
   faulty_near : Ready f h → p ≤ 2048
   faulty_near is = omega (arith, area_near rfc7179 area n p faulty, (area_made is area held).few)
@@ -237,7 +237,7 @@ module _ (rfc7179 : Bool) (f : List ℕ) (h : Header) (area : List ℕ) (held : 
   module _ (size : ℕ) (b : stops ≡ stops_by rfc7179 false area) where
     pub route_stopped : stops ≡ true → RoutesRead rfc7179 size f h (Stopped 20 0)
     unfolding area_read area_stops
-    route_stopped x = record { same = λ S clock away two. routed-stopped S clock f h (cc) (cc); left = omega arith; sized = Prim.tt }
+    route_stopped x = record { same = λ S clock away two. routed_stopped S clock f h (cc) (cc); left = omega arith; sized = Prim.tt }
 
     -- the alert as the rules find it
     alert_same : (S : Ways) → rfc7179 ≡ S.rfc7179 → (inner : List ℕ) → inner ≡ inner_of f h → alert_of S f h ≡ alert_by rfc7179 area inner
@@ -247,7 +247,7 @@ module _ (rfc7179 : Bool) (f : List ℕ) (h : Header) (area : List ℕ) (held : 
     answers_request : (inner : List ℕ) → inner ≡ inner_of f h → Answerable f h (alert_by rfc7179 area inner)
     unfolding alert_by alert_to
     answers_request inner within =
-        by-test (rfc7179 && (critical_alert (flags_word area) || non_critical_alert (flags_word area)) && channel_message inner)
+        by_test (rfc7179 && (critical_alert (flags_word area) || non_critical_alert (flags_word area)) && channel_message inner)
         (λ t. rw t (to (critical_alert (flags_word area)) (not (stops_by rfc7179 true area)) (channel_read inner) refl)) (λ t. rw t Prim.tt)
       where
         to : (critical answered : Bool) (c : ChannelRead) → channel_read inner ≡ c → Answerable f h (alert_to critical answered c)
@@ -264,7 +264,7 @@ module _ (rfc7179 : Bool) (f : List ℕ) (h : Header) (area : List ℕ) (held : 
     route_transit x ready inner within alert is =
         record {
           same = λ S clock away two.
-              routed-transit S clock f h (cc) (cc) away
+              routed_transit S clock f h (cc) (cc) away
               ∙ by_hop (S.hop h.egress) (λ q. rw (transit, transit_at, q))
               (λ r q. rw (transit, transit_at, q, alert_same S two inner within ∙ sym is));
           left = record { is_ready = ready; answerable = rw is (answers_request inner within) };
@@ -275,12 +275,12 @@ module _ (rfc7179 : Bool) (f : List ℕ) (h : Header) (area : List ℕ) (held : 
   module _ (b : stops ≡ stops_by rfc7179 true area) where
     pub arrives_stopped : stops ≡ true → Arrives rfc7179 f h (Dropped 20)
     unfolding area_read area_stops
-    arrives_stopped x = record { same = λ S clock ours two. routed-stopped S clock f h (cc) (cc); ends = Prim.tt }
+    arrives_stopped x = record { same = λ S clock ours two. routed_stopped S clock f h (cc) (cc); ends = Prim.tt }
 
     pub arrives_read : stops ≡ false → (local : Local) → Comes f h local → Arrives rfc7179 f h local
     unfolding area_read area_stops
     arrives_read x local d =
-        record { same = λ S clock ours two. routed-egress S clock f h (cc) (cc) ours ∙ d.same S clock; ends = d.ends }
+        record { same = λ S clock ours two. routed_egress S clock f h (cc) (cc) ours ∙ d.same S clock; ends = d.ends }
 
 pub ruleset route_read_laws = (rules, ready, inner_held, route_stopped, route_transit)
 
@@ -292,7 +292,7 @@ module _ (f : List ℕ) (h : Header) (is : read_frame f ≡ Trill h) (own : Own)
     pub frame_refused : (n : ℕ) → refusal ≡ Refused n → Receives own f (R.Refused n)
     frame_refused n e =
         let x = refused_is (header_refusal (own.word / 65536) f h) (sym is_refusal ∙ e) in
-        record { same = λ S clock o. handling-refused S clock f h is (rw o.addressed at x.1) ∙ rw (rw o.addressed at x.0); got = Prim.tt }
+        record { same = λ S clock o. handling_refused S clock f h is (rw o.addressed at x.1) ∙ rw (rw o.addressed at x.0); got = Prim.tt }
 
     pub frame_passed : refusal ≡ Passed → length f ≤ 2048 → Receives own f (R.Trill h)
     frame_passed e short =
@@ -300,7 +300,7 @@ module _ (f : List ℕ) (h : Header) (is : read_frame f ≡ Trill h) (own : Own)
         let S : Ways = record { nickname = own.nickname; mac = own.word / 65536; strip = false; rfc7179 = false; hop = λ d. Absent } in
         let p = header_passed S f h z in
         record {
-          same = λ S clock o. handling-routed S clock f h is (rw o.addressed at z);
+          same = λ S clock o. handling_routed S clock f h is (rw o.addressed at z);
           got = record { read = is; hops_left = p.hops_left; area_whole = p.area_whole; short = short };
         }
 
@@ -309,7 +309,7 @@ pub ruleset passed_laws = (rules, frame_near, frame_refused, frame_passed)
 -- 10 and 11
 module _ (f : List ℕ) (read : FrameRead) (is : read ≡ read_frame f) (own : Own) where
   pub frame_unread : (n : ℕ) → read ≡ Unreadable n → Receives own f (R.Refused n)
-  frame_unread n e = record { same = λ S clock o. handling-unread S clock f n (sym is ∙ e); got = Prim.tt }
+  frame_unread n e = record { same = λ S clock o. handling_unread S clock f n (sym is ∙ e); got = Prim.tt }
 
   pub frame_trill : (h : Header) → read ≡ Trill h → read_frame f ≡ Trill h
   frame_trill h e = sym is ∙ e
@@ -323,13 +323,13 @@ module _ (own : Own) (clock f : List ℕ) (room beside_room : ℕ) where
 
   pub received_read : (r : Received) → Receives own f r → length clock ≡ 6 → 2048 ≤ room → 576 ≤ beside_room → length f ≤ 2048
       → Receiving own clock f room beside_room r
-  received_read r d a b c short = record { same = λ S o. frame-handled S clock room beside_room f a b c short ∙ d.same S clock o; got = d.got; lent = lends r }
+  received_read r d a b c short = record { same = λ S o. frame_handled S clock room beside_room f a b c short ∙ d.same S clock o; got = d.got; lent = lends r }
     where
       lends : (r : Received) → Lent clock room beside_room r
       lends (R.Refused n) = Prim.tt
       lends (R.Trill h) = (a, b, c)
 
-pub ruleset receive_laws = (rules, received_dropped, clock-bad, room-short, beside-short, frame-long, received_read)
+pub ruleset receive_laws = (rules, received_dropped, clock_bad, room_short, beside_short, frame_long, received_read)
 
 -- what a frame that was received has with it
 module _ {own : Own} {clock f : List ℕ} {room beside_room : ℕ} {received : Received} (x : Receiving own clock f room beside_room received) {h : Header}

@@ -21,8 +21,8 @@ use Rattle.rules.specs.Campus.{known}
 use Rattle.rules.specs.Fields.{Field, field, cut, field_at, fields_at, fields}
 use Rattle.rules.specs.declared.Ruling.TheVariants.{Found, Absent}
 use Rattle.rules.specs.declared.FieldRead.TheVariants.{Taken, Cut}
-use Rattle.rules.proofs.{TestLaws.by-test, FieldLaws.fields-at-end, FieldLaws.fields-at-cut, Taken.taken_first, Taken.taken_to, Taken.taken}
-use Rattle.rules.proofs.FirstLaws.{opened-field, first, switch-fold, settings-cut, settings-bad as not_opened}
+use Rattle.rules.proofs.{TestLaws.by_test, FieldLaws.fields_at_end, FieldLaws.fields_at_cut, Taken.taken_first, Taken.taken_to, Taken.taken}
+use Rattle.rules.proofs.FirstLaws.{opened_field, first, switch_fold, settings_cut, settings_bad_lem as not_opened}
 use Rattle.octets.specs.{Flags.flag_tag, Flags.flag_by, Records.record_of, Records.hop_by}
 use Rattle.octets.specs.declared.values.Record.{Record}
 use specs.declared.validation.{Flags.Flags, Scan.Scan, Validated.Validated}
@@ -79,7 +79,7 @@ pub record Folding {A : Type 0} (step : A → Field → A) (start : A) (s : List
 
 module _ {A : Type 0} {step : A → Field → A} {start : A} {s : List ℕ} {from at : ℕ} {acc : A} (w : Folding step start s from at acc) where
   fold_end : length s ≤ at → FoldedFrom step start s from acc
-  fold_end h = ap (foldl step acc) (sym (fields-at-end s at h)) ∙ w.gives
+  fold_end h = ap (foldl step acc) (sym (fields_at_end s at h)) ∙ w.gives
 
   fold_on : {f : Field} {next : ℕ} {acc' : A} → fields_at s at ≡ f ∷ fields_at s next → acc' ≡ step acc f → Folding step start s from next acc'
   fold_on on a = record { gives = rw a (ap (foldl step acc) (sym on) ∙ w.gives) }
@@ -89,14 +89,14 @@ module _ (s : List ℕ) where
   read_cut : field_at s 0 ≡ Cut → settings_read s ≡ switch_of []
   unfolding settings_read fields opened
   read_cut e =
-      by-test (ltb 0 (length s))
-      (λ t. rw (settings_read, fields-at-cut s 0 (ltb-true 0 (length s) t) e))
-      (λ t. rw (settings_read, fields-at-end s 0 (ltb-false 0 (length s) t)))
+      by_test (ltb 0 (length s))
+      (λ t. rw (settings_read, fields_at_cut s 0 (ltb-true 0 (length s) t) e))
+      (λ t. rw (settings_read, fields_at_end s 0 (ltb-false 0 (length s) t)))
 
   module _ {tag size next : ℕ} (e : field_at s 0 ≡ Taken tag size next) where
     read_on : settings_read s ≡ foldl with_field (switch_of (part s 3 (next - 3))) (fields_at s next)
     unfolding settings_read
-    read_on = rw (settings_read, first s e, opened-field tag (part s 3 (next - 3)))
+    read_on = rw (settings_read, first s e, opened_field tag (part s 3 (next - 3)))
 
 -- what one more field does to the nickname and MAC, the flags and the record that rules
 abbrev pub flags_of : Settings → Flags
@@ -107,9 +107,9 @@ module _ (S : Settings) where
   unfolding with_field flagged_by
   flags_with cut = refl
   flags_with (field tag v) =
-      by-test (eqb tag 2)
+      by_test (eqb tag 2)
       (λ e. rw (eqb-true tag 2 e))
-      (λ e. by-test (eqb tag 3) (λ f. rw (e, f)) (λ f. by-test (eqb tag 6) (λ g. rw (e, f, g)) (λ g. rw (e, f, g))))
+      (λ e. by_test (eqb tag 3) (λ f. rw (e, f)) (λ f. by_test (eqb tag 6) (λ g. rw (e, f, g)) (λ g. rw (e, f, g))))
 
 ruling_none : (d : ℕ) → ruling [] d ≡ Absent
 unfolding ruling
@@ -119,9 +119,9 @@ ruling_with : (d : ℕ) (S : Settings) (f : Field) → ruling (with_field S f).h
 unfolding with_field ruled_by ruling
 ruling_with d S cut = refl
 ruling_with d S (field tag v) =
-    by-test (eqb tag 2)
+    by_test (eqb tag 2)
     (λ e. rw e (foldl-append (newer d) Absent S.hops (hop_of v ∷ [])))
-    (λ e. by-test (eqb tag 3) (λ f. rw (e, f)) (λ f. by-test (eqb tag 6) (λ g. rw (e, f, g)) (λ g. rw (e, f, g))))
+    (λ e. by_test (eqb tag 3) (λ f. rw (e, f)) (λ f. by_test (eqb tag 6) (λ g. rw (e, f, g)) (λ g. rw (e, f, g))))
 
 -- and what all do
 fold_along : {A : Type 0} (said : Settings → A) (step : A → Field → A) → ((S : Settings) (f : Field) → said (with_field S f) ≡ step (said S) f)
@@ -154,8 +154,8 @@ module _ (s : List ℕ) (read : FieldRead) (is : read ≡ field_at s 0) where
       let high : m * 65536 % 18446744073709551616 / 65536 ≡ be48 (part s 3 (next - 3)) 2 = omega arith in
       rw (read_on s (sym is ∙ e))
       (record {
-        named = en ∙ sym (switch-fold (λ n m. n) v (fields_at s next));
-        addressed = high ∙ sym (switch-fold (λ n m. m) v (fields_at s next));
+        named = en ∙ sym (switch_fold (λ n m. n) v (fields_at s next));
+        addressed = high ∙ sym (switch_fold (λ n m. m) v (fields_at s next));
       })
 
 pub ruleset own_of_laws = (rules, taken_first, taken_to, own_cut, own_read)
@@ -235,7 +235,7 @@ bad_validated b k = record { validated = b ∙ k; finds = λ t. absurd (false≢
 
 module _ (s : List ℕ) (d : ℕ) (read : FieldRead) (q : read ≡ field_at s 0) where
   pub validated_cut : (r : Validated) → r.good ≡ false → read ≡ Cut → ValidatedBy s d r
-  validated_cut r b c = bad_validated b (settings-cut s (sym q ∙ c))
+  validated_cut r b c = bad_validated b (settings_cut s (sym q ∙ c))
 
   module _ (tag size next : ℕ) (t : read ≡ Taken tag size next) (v : List ℕ) (held : v ≡ part s 3 (next - 3)) (o : Bool) (is : o ≡ opens (field tag v)) where
     pub validated_shut : (r : Validated) → r.good ≡ false → not o ≡ true → ValidatedBy s d r

@@ -18,9 +18,9 @@ use lib.ListN.{length, length-append, length-take, take, drop, length-drop}
 use rules.{Octets.octet, Settings.Ways, Link.link, Extension.area_sent}
 use rules.Channel.{error_body, echo_body, error_reply, echo_reply, reply_rest, reply_inner, body_of, return_path, silenced}
 use Rattle.rules.proofs as rule_laws
-use rule_laws.FrameLaws.{link-most, frame-read, link-length, length-link}
+use rule_laws.FrameLaws.{link_most, frame_read, link_length_lem, length_link}
 use rule_laws.{ReplyLaws.echo_body_length, OptionLaws.stripped_word}
-use rule_laws.OctetLaws.{put-none, length_part}
+use rule_laws.OctetLaws.{put_none, length_part}
 use Rattle.handler.specs
 use specs.declared.way.{Own.Own, Lookup.Lookup}
 use specs.declared.answers.Answer.{Answer}
@@ -28,20 +28,20 @@ use specs.Shapes.{Owns, Sends, reply_octets, Replied, answer_of, wrote_by, link_
 use mathlib.Core.Bool.{Bool, true, false, not, ◌&&◌}
 use lib.Seq.{drop-drop}
 use rules.Handling.{forwarded, forwarded_rest, onward, faulted, echoed}
-use rule_laws.TestLaws.{by-test}
-use rule_laws.HandlingLaws.{onward-long, onward-sent, faulted-silent, faulted-none, faulted-over, echoed-mode, echoed-none, echoed-over}
+use rule_laws.TestLaws.{by_test}
+use rule_laws.HandlingLaws.{onward_long, onward_sent, faulted_silent, faulted_none, faulted_over, echoed_mode, echoed_none, echoed_over}
 use Rattle.rules.specs.Answer as A
 
 -- a frame that was read
 module _ (f : List ℕ) (h : Header) (is : read_frame f ≡ Trill h) where
   pub frame_near : h.place ≤ 18
-  frame_near = omega (arith, (frame-read f h is).its_place, link-length f)
+  frame_near = omega (arith, (frame_read f h is).its_place, link_length_lem f)
 
   pub frame_from : 14 ≤ h.place
-  frame_from = (frame-read f h is).from
+  frame_from = (frame_read f h is).from
 
   pub frame_place : h.place ≤ length f
-  frame_place = omega (arith, (frame-read f h is).whole)
+  frame_place = omega (arith, (frame_read f h is).whole)
 
 pub ruleset ready = (frame_near, frame_from, frame_place)
 
@@ -69,7 +69,7 @@ held_most k lent whole h held = rw held h
 -- the answers with nothing written
 module _ {a : A.Handled} {r : Answer} {out : List ℕ} where
   pub done_unwritten : (n start size : ℕ) → a ≡ A.delivered n start size → r ≡ answer_of (A.delivered n start size) → Done a r out out
-  done_unwritten n start size e is = rw e (record { answer = is; after = sym (put-none out 0); alone = refl })
+  done_unwritten n start size e is = rw e (record { answer = is; after = sym (put_none out 0); alone = refl })
 
   pub done_dropped : (n : ℕ) → a ≡ A.dropped n → r ≡ answer_of (A.dropped n) → Done a r out out
   done_dropped n = done_unwritten n 0 0
@@ -107,20 +107,20 @@ module _ (S : Ways) (r : NextHop) (f : List ℕ) (h : Header) (out area : List �
   forwards = rw goes
 
   forwards_long : length (forwarded S r f h) ≡ link_size r.vlan + length (rest_with area f h)
-  forwards_long = cc (forwards, length-append (link S r) (rest_with area f h), length-link S r)
+  forwards_long = cc (forwards, length-append (link S r) (rest_with area f h), length_link S r)
 
   pub onward_over : (a : Answer) (k size : ℕ) → a ≡ answer_of (A.dropped 29) → 2048 < k + size → k ≡ link_size r.vlan → size ≡ length (rest_with area f h)
       → Done (onward S r f h [] 0) a out out
-  onward_over a k size is n links rests = done_dropped 29 (onward-long S f h r [] 0 (omega (arith, forwards_long))) is
+  onward_over a k size is n links rests = done_dropped 29 (onward_long S f h r [] 0 (omega (arith, forwards_long))) is
 
   module _ (k size : ℕ) (n : k + size ≤ 2048) (links : k ≡ link_size r.vlan) (rests : size ≡ length (rest_with area f h)) (at : ℕ) (out1 : List ℕ)
       (linked : Wrote (link S r) 0 at out out1) where
     module _ (end : ℕ) (out2 : List ℕ) (w : Wrote (rest_with area f h) at end out1 out2) where
       pub onward_short : end ≤ 2048
-      onward_short = omega (arith, length-link S r)
+      onward_short = omega (arith, length_link S r)
 
       pub onward_done : (a : Answer) → a ≡ wrote_by 50 end r.neighbour → Done (onward S r f h [] 0) a out out2
-      onward_done a = done_wrote 50 r.neighbour end (onward-sent S f h r [] 0 (omega (arith, forwards_long))) (rw forwards at (joined linked w))
+      onward_done a = done_wrote 50 r.neighbour end (onward_sent S f h r [] 0 (omega (arith, forwards_long))) (rw forwards at (joined linked w))
 
     pub onward_fits : Ready f h → length area ≤ 124 → length out1 ≡ length out → 2048 ≤ length out → Fits area f h out1 at
     onward_fits ready few same roomy =
@@ -129,7 +129,7 @@ module _ (S : Ways) (r : NextHop) (f : List ℕ) (h : Header) (out area : List �
           area_whole = ready.area_whole;
           hops_left = ready.hops_left;
           area_short = few;
-          room = omega (arith, length-link S r);
+          room = omega (arith, length_link S r);
         }
 
 pub ruleset onward_laws = (rules, ready, link_room, room_18, onward_over, onward_short, onward_done, onward_fits)
@@ -170,7 +170,7 @@ module _ (S : Ways) {f : List ℕ} {h : Header} (is : Ready f h) (none : op_leng
   unfolding area_sent
   plain_sent =
       let word : length (area_of f h) ≤ 4 = omega (arith, area_words is) in
-      by-test (S.strip && not S.rfc7179) (λ u. rw (u, stripped_word (area_of f h) word)) (λ u. rw u)
+      by_test (S.strip && not S.rfc7179) (λ u. rw (u, stripped_word (area_of f h) word)) (λ u. rw u)
 
 -- a reply is short
 pub reply_short : {reply out out1 : List ℕ} {n : ℕ} → Replied reply n out out1 → n ≤ 2048
@@ -180,15 +180,15 @@ reply_short p = omega (arith, p.few)
 module _ (S : Ways) (f : List ℕ) (h : Header) (code : ℕ) (inner : List ℕ) (held : inner ≡ inner_of f h) (quiet : Bool) (q : quiet ≡ silenced code inner)
     (a : Answer) (out : List ℕ) where
   pub fault_quiet : a ≡ answer_of (A.dropped 25) → quiet ≡ true → Done (faulted S f h code) a out out
-  fault_quiet is t = done_dropped 25 (faulted-silent S f h code (cc)) is
+  fault_quiet is t = done_dropped 25 (faulted_silent S f h code (cc)) is
 
   module _ (t : quiet ≡ false) (R : Ruling) (asks : R ≡ back S h) where
     pub fault_lost : a ≡ answer_of (A.dropped 25) → R ≡ Absent → Done (faulted S f h code) a out out
-    fault_lost is e = done_dropped 25 (faulted-none S f h code (cc) (cc)) is
+    fault_lost is e = done_dropped 25 (faulted_none S f h code (cc) (cc)) is
 
     pub fault_sent : (hop : NextHop) → R ≡ Found hop → (n : ℕ) (out1 : List ℕ) → Replied (error_reply S hop f h code) n out out1
         → a ≡ wrote_by 53 n hop.neighbour → Done (faulted S f h code) a out out1
-    fault_sent hop e n out1 p = done_wrote 53 hop.neighbour n (faulted-over S f h code (cc) hop (cc)) p.wrote
+    fault_sent hop e n out1 p = done_wrote 53 hop.neighbour n (faulted_over S f h code (cc) hop (cc)) p.wrote
 
 pub ruleset error_answer_laws = (rules, ready, inner_held, reply_short, fault_quiet, fault_lost, fault_sent)
 
@@ -196,15 +196,15 @@ pub ruleset error_answer_laws = (rules, ready, inner_held, reply_short, fault_qu
 module _ (S : Ways) (f : List ℕ) (h : Header) (clock body : List ℕ) (held : body ≡ body_of (inner_of f h)) (mode : ℕ) (m : mode ≡ octet body 4)
     (a : Answer) (out : List ℕ) where
   pub echo_other : a ≡ answer_of (A.dropped 28) → (mode ≡ 2 → ⊥) → Done (echoed S clock f h) a out out
-  echo_other is o = done_dropped 28 (echoed-mode S f h clock (λ e. o (rw held at m ∙ e))) is
+  echo_other is o = done_dropped 28 (echoed_mode S f h clock (λ e. o (rw held at m ∙ e))) is
 
   module _ (o : mode ≡ 2) (R : Ruling) (asks : R ≡ back S h) where
     pub echo_lost : a ≡ answer_of (A.dropped 28) → R ≡ Absent → Done (echoed S clock f h) a out out
-    echo_lost is e = done_dropped 28 (echoed-none S f h clock (cc) (cc)) is
+    echo_lost is e = done_dropped 28 (echoed_none S f h clock (cc) (cc)) is
 
     pub echo_sent : (hop : NextHop) → R ≡ Found hop → (n : ℕ) (out1 : List ℕ) → Replied (echo_reply S hop h clock body) n out out1
         → a ≡ wrote_by 54 n hop.neighbour → Done (echoed S clock f h) a out out1
-    echo_sent hop e n out1 p = done_wrote 54 hop.neighbour n (echoed-over S f h clock (cc) hop (cc)) (rw held at p.wrote)
+    echo_sent hop e n out1 p = done_wrote 54 hop.neighbour n (echoed_over S f h clock (cc) hop (cc)) (rw held at p.wrote)
 
 pub ruleset echo_answer_laws = (rules, ready, body_held, body_within, held_least, held_most, reply_short, echo_other, echo_lost, echo_sent)
 
@@ -217,7 +217,7 @@ module _ (S : Ways) (r : NextHop) (out : List ℕ) (roomy : 576 ≤ length out) 
       reply_made number code body octets is few w =
           let all = joined linked w in
           let size = length-append (reply_octets own h.ingress number code) body in
-          rw (← is) (record { wrote = all; few = omega (arith, link-most S r, all.ends) })
+          rw (← is) (record { wrote = all; few = omega (arith, link_most S r, all.ends) })
 
       pub error_made : (f : List ℕ) (code : ℕ) → Wrote (reply_octets own h.ingress 0x001 code ++ error_body f h) k end out1 out2
           → Replied (error_reply S r f h code) end out out2
@@ -233,10 +233,10 @@ module _ (S : Ways) (r : NextHop) (out : List ℕ) (roomy : 576 ≤ length out) 
 
     module _ (same : length out1 ≡ length out) where
       pub error_room : k + 156 ≤ length out1
-      error_room = omega (arith, link-most S r)
+      error_room = omega (arith, link_most S r)
 
       pub echo_room : (body : List ℕ) → length body ≤ 530 → k + 28 + length body ≤ length out1
-      echo_room body few = omega (arith, link-most S r)
+      echo_room body few = omega (arith, link_most S r)
 
 pub reply_18 : (out : List ℕ) → 576 ≤ length out → 18 ≤ length out
 reply_18 out h = omega arith

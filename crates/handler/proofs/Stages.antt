@@ -5,7 +5,7 @@ use Rattle.rules.specs as rules
 use rules.{Settings.Ways, Channel.echo_body, Channel.ethertype_channel, Channel.all_egress_rbridges}
 use rules.Link.{outer_tag, link, ethertype_tag, ethertype_trill}
 use rules.Header.{op_length, inner_start, read_frame, area_of, inner_of}
-use Rattle.rules.proofs.{TestLaws.and_left, TestLaws.and_right, TestLaws.by-test}
+use Rattle.rules.proofs.{TestLaws.and_left, TestLaws.and_right, TestLaws.by_test}
 use borrow.Author.Tests.{eq-eqb, ne_eqb}
 use borrow.Author.Rules.{rules}
 use rules.Octets.{be16, octets16, octets48, octet, part, put}
@@ -18,7 +18,7 @@ use lib.ListN.{length, take, drop, length-drop, length-append, get_or, length-ta
 use lib.Seq.{take_all, take-add, drop-drop, drop-cons, length-take-le}
 use lib.Dec.{eqb}
 use Rattle.rules.proofs.OctetLaws.{length_part, drop_part, put_inside, put_tail, octets16_be16}
-use Rattle.rules.proofs.FrameLaws.{frame-read, link-length}
+use Rattle.rules.proofs.FrameLaws.{frame_read, link_length_lem}
 use mir.Syntax.{w8}
 use mir.Val as Val
 use Rattle.handler.specs
@@ -35,7 +35,7 @@ lent_rest s n = take_all (length s - n) (drop n s) (rw length-drop (omega arith)
 
 -- a link header has 14 octets, or 18 with a tag
 pub link_sized : (vlan : ℕ) → (14 ≤ link_size vlan) × (link_size vlan ≤ 18)
-link_sized vlan = by-test (eqb vlan 0) (λ e. rw e (omega arith)) (λ e. rw e (omega arith))
+link_sized vlan = by_test (eqb vlan 0) (λ e. rw e (omega arith)) (λ e. rw e (omega arith))
 
 -- the parts of a conjunction that holds, for `search` to go down into
 pub ruleset parts = (and_left, and_right)
@@ -133,7 +133,7 @@ module _ (f : List ℕ) (h : Header) (area : List ℕ) where
 module _ (f : List ℕ) (h : Header) (read : read_frame f ≡ Trill h) (small : (i : ℕ) → Val.Fits w8 (get_or f i 0)) where
   nicknames : octets16 h.egress ++ octets16 h.ingress ≡ part f (h.place + 2) 4
   nicknames =
-      let is = frame-read f h read in
+      let is = frame_read f h read in
       let from = h.place + 2 in
       let next : h.place + 4 ≡ from + 2 = omega arith in
       let one = ap octets16 is.its_egress ∙ octets16_be16 f from (λ i. omega (arith, small i)) (omega (arith, is.whole)) in
@@ -169,7 +169,7 @@ module _ (area f : List ℕ) (h : Header) (d : List ℕ) (at : ℕ) (fits : Fits
       → Wrote (fitting d2 there (take (length f - inner) (drop inner f))) there end d2 d3 → Wrote (rest_with area f h) at end d d3
   with_written d1 d2 d3 here there inner words end ew ei p q r =
       let long = rest_long f h area in
-      let six = header_long f h (frame-read f h fits.read).whole (length area / 4) in
+      let six = header_long f h (frame_read f h fits.read).whole (length area / 4) in
       let head = header_sent f h (length area / 4) in
       let two = copied_on (rw ew at p) q refl (omega (arith, fits.room, long, six)) in
       rw (rest_is f h fits.read small area)
@@ -197,10 +197,10 @@ module _ (f : List ℕ) (h : Header) (d : List ℕ) (at : ℕ) (fits : Fits (are
 
 module _ {area f : List ℕ} {h : Header} {d : List ℕ} {at : ℕ} (fits : Fits area f h d at) where
   pub fits_near : h.place ≤ 18
-  fits_near = omega (arith, (frame-read f h fits.read).its_place, link-length f)
+  fits_near = omega (arith, (frame_read f h fits.read).its_place, link_length_lem f)
 
   pub fits_whole : h.place + 6 ≤ length f
-  fits_whole = (frame-read f h fits.read).whole
+  fits_whole = (frame_read f h fits.read).whole
 
   pub fits_header : at + 6 ≤ length d
   fits_header = omega (arith, fits.room, rest_long f h area)

@@ -23,8 +23,8 @@ use rules.declared.{NextHop.NextHop, Header.Header, Ruling.Ruling, Alert.Alert, 
 use rules.declared.Ruling.TheVariants.{Found, Absent}
 use rules.declared.Alert.TheVariants.{NoAlert, AlertFault, AlertErr, AlertRequest}
 use rules.declared.ChannelRead.TheVariants.{Fault, BadErr, ErrorHeard, BadEcho, EchoHeard, EchoRequest}
-use Rattle.rules.proofs.{TestLaws.by-test, OctetLaws.put-none, OctetLaws.put_front}
-use Rattle.rules.proofs.HandlingLaws.{echo_ranged, channel_echo, routed-egress, routed-transit}
+use Rattle.rules.proofs.{TestLaws.by_test, OctetLaws.put_none, OctetLaws.put_front}
+use Rattle.rules.proofs.HandlingLaws.{echo_ranged, channel_echo, routed_egress, routed_transit}
 use Rattle.handler.specs
 use specs.declared.answers.{Refusal.Refusal, Answer.Answer}
 use specs.declared.answers.Refusal.TheVariants.{Refused, Passed}
@@ -141,7 +141,7 @@ pub ruleset local_laws = (rules, local_dropped, local_answered, local_message, e
 
 -- with nothing beside it
 pub both_of : {a : A.Handled} {r : Answer} {out out1 : List ℕ} (beside : List ℕ) → Done a r out out1 → Both a r out out1 beside beside
-both_of beside d = record { answer = d.answer; after = d.after; after_beside = rw d.alone (sym (put-none beside 0)) }
+both_of beside d = record { answer = d.answer; after = d.after; after_beside = rw d.alone (sym (put_none beside 0)) }
 
 numbered : {a : A.Handled} {r : Answer} {out out1 : List ℕ} → Done a r out out1 → r.number ≡ a.number
 numbered d = ap (λ (x : Answer). x.number) d.answer
@@ -187,25 +187,25 @@ nil_octet i = get_or-eq_default [] 0 {n = i} (omega arith)
 module _ (S : Ways) (clock f : List ℕ) (h : Header) (none : op_length h.word ≡ 0) where
   pub none_read : area_read S (area_of f h) ≡ WellFormed
   unfolding area_read extension_read flag_unsummarized summary_bare
-  none_read = rw (area_none f h none) (by-test S.rfc7179 (λ e. simp (e, nil_octet)) (λ e. rw e (sym (area_short [] (omega arith)))))
+  none_read = rw (area_none f h none) (by_test S.rfc7179 (λ e. simp (e, nil_octet)) (λ e. rw e (sym (area_short [] (omega arith)))))
 
   pub none_stops : (egress : Bool) → area_stops S egress (area_of f h) ≡ false
   unfolding area_stops extension_stops draft_stops
-  none_stops egress = rw (area_none f h none) (by-test S.rfc7179 (λ e. simp (e, nil_octet)) (λ e. simp (e, nil_octet)))
+  none_stops egress = rw (area_none f h none) (by_test S.rfc7179 (λ e. simp (e, nil_octet)) (λ e. simp (e, nil_octet)))
 
   pub none_alert : alert_of S f h ≡ NoAlert
   unfolding alert_of
-  none_alert = rw (area_none f h none) (by-test S.rfc7179 (λ e. simp (e, nil_octet)) (λ e. rw e))
+  none_alert = rw (area_none f h none) (by_test S.rfc7179 (λ e. simp (e, nil_octet)) (λ e. rw e))
 
   module _ (nickname : ℕ) (named : nickname ≡ S.nickname) (egress : Bool) (e : egress ≡ we_are_egress nickname h) (r : Answer) (out out1 : List ℕ) where
     pub plain_egress : egress ≡ true → (local : Local) → Comes f h local → Done (local_at S clock f h local) r out out1 → Done (routed S clock f h) r out out1
     plain_egress t local x d =
-        rw (routed-egress S clock f h none_read (none_stops (we_are_egress S.nickname h)) (cc), x.same S clock) d
+        rw (routed_egress S clock f h none_read (none_stops (we_are_egress S.nickname h)) (cc), x.same S clock) d
 
     pub plain_transit : egress ≡ false → Done (transit_quiet S f h NoAlert) r out out1 → Done (routed S clock f h) r out out1
     unfolding transit transit_quiet alerted
     plain_transit t d =
-        rw (routed-transit S clock f h none_read (none_stops (we_are_egress S.nickname h)) (cc))
+        rw (routed_transit S clock f h none_read (none_stops (we_are_egress S.nickname h)) (cc))
         (by_hop (S.hop h.egress) (λ q. rw (transit, q) (rw (transit_quiet, q) at d)) (λ hop q. rw (transit, q, none_alert) (rw (transit_quiet, q) at d)))
 
 -- and to us
@@ -214,7 +214,7 @@ pub arrives_plain : (rfc7179 : Bool) (f : List ℕ) (h : Header) (n : ℕ) → n
 arrives_plain rfc7179 f h n is z local x =
     record {
       same = λ S clock ours two.
-          routed-egress S clock f h (none_read S clock f h (sym is ∙ z)) (none_stops S clock f h (sym is ∙ z) (we_are_egress S.nickname h)) ours
+          routed_egress S clock f h (none_read S clock f h (sym is ∙ z)) (none_stops S clock f h (sym is ∙ z) (we_are_egress S.nickname h)) ours
           ∙ x.same S clock;
       ends = x.ends;
     }
@@ -245,7 +245,7 @@ module _ (S : Ways) (clock f : List ℕ) (h : Header) (P : A.Handled → A.Handl
   unfolding onward alerted
   by_request lost goes =
       by_transit AlertRequest (lost 21 (omega arith) (omega arith))
-      (λ r. by-test (ltb 2048 (length (forwarded S r f h))) (λ l. rw l (lost 29 (omega arith) (omega arith))) (λ l. rw l (goes r)))
+      (λ r. by_test (ltb 2048 (length (forwarded S r f h))) (λ l. rw l (lost 29 (omega arith) (omega arith))) (λ l. rw l (goes r)))
 
 -- an alert that asks for no reply
 module _ (S : Ways) (clock f : List ℕ) (h : Header) where
@@ -291,7 +291,7 @@ module _ (S : Ways) (clock f : List ℕ) (h : Header) where
     fault_so (AlertFault code) e r out1 p asks x before =
         by_transit S clock f h (λ quiet over. Done quiet a before out → Both over r before out1 beside beside) (AlertFault code)
         (λ d. absurd (omega (arith, e, numbered d)))
-        (λ hop d. both_of beside (rw (x, d.after ∙ put-none before 0) at p))
+        (λ hop d. both_of beside (rw (x, d.after ∙ put_none before 0) at p))
     fault_so AlertErr e r out1 p asks x before = absurd (true≢false (sym asks))
     fault_so AlertRequest e r out1 p asks x before =
         by_request S clock f h (λ quiet over. Done quiet a before out → Both over r before out1 beside beside)
@@ -443,13 +443,13 @@ Bare a = answer_of a ≡ wrote_by a.number (length a.octets) a.via
 message_bare : (S : Ways) (clock f : List ℕ) (h : Header) (c : ChannelRead) → Bare (channelled S clock f h c)
 unfolding channelled faulted echoed
 message_bare S clock f h (Fault code) =
-    by-test (silenced code (inner_of f h)) (λ t. rw t refl) (λ t. by_hop (return_path S h.ingress) (λ q. rw (t, q) refl) (λ r q. rw (t, q) refl))
+    by_test (silenced code (inner_of f h)) (λ t. rw t refl) (λ t. by_hop (return_path S h.ingress) (λ q. rw (t, q) refl) (λ r q. rw (t, q) refl))
 message_bare S clock f h BadErr = refl
 message_bare S clock f h ErrorHeard = refl
 message_bare S clock f h BadEcho = refl
 message_bare S clock f h EchoHeard = refl
 message_bare S clock f h EchoRequest =
-    by-test (not (eqb (reply_mode (body_of (inner_of f h))) 2)) (λ t. rw t refl)
+    by_test (not (eqb (reply_mode (body_of (inner_of f h))) 2)) (λ t. rw t refl)
     (λ t. by_hop (return_path S h.ingress) (λ q. rw (t, q) refl) (λ r q. rw (t, q) refl))
 
 -- what is lent in a copy, or lent on

@@ -17,23 +17,23 @@ use rules.{Octets.part, Campus.known}
 use rules.Fields.{hop_size, field, cut, field_at, fields_at, length_good}
 use rules.Settings.{hop_good, hop_of, Settings, serial_met, with_field, opens, opened, continues, settings_from, settings_of}
 use Rattle.rules.proofs as rule_laws
-use rule_laws.TestLaws.{and_no, or_no, or_yes, by-test, by_equal, by_order}
+use rule_laws.TestLaws.{and_no, or_no, or_yes, by_test, by_equal, by_order}
 use Rattle.octets.specs.Flags.{flag_by}
 use Rattle.octets.proofs.FlagLaws.{flag_continues}
 use Rattle.handler.specs
 use specs.Ranks.{rank_of, mix_of, slot_by, mark_by, marked_by, covers_by, rank_met, ranks_in, ranks_met, with_rank, ranks_with}
 use specs.Ranks.{Kept, hop_taken, field_taken, Taking, Verdict}
-use rule_laws.FieldLaws.{field_read, fields-at-end, fields-at-cut, fields-at-on}
+use rule_laws.FieldLaws.{field_read, fields_at_end, fields_at_cut, fields_at_on}
 use rules.declared.{NextHop.NextHop, FieldRead.FieldRead}
 use rules.declared.FieldRead.TheVariants.{Taken, Cut}
-use rule_laws.{SettingsLaws.from_on, SettingsLaws.from-bad, Taken.taken}
-use rule_laws.FirstLaws.{continues-cut, first, settings-open}
+use rule_laws.{SettingsLaws.from_on, SettingsLaws.from_bad, Taken.taken}
+use rule_laws.FirstLaws.{continues_cut, first, settings_open}
 
 -- the ranks among the fields from a place on, by the field there
 module _ (s : List ℕ) (at : ℕ) where
   ranks_none : at < length s → field_at s at ≡ Cut → ranks_in (fields_at s at) ≡ []
   unfolding ranks_in
-  ranks_none h c = rw (fields-at-cut s at h c)
+  ranks_none h c = rw (fields_at_cut s at h c)
 
   module _ (tag size next : ℕ) (t : field_at s at ≡ Taken tag size next) where
     abbrev value : List ℕ
@@ -43,7 +43,7 @@ module _ (s : List ℕ) (at : ℕ) where
     fields_next =
         let i = field_read s at tag size next t in
         let the_size : next - (at + 3) ≡ size = omega (arith, i) in
-        rw the_size (fields-at-on s at tag size next (omega (arith, i)) t)
+        rw the_size (fields_at_on s at tag size next (omega (arith, i)) t)
 
     ranks_hop : tag ≡ 2 → ranks_in (fields_at s at) ≡ rank_of (hop_of value) ∷ ranks_in (fields_at s next)
     unfolding ranks_in
@@ -67,7 +67,7 @@ module _ (s : List ℕ) (from n rank left at : ℕ) (l : Looking s from n rank l
 
   pub look_end : length s ≤ at → false ≡ rank_met rank (ranks_met s from n)
   unfolding rank_met ranks_in
-  look_end h = rw (fields-at-end s at h, take-nil) at l.same
+  look_end h = rw (fields_at_end s at h, take-nil) at l.same
 
   module _ (read : FieldRead) (q : read ≡ field_at s at) where
     pub look_cut : at < length s → read ≡ Cut → false ≡ rank_met rank (ranks_met s from n)
@@ -139,7 +139,7 @@ module _ (met seen : List ℕ) (rank slot mark : ℕ) (k : Kept met seen) (is : 
   -- a slot that shows no such rank
   unshown : covers_by (get_or seen slot 0) mark ≡ false → rank_met rank met ≡ false
   unshown e =
-      by-test (rank_met rank met) (λ yes. absurd (true≢false (sym (k.marked rank yes) ∙ (rw (is, made) at e)))) (λ unmet. unmet)
+      by_test (rank_met rank met) (λ yes. absurd (true≢false (sym (k.marked rank yes) ∙ (rw (is, made) at e)))) (λ unmet. unmet)
 
   more_kept : Kept (met ++ (rank ∷ [])) seen'
   more_kept =
@@ -234,9 +234,9 @@ agree_more hops met v a =
 agree_with : (T : Settings) (tag : ℕ) (v met : List ℕ) → Agree T.hops met → Agree (with_field T (field tag v)).hops (ranks_with met tag v)
 unfolding with_field ranks_with
 agree_with T tag v met a =
-    by-test (eqb tag 2)
+    by_test (eqb tag 2)
     (λ e. rw e (agree_more T.hops met v a))
-    (λ e. by-test (eqb tag 3) (λ f. rw (e, f) a) (λ f. by-test (eqb tag 6) (λ g. rw (e, f, g) a) (λ g. rw (e, f, g) a)))
+    (λ e. by_test (eqb tag 3) (λ f. rw (e, f) a) (λ f. by_test (eqb tag 6) (λ g. rw (e, f, g) a) (λ g. rw (e, f, g) a)))
 
 module _ (T : Settings) (v met : List ℕ) (n : ℕ) where
   continues_hop : length T.hops ≡ n → serial_met (hop_of v) T.hops ≡ rank_met (rank_of (hop_of v)) met → continues T (field 2 v) ≡ field_taken met n 2 v
@@ -285,13 +285,13 @@ module _ {s : List ℕ} {from : ℕ} {seen : List ℕ} {n at : ℕ} (j : Validat
 
   pub ends : length s ≤ at → Verdict s from true
   unfolding settings_from
-  ends h T e = let w = j.rest T e in rw (← w.decides, fields-at-end s at h)
+  ends h T e = let w = j.rest T e in rw (← w.decides, fields_at_end s at h)
 
   module _ (h : at < length s) {read : FieldRead} (q : read ≡ field_at s at) where
     pub cut_off : read ≡ Cut → Verdict s from false
     cut_off c T e =
         let w = j.rest T e in
-        rw (← w.decides, fields-at-cut s at h (sym q ∙ c), from-bad w.read cut [] (continues-cut w.read))
+        rw (← w.decides, fields_at_cut s at h (sym q ∙ c), from_bad w.read cut [] (continues_cut w.read))
 
     module _ {tag size next : ℕ} (taken : read ≡ Taken tag size next) where
       abbrev v : List ℕ
@@ -306,7 +306,7 @@ module _ {s : List ℕ} {from : ℕ} {seen : List ℕ} {n at : ℕ} (j : Validat
       pub stops : field_taken met n tag v ≡ false → Verdict s from false
       stops g T e =
           let w = j.rest T e in
-          rw (← w.decides, on, from-bad w.read (field tag v) (fields_at s next) (validated_so T e g))
+          rw (← w.decides, on, from_bad w.read (field tag v) (fields_at s next) (validated_so T e g))
 
       rest_on : field_taken met n tag v ≡ true → (T : Settings) → T.hops ≡ [] → Rest s (settings_from T (fields_at s from)) (ranks_with met tag v) next
       rest_on g T e =
@@ -361,4 +361,4 @@ module _ (s : List ℕ) {tag size next : ℕ} (e : field_at s 0 ≡ Taken tag si
   unfolding opened
   settings_so r o d =
       let f = field tag (part s 3 (next - 3)) in
-      rw (settings-open s f (fields_at s next) (first s e) o) (d (opened f) refl)
+      rw (settings_open s f (fields_at s next) (first s e) o) (d (opened f) refl)

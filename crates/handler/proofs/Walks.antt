@@ -14,8 +14,8 @@ use rules.Octets.{be16, part, put}
 use rules.Options.{Taken, Fault, TlvOption, Options, options, fault, key_of, length_of, option_size, option_first, option_at, options_from, options_of}
 use rules.Options.{some_key, ie, hop_by_hop_critical, ingress_to_egress_critical, chbh, cite, summarized, draft_read, draft_stops}
 use rules.Options.{strippable, octets_of}
-use Rattle.rules.proofs.TestLaws.{by-test, and_left, and_no, and_yes, or_no, or_assoc, apart}
-use Rattle.rules.proofs.OctetLaws.{length_part, length-put, be16_part}
+use Rattle.rules.proofs.TestLaws.{by_test, and_left, and_no, and_yes, or_no, or_assoc, apart}
+use Rattle.rules.proofs.OctetLaws.{length_part, length_put, be16_part}
 use Rattle.rules.proofs.OptionLaws.{option_reserved, option_past, option_below, option_equal, option_taken, option_read, options_end, options_fault}
 use Rattle.rules.proofs.OptionLaws.{options_on, walk_laid, kept_nothing, kept_not, kept_too, stripped_is, stripped_word}
 use Rattle.octets.specs.Copy.{Wrote, fitting}
@@ -110,7 +110,7 @@ sent_first : (strip : Bool) (o : TlvOption) (os : List TlvOption)
     → octets_of (options_sent strip (o ∷ os)) ≡ sent_if (strip && strippable o.key o.size) o.octets ++ octets_of (options_sent strip os)
 unfolding octets_of
 sent_first false o os = refl
-sent_first true o os = by-test (strippable o.key o.size) (λ e. rw (kept_not o os e, e)) (λ e. rw (kept_too o os e, e))
+sent_first true o os = by_test (strippable o.key o.size) (λ e. rw (kept_not o os e, e)) (λ e. rw (kept_too o os e, e))
 
 sent_none : (strip : Bool) → octets_of (options_sent strip []) ≡ []
 unfolding octets_of
@@ -334,9 +334,9 @@ pub ruleset summarized_laws = (rules, summed_hop, summed_egress, summed_whole)
 summed_read : (area : List ℕ) (read : AreaRead) (c : Cursor) → summarized_by area read ≡ Read c → read ≡ Read c
 summed_read area (Faulty m q) c e = e
 summed_read area (Read d) c e =
-    by-test (d.hop && not (chbh area))
+    by_test (d.hop && not (chbh area))
     (λ t. apart cc)
-    (λ t. by-test (d.egress && not (cite area)) (λ u. apart cc) (λ u. cc))
+    (λ t. by_test (d.egress && not (cite area)) (λ u. apart cc) (λ u. cc))
 
 summed_is : (strip : Bool) (area written : List ℕ) (read : AreaRead) (o : Options) → found_by written read ≡ walk_of strip false false [] o
     → area_read_of (summarized_by area read) ≡ summarized area o
@@ -345,9 +345,9 @@ summed_is strip area written (Faulty m q) (fault n p) e = cc
 summed_is strip area written (Faulty m q) (options os) e = apart cc
 summed_is strip area written (Read c) (fault n p) e = apart cc
 summed_is strip area written (Read c) (options os) e =
-    by-test (c.hop && not (chbh area))
+    by_test (c.hop && not (chbh area))
     (λ t. cc)
-    (λ t. by-test (c.egress && not (cite area)) (λ u. cc) (λ u. cc))
+    (λ t. by_test (c.egress && not (cite area)) (λ u. cc) (λ u. cc))
 
 -- an area of one word, or none, has no option
 pub area_short : (area : List ℕ) → length area ≤ 4 → O.WellFormed ≡ draft_read area
@@ -356,7 +356,7 @@ area_short area h = rw (options_end (length area) area 0 4 h)
 
 module _ (strip : Bool) (area : List ℕ) (h : length area ≤ 4) where
   short_sent : sent_of strip area ≡ area
-  short_sent = by-test strip (λ e. rw e (stripped_word area h)) (λ e. rw e)
+  short_sent = by_test strip (λ e. rw e (stripped_word area h)) (λ e. rw e)
 
   pub short_kept : (kept kept' : List ℕ) (r : AreaRead) → AllKept area kept kept' r → AreaKept strip area kept kept' r
   short_kept kept kept' r x =
@@ -374,7 +374,7 @@ all_kept area kept kept' is words wide =
     record {
       read = refl;
       wrote = λ c e. rw (← read_same e) (record { ends = omega arith; after = is });
-      wide = rw is (length-put kept 0 area (omega (arith, words.few)) ∙ wide);
+      wide = rw is (length_put kept 0 area (omega (arith, words.few)) ∙ wide);
     }
 
 pub ruleset keep_all_laws = (rules, all_kept)
@@ -407,7 +407,7 @@ module _ (strip : Bool) (area : List ℕ) (h : 4 < length area) where
   area_sent_lem : (os : List TlvOption) → options_of area ≡ options os → sent_of strip area ≡ take 4 area ++ octets_of (options_sent strip os)
   unfolding options_of
   area_sent_lem os is =
-      by-test strip
+      by_test strip
       (λ e. rw e (stripped_is area os is))
       (λ e. rw (e, ← (walk_laid (suc (length area)) area 0 4 os (omega arith) (omega arith) is).1, take-append-drop))
 
@@ -418,7 +418,7 @@ module _ (strip : Bool) (area : List ℕ) (h : 4 < length area) where
   word_lent = sym word_long
 
   pub word_wide : (kept kept1 : List ℕ) → kept1 ≡ put kept 0 (take 4 area) → length kept ≡ 124 → length kept1 ≡ 124
-  word_wide kept kept1 first wide = rw first (length-put kept 0 (take 4 area) (omega (arith, word_long)) ∙ wide)
+  word_wide kept kept1 first wide = rw first (length_put kept 0 (take 4 area) (omega (arith, word_long)) ∙ wide)
 
   pub area_kept : (kept kept1 kept2 : List ℕ) (read r : AreaRead) → AreaWalked strip area kept1 kept2 read → kept1 ≡ put kept 0 (take 4 area)
       → r ≡ summarized_by area read → AreaKept strip area kept kept2 r

@@ -14,7 +14,7 @@ use rules.{Link.link, WayOut.way_out_by, WayOut.way_out}
 use rules.Settings.{Ways, ways_of, settings_read}
 use rules.declared.NextHop.{NextHop}
 use rules.declared.Ruling.TheVariants.{Found, Absent}
-use Rattle.rules.proofs.{OctetLaws.put-none, FrameLaws.length-link, FrameLaws.link-most}
+use Rattle.rules.proofs.{OctetLaws.put_none, FrameLaws.length_link, FrameLaws.link_most}
 use Rattle.octets.specs.Copy.{Wrote}
 use Rattle.handler.specs
 use specs.declared.validation.Validated.{Validated}
@@ -32,15 +32,15 @@ module _ (t : Lookup) (out : List ℕ) where
 
   pub out_none : (r : WayOut) → r ≡ record { number = 21; length = 0 } → t.hop ≡ Absent → WayDone asked r out out
   unfolding way_out_by
-  out_none r is e = rw (way_out_by, e) (record { answer = is; after = sym (put-none out 0) })
+  out_none r is e = rw (way_out_by, e) (record { answer = is; after = sym (put_none out 0) })
 
   module _ (q : NextHop) (e : t.hop ≡ Found q) (n : ℕ) (size : n ≡ link_size q.vlan) where
     long : length (link (ways_by t) q) ≡ n
-    long = length-link (ways_by t) q ∙ sym size
+    long = length_link (ways_by t) q ∙ sym size
 
     pub out_short : (r : WayOut) → r ≡ record { number = 2; length = 0 } → length out < n → WayDone asked r out out
     unfolding way_out_by
-    out_short r is h = rw (way_out_by, e, long, lt-ltb (length out) n h) (record { answer = is; after = sym (put-none out 0) })
+    out_short r is h = rw (way_out_by, e, long, lt-ltb (length out) n h) (record { answer = is; after = sym (put_none out 0) })
 
     pub out_written : n ≤ length out → (k : ℕ) (out1 : List ℕ) → Wrote (link (ways_by t) q) 0 k out out1
         → WayDone asked (record { number = 0; length = k }) out out1
@@ -48,7 +48,7 @@ module _ (t : Lookup) (out : List ℕ) where
     out_written h k out1 w = rw (way_out_by, e, w.ends, zero-add, long, le-ltb (length out) n h) (record { answer = rw long; after = w.after })
 
 pub out_fits : (S : Ways) (q : NextHop) (k : ℕ) (out out1 : List ℕ) → Wrote (link S q) 0 k out out1 → k < 4294967296
-out_fits S q k out out1 w = omega (arith, link-most S q)
+out_fits S q k out out1 w = omega (arith, link_most S q)
 
 pub ruleset way_out_laws = (rules, out_none, out_short, out_written, out_fits)
 
@@ -64,7 +64,7 @@ module _ (t : Lookup) (d : ℕ) (S : Ways) (said : ways_by t ≡ only_for d S) (
 module _ (settings : List ℕ) (d : ℕ) (out : List ℕ) (j : Validated) (is : ValidatedBy settings d j) (r : WayOut) where
   pub settings_no_way : not j.good ≡ true → r ≡ record { number = 1; length = 0 } → WayDone (way_out settings d (length out)) r out out
   unfolding way_out
-  settings_no_way n e = rw (way_out, settings_none settings d j is n) (record { answer = e; after = sym (put-none out 0) })
+  settings_no_way n e = rw (way_out, settings_none settings d j is n) (record { answer = e; after = sym (put_none out 0) })
 
   pub settings_way : not j.good ≡ false → (own : Own) → Owns own (ways_of (settings_read settings)) → (t : Lookup) → t ≡ lookup_by own j
       → (out' : List ℕ) → WayDone (way_out_by (ways_by t) 0 (length out)) r out out' → WayDone (way_out settings d (length out)) r out out'
@@ -79,7 +79,7 @@ store_whole store {ok} is n = good_whole store (sym is ∙ not-false ok n)
 module _ (store : List ℕ) (d : ℕ) (out : List ℕ) {ok : Bool} (is : ok ≡ store_good store) (r : WayOut) where
   pub store_no_way : not ok ≡ true → r ≡ record { number = 1; length = 0 } → WayDone (way_out_in store d (length out)) r out out
   unfolding way_out_in
-  store_no_way n e = rw (← is, not-true ok n) (record { answer = e; after = sym (put-none out 0) })
+  store_no_way n e = rw (← is, not-true ok n) (record { answer = e; after = sym (put_none out 0) })
 
   pub store_way : not ok ≡ false → (t : Lookup) (out' : List ℕ) → WayDone (way_out_by (ways_by t) 0 (length out)) r out out'
       → ways_by t ≡ only_for d (ways_in store) → WayDone (way_out_in store d (length out)) r out out'

@@ -11,7 +11,7 @@ use mir.Val.{Fits}
 use lib.Seq.{paste, paste-zero, paste-suc, take-length, take_all, take-add, length-take-le}
 use lib.ListN.{length, get_or, set, take, drop, replicate, length-append, length-take, length-drop, length-replicate}
 use lib.ListN.{take-append-drop, drop_of_length-le, get_or-eq_default}
-use Rattle.rules.proofs.{TestLaws.tests, OctetLaws.put-none, OctetLaws.put-put, OctetLaws.put_tail, OctetLaws.put_front, OctetLaws.length-put}
+use Rattle.rules.proofs.{TestLaws.tests, OctetLaws.put_none, OctetLaws.put_put, OctetLaws.put_tail, OctetLaws.put_front, OctetLaws.length_put}
 use Rattle.rules.specs.Octets.{octet, be16, be32, be48, octets16, octets48, put}
 use Rattle.octets.specs.Copy.{Wrote, fitting}
 use Rattle.octets.proofs.Bits.{swapped_octets}
@@ -143,7 +143,7 @@ pub ruleset swap64_laws = (rules, swapped_made)
 
 -- nothing written
 pub wrote_none : (out : List ℕ) (at : ℕ) → Wrote [] at at out out
-wrote_none out at = record { ends = sym (add-zero at); after = sym (put-none out at) }
+wrote_none out at = record { ends = sym (add-zero at); after = sym (put_none out at) }
 
 module _ (out : List ℕ) (at : ℕ) (s : List ℕ) where
   pub fits_all : at + length s ≤ length out → fitting out at s ≡ s
@@ -172,11 +172,11 @@ pub copied : {out out' s t : List ℕ} {at end : ℕ} → Wrote (fitting out at 
 copied {out} {t = t} {at = at} w e h = rw (e, fits_all out at t h) at w
 
 pub wrote_long : {out out' s : List ℕ} {at end : ℕ} → Wrote s at end out out' → end ≤ length out → length out' ≡ length out
-wrote_long {out} {s = s} {at = at} w h = rw w.after (length-put out at s (omega arith))
+wrote_long {out} {s = s} {at = at} w h = rw w.after (length_put out at s (omega arith))
 
 pub joined : {out mid out' s t : List ℕ} {at here end : ℕ} → Wrote s at here out mid → Wrote t here end mid out' → Wrote (s ++ t) at end out out'
 joined {out} {s = s} {t = t} {at = at} {here = here} a b =
-    record { ends = rw length-append (omega arith); after = b.after ∙ rw a.after (put-put out at s here t a.ends) }
+    record { ends = rw length-append (omega arith); after = b.after ∙ rw a.after (put_put out at s here t a.ends) }
 
 pub copied_on : {out mid out' s t u : List ℕ} {at here end : ℕ} → Wrote s at here out mid → Wrote (fitting mid here u) here end mid out' → u ≡ t
     → at + (length s + length t) ≤ length out → Wrote (s ++ t) at end out out'
@@ -208,13 +208,13 @@ pub ruleset block_laws = (rules, block_through)
 -- a loop that copies parts of one size: `out` has the first i octets of `s` in it from `at` on
 module _ (d : List ℕ) (at : ℕ) (s : List ℕ) where
   pub parts_begin : d ≡ put d at (take 0 s)
-  parts_begin = sym (put-none d at)
+  parts_begin = sym (put_none d at)
 
   module _ (i : ℕ) (out : List ℕ) (is : out ≡ put d at (take i s)) (out' : List ℕ) where
     pub parts_on : (n : ℕ) → i ≤ length s → out' ≡ put out (at + i) (take (i + n - i) (drop i s)) → out' ≡ put d at (take (i + n) s)
     parts_on n h e =
         let size : i + n - i ≡ n = omega arith in
-        rw (e, is, size, take-add i n s) (put-put d at (take i s) (at + i) (take n (drop i s)) (rw (length-take-le i s h)))
+        rw (e, is, size, take-add i n s) (put_put d at (take i s) (at + i) (take n (drop i s)) (rw (length-take-le i s h)))
 
     -- the last one is written over the end of what is there
     pub parts_end : (last : ℕ) → out' ≡ put out (at + last) (take (length s - last) (drop last s)) → last ≤ i → i ≤ length s

@@ -9,7 +9,7 @@ use borrow.Author.Tests.{le-ltb}
 use Rattle.rules.specs.{Octets.octet, Octets.be16, Octets.be32, Fields.field_at}
 use Rattle.rules.specs.{Header.read_frame, Link.link_length, Link.ethertype_trill}
 use Rattle.rules.specs.declared.{FrameRead.TheVariants.Trill, FieldRead.TheVariants.Taken}
-use Rattle.rules.proofs.{FieldLaws.field_at_laws, FrameLaws.read_frame_laws, FrameLaws.read-trill, FrameLaws.length-plain}
+use Rattle.rules.proofs.{FieldLaws.field_at_laws, FrameLaws.read_frame_laws, FrameLaws.read_trill, FrameLaws.length_plain}
 use Rattle.octets.specs.Words.{be64, le64, low_first}
 
 -- two numbers of four octets, or four of two
@@ -41,8 +41,8 @@ pub read_untagged : (f : List ℕ) (n : ℕ) → n ≡ be64 f 12 → 20 ≤ leng
     → Trill (record { place = 14; word = n / 4294967296 % 65536; egress = n / 65536 % 65536; ingress = n % 65536 }) ≡ read_frame f
 read_untagged f n is long trill =
     let ether : ethertype_trill ≡ be16 f 12 = sym trill ∙ first_part f 12 n is in
-    let plain : 14 ≡ link_length f = length-plain f ethertype_trill ether (omega arith) in
-    read-trill f 14 plain (omega arith) (omega arith) ethertype_trill refl ether (n / 4294967296 % 65536) (n / 65536 % 65536) (n % 65536) long
+    let plain : 14 ≡ link_length f = length_plain f ethertype_trill ether (omega arith) in
+    read_trill f 14 plain (omega arith) (omega arith) ethertype_trill refl ether (n / 4294967296 % 65536) (n / 65536 % 65536) (n % 65536) long
     (second_part f 12 n is) (third_part f 12 n is) (last_part f 12 n is)
 
 pub ruleset read_laws = (read_untagged, read_frame_laws)

@@ -16,7 +16,7 @@ use borrow.Rule.Slice.PartMut.{put_mid, post_of, Post-is}
 use lib.Seq.{drop_at, drop-length, take_all, take-length, length-take-le, sets-eq}
 use Rattle.rules.specs.Octets.{be48, octets48, put}
 use Rattle.rules.specs.{Settings.Settings, Settings.settings_of, Answer.Handled, Answer.dropped}
-use Rattle.rules.proofs.{TestLaws.tests, OctetLaws.put-none}
+use Rattle.rules.proofs.{TestLaws.tests, OctetLaws.put_none}
 use Rattle.octets.specs.Copy.{Wrote, fitting}
 use Rattle.octets.proofs.Ends.{six_octets, copied}
 use Rattle.handler.specs.{Shapes.answer_of, Tasks.Both}
@@ -170,7 +170,7 @@ module _ (w g : List ℕ) (room beside_room : ℕ) (a : 168 ≤ length w) where
 
 module _ (a : Mark) (w' out beside : List ℕ) (r : Answer) where
   pub mark_drops : (n : ℕ) → r ≡ answer_of (dropped n) → a ≡ marking (dropped n) w' → MarkDone a r w' out out beside beside
-  mark_drops n e m = rw m (record { both = record { answer = e; after = sym (put-none out 0); after_beside = sym (put-none beside 0) }; words = refl })
+  mark_drops n e m = rw m (record { both = record { answer = e; after = sym (put_none out 0); after_beside = sym (put_none beside 0) }; words = refl })
 
   pub mark_handles : (h : Handled) (out' beside' : List ℕ) → Both h r out out' beside beside' → a ≡ marking h w' → MarkDone a r w' out out' beside beside'
   mark_handles h out' beside' both m = rw m (record { both = both; words = refl })

@@ -11,7 +11,7 @@ use lib.ListN.{length, get_or, set, take, drop, replicate, length-append, length
 use lib.Seq.{take_at, get_or-set_same, get_or-set_other, drop-set-lt, get_or-take}
 use Rattle.rules.specs.{Octets.be48, Octets.octets48, Octets.put, Handling.handled}
 use Rattle.rules.specs.Settings.{Settings, ways_of, settings_of}
-use Rattle.rules.proofs.{TestLaws.by_order, TestLaws.by_equal, TestLaws.tests, HandlingLaws.settings_good, HandlingLaws.frame-long, OctetLaws.length-put}
+use Rattle.rules.proofs.{TestLaws.by_order, TestLaws.by_equal, TestLaws.tests, HandlingLaws.settings_good, HandlingLaws.frame_long, OctetLaws.length_put}
 use Rattle.stores.specs.Store.{store_words, preparing, handled_in}
 use Rattle.reader.specs
 use specs.Bursts.{settings_bad, start_refusal, Started, Burst, burst, gathered_handled, Mark, mark}
@@ -121,7 +121,7 @@ module _ (start : ℕ) (small : start < 64) (u : List ℕ) where
           says = sym zero;
           holds =
               word_set 1 (length s + length b) (omega arith) (omega arith) (put h (length s) b) (s ++ b)
-              (rw (length-put h (length s) b (omega (arith, k.lent, l))) k.lent)
+              (rw (length_put h (length s) b (omega (arith, k.lent, l))) k.lent)
               (get_or-set_other v 1 2 (length s + length b) 0 (omega arith) ∙ k.early ∙ e ∙ sym zero)
               (λ none. (
                 get_or-set_same v 1 (length s + length b) 0 (omega (arith, k.long)) ∙ sym l,
@@ -221,7 +221,7 @@ module _ (l : Life) where
         by_order 2048 (length f)
         (λ h. simp (early_at, tests)
         (sym (settings_good l.settings l.clock room beside_room f S.0 S.1
-        ∙ frame-long (ways_of S.0) l.clock room beside_room f good.1 r r2 h)))
+        ∙ frame_long (ways_of S.0) l.clock room beside_room f good.1 r r2 h)))
         (λ h. simp (early_at, tests))
 
   -- the mark, over words and a buffer that hold the octets

@@ -48,10 +48,10 @@ module _ (l m : List Settings) (alike : (n : ℕ) → Both (switch_named l n) (s
     unfolding trace_octets
     same_more a b s = record { count = ap suc s.count; trace = rw (entry_same, s.trace) }
 
-  pub run-alike : (fuel i n : ℕ) (kind : Kind) (f : List ℕ) (q : List Waiting) → Same (run_from fuel i l clock n kind f q) (run_from fuel i m clock n kind f q)
+  pub run_alike : (fuel i n : ℕ) (kind : Kind) (f : List ℕ) (q : List Waiting) → Same (run_from fuel i l clock n kind f q) (run_from fuel i m clock n kind f q)
   unfolding rest
-  run-alike zero i n kind f q = simp run_none same_none
-  run-alike (suc fuel) i n kind f q =
+  run_alike zero i n kind f q = simp run_none same_none
+  run_alike (suc fuel) i n kind f q =
       by_both (switch_named l n) (switch_named m n) (alike n)
       (λ x y. simp run_unknown same_none)
       (λ S T x y e.
@@ -61,5 +61,5 @@ module _ (l m : List Settings) (alike : (n : ℕ) → Both (switch_named l n) (s
       (same_more i S T e kind f _ _
       (elim (next_after l kind q (handling (ways_of S) clock f)) as (λ z. Same (rest l clock fuel i z) (rest m clock fuel i z)) [
         | over ↦ same_none
-        | next n' k g r ↦ run-alike fuel (suc i) n' k g r
+        | next n' k g r ↦ run_alike fuel (suc i) n' k g r
       ])))

@@ -17,7 +17,7 @@ use specs.Settings.{Settings, hop_good, switch_good, switch_of, hop_of, hops_mos
 use specs.Campus.{Described, nothing_yet, switch_named, known, order_good, value_good, switches_most, latest_hops, room_good, field_refusal, on_latest, with_next}
 use specs.Campus.{Description, refused, accepted, described_from, described, clock_of}
 use specs.declared.NextHop.{NextHop}
-use proofs.TestLaws.{tests, apart, by-test, either, IfNone, by_option, and_left, and_right, each_of}
+use proofs.TestLaws.{tests, apart, by_test, either, IfNone, by_option, and_left, and_right, each_of}
 use proofs.RunLaws.{named_member}
 use Rattle.rules.specs
 use Rattle.rules.proofs
@@ -178,9 +178,9 @@ refusal_small d (field tag v) = search (either (λ n. n < 100), leb-true) depth 
 
 from_result : (d : Described) (fs : List Field) → Sound d → ResultSound (described_from d fs)
 unfolding described_from
-from_result d [] s = by-test (known d.entry) (λ k. rw k (s, k)) (λ k. rw k (omega arith))
+from_result d [] s = by_test (known d.entry) (λ k. rw k (s, k)) (λ k. rw k (omega arith))
 from_result d (f ∷ fs) s =
-    by-test (eqb (field_refusal d f) 0)
+    by_test (eqb (field_refusal d f) 0)
     (λ k. rw (described_from, k) (from_result (with_next d f) fs (next_sound d f s (eqb-true (field_refusal d f) 0 k))))
     (λ k. let n = eqb-false (field_refusal d f) 0 k in rw (described_from, k) (omega (arith, refusal_small d f)))
 
@@ -203,9 +203,9 @@ member_some : {A : Type 0} {a : A} {l : List A} → Memᴰ a l → 1 ≤ length 
 member_some (Memᴰ.head e) = omega arith
 member_some (Memᴰ.tail m) = omega arith
 
-pub accepted-good : (file : List ℕ) (d : Described) → described file ≡ accepted d → Accepted d
+pub accepted_good : (file : List ℕ) (d : Described) → described file ≡ accepted d → Accepted d
 unfolding clock_of Clocked Named
-accepted-good file d e =
+accepted_good file d e =
     let t : ResultSound (accepted d) = (rw e at (described_result file)) in
     let s = t.0 in
     by_option d.entry (λ n. apart (cc t.1)) (λ S is.

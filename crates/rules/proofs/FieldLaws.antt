@@ -97,15 +97,15 @@ module _ (s : List ℕ) where
 
   -- so the fields from a place on, without a fuel
   module _ (at : ℕ) where
-    pub fields-at-end : length s ≤ at → fields_at s at ≡ []
-    fields-at-end h = fields_end (length s) s at h
+    pub fields_at_end : length s ≤ at → fields_at s at ≡ []
+    fields_at_end h = fields_end (length s) s at h
 
-    pub fields-at-cut : at < length s → field_at s at ≡ Cut → fields_at s at ≡ cut ∷ []
-    fields-at-cut h e = fields_cut (length s) s at h e
+    pub fields_at_cut : at < length s → field_at s at ≡ Cut → fields_at s at ≡ cut ∷ []
+    fields_at_cut h e = fields_cut (length s) s at h e
 
-    pub fields-at-on : (tag size next : ℕ) → at < length s → field_at s at ≡ Taken tag size next
+    pub fields_at_on : (tag size next : ℕ) → at < length s → field_at s at ≡ Taken tag size next
         → fields_at s at ≡ field tag (part s (at + 3) size) ∷ fields_at s next
-    fields-at-on tag size next h e =
+    fields_at_on tag size next h e =
         let i = field_read s at tag size next e in
         sym (fields_whole at (suc (length s)) (omega arith)) ∙ fields_on (suc (length s)) s at tag size next h e
 

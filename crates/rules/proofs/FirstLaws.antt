@@ -12,17 +12,17 @@ use specs.Fields.{Field, field, cut, field_at, fields_at, fields}
 use specs.Settings.{Settings, switch_of, with_field, opens, opened, continues, settings_from, settings_of}
 use specs.declared.FieldRead.TheVariants.{Taken, Cut}
 use proofs.TestLaws.{by_order, either}
-use proofs.FieldLaws.{field_read, fields-at-end, fields-at-cut, fields-at-on}
+use proofs.FieldLaws.{field_read, fields_at_end, fields_at_cut, fields_at_on}
 use Rattle.rules.specs
 use Rattle.rules.proofs
 
-pub continues-cut : (T : Settings) → continues T cut ≡ false
+pub continues_cut : (T : Settings) → continues T cut ≡ false
 unfolding continues
-continues-cut T = refl
+continues_cut T = refl
 
-pub opened-field : (tag : ℕ) (v : List ℕ) → opened (field tag v) ≡ switch_of v
+pub opened_field : (tag : ℕ) (v : List ℕ) → opened (field tag v) ≡ switch_of v
 unfolding opened
-opened-field tag v = refl
+opened_field tag v = refl
 
 -- the first field
 module _ (s : List ℕ) (f : Field) (fs : List Field) (is : fields s ≡ f ∷ fs) where
@@ -30,14 +30,14 @@ module _ (s : List ℕ) (f : Field) (fs : List Field) (is : fields s ≡ f ∷ f
   unfolding settings_of
   settings_shut o = rw (settings_of, is, o)
 
-  pub settings-open : opens f ≡ true → settings_of s ≡ settings_from (opened f) fs
+  pub settings_open : opens f ≡ true → settings_of s ≡ settings_from (opened f) fs
   unfolding settings_of
-  settings-open o = rw (settings_of, is, o)
+  settings_open o = rw (settings_of, is, o)
 
-pub settings-cut : (s : List ℕ) → field_at s 0 ≡ Cut → false ≡ known (settings_of s)
+pub settings_cut : (s : List ℕ) → field_at s 0 ≡ Cut → false ≡ known (settings_of s)
 unfolding fields settings_of opens
-settings-cut s e =
-    by_order 0 (length s) (λ some_octet. rw (settings_of, fields-at-cut s 0 some_octet e)) (λ empty. rw (settings_of, fields-at-end s 0 empty))
+settings_cut s e =
+    by_order 0 (length s) (λ some_octet. rw (settings_of, fields_at_cut s 0 some_octet e)) (λ empty. rw (settings_of, fields_at_end s 0 empty))
 
 module _ (s : List ℕ) {tag size next : ℕ} (e : field_at s 0 ≡ Taken tag size next) where
   pub first : fields s ≡ field tag (part s 3 (next - 3)) ∷ fields_at s next
@@ -45,10 +45,10 @@ module _ (s : List ℕ) {tag size next : ℕ} (e : field_at s 0 ≡ Taken tag si
   first =
       let i = field_read s 0 tag size next e in
       let the_size : next - 3 ≡ size = omega arith in
-      rw the_size (fields-at-on s 0 tag size next (omega arith) e)
+      rw the_size (fields_at_on s 0 tag size next (omega arith) e)
 
-  pub settings-bad : opens (field tag (part s 3 (next - 3))) ≡ false → false ≡ known (settings_of s)
-  settings-bad o = rw (settings_shut s (field tag (part s 3 (next - 3))) (fields_at s next) first o)
+  pub settings_bad_lem : opens (field tag (part s 3 (next - 3))) ≡ false → false ≡ known (settings_of s)
+  settings_bad_lem o = rw (settings_shut s (field tag (part s 3 (next - 3))) (fields_at s next) first o)
 
 -- whatever is made of the nickname and the MAC, no later field changes it
 module _ {A : Type 0} (own : ℕ → ℕ → A) where
@@ -57,6 +57,6 @@ module _ {A : Type 0} (own : ℕ → ℕ → A) where
   switch_with S cut = refl
   switch_with S (field tag v) = search (either (λ (T : Settings). own T.nickname T.mac ≡ own S.nickname S.mac))
 
-  pub switch-fold : (S : Settings) (fs : List Field) → own (foldl with_field S fs).nickname (foldl with_field S fs).mac ≡ own S.nickname S.mac
-  switch-fold S [] = refl
-  switch-fold S (f ∷ fs) = switch-fold (with_field S f) fs ∙ switch_with S f
+  pub switch_fold : (S : Settings) (fs : List Field) → own (foldl with_field S fs).nickname (foldl with_field S fs).mac ≡ own S.nickname S.mac
+  switch_fold S [] = refl
+  switch_fold S (f ∷ fs) = switch_fold (with_field S f) fs ∙ switch_with S f

@@ -20,7 +20,7 @@ use specs.Header.{version, reserved, multi, op_length, hop_count, header_word, r
 use specs.declared.{NextHop.NextHop, Header.Header, FrameRead.FrameRead}
 use specs.declared.FrameRead.TheVariants.{Trill, Unreadable}
 use Rattle.rules.proofs
-use proofs.TestLaws.{tests, by-test, either, IfNone, and_right, or_left, or_right}
+use proofs.TestLaws.{tests, by_test, either, IfNone, and_right, or_left, or_right}
 use proofs.OctetLaws.{be16_before, be16_after, be16_at, length_part}
 use proofs.OptionLaws.{stripped_shorter, stripped_words}
 
@@ -46,45 +46,45 @@ word_rebuilt w h =
     let e5 : version w ≡ w / 16384 = omega arith in
     omega arith
 
-pub link-length : (f : List ℕ) → (14 ≤ link_length f) × (link_length f ≤ 18)
+pub link_length_lem : (f : List ℕ) → (14 ≤ link_length f) × (link_length f ≤ 18)
 unfolding link_length
-link-length f = by-test (eqb (be16 f 12) ethertype_tag) (λ e. rw e (omega arith)) (λ e. rw e (omega arith))
+link_length_lem f = by_test (eqb (be16 f 12) ethertype_tag) (λ e. rw e (omega arith)) (λ e. rw e (omega arith))
 
 -- the link header's length as the code reads it
 module _ (f : List ℕ) (e : ℕ) (is : e ≡ be16 f 12) where
-  pub length-tagged : e ≡ ethertype_tag → 18 ≡ link_length f
+  pub length_tagged : e ≡ ethertype_tag → 18 ≡ link_length f
   unfolding link_length
-  length-tagged t = rw (← is, t)
+  length_tagged t = rw (← is, t)
 
-  pub length-plain : (e ≡ ethertype_tag → ⊥) → 14 ≡ link_length f
+  pub length_plain : (e ≡ ethertype_tag → ⊥) → 14 ≡ link_length f
   unfolding link_length
-  length-plain n = simp (← is, tests)
+  length_plain n = simp (← is, tests)
 
-pub ruleset link_length_laws = (rules, length-tagged, length-plain)
+pub ruleset link_length_laws = (rules, length_tagged, length_plain)
 
 -- a link header of TRILL, with a tag or without
 pub record IsLink (l : List ℕ) : Type 0 where
   pub long : length l ≡ link_length l
   pub trill : link_ethertype l ≡ ethertype_trill
 
-pub link-written : (S : Ways) (r : NextHop) → IsLink (link S r)
+pub link_written : (S : Ways) (r : NextHop) → IsLink (link S r)
 unfolding link outer_tag link_length
-link-written S r = by-test (eqb r.vlan 0) (λ e. rw e (search)) (λ e. rw e (search))
+link_written S r = by_test (eqb r.vlan 0) (λ e. rw e (search)) (λ e. rw e (search))
 
-pub length-link : (S : Ways) (r : NextHop) → length (link S r) ≡ cond (eqb r.vlan 0) 14 18
+pub length_link : (S : Ways) (r : NextHop) → length (link S r) ≡ cond (eqb r.vlan 0) 14 18
 unfolding link outer_tag
-length-link S r = by-test (eqb r.vlan 0) (λ e. rw e) (λ e. rw e)
+length_link S r = by_test (eqb r.vlan 0) (λ e. rw e) (λ e. rw e)
 
-pub link-most : (S : Ways) (r : NextHop) → length (link S r) ≤ 18
-link-most S r = omega (arith, (link-written S r).long, link-length (link S r))
+pub link_most : (S : Ways) (r : NextHop) → length (link S r) ≤ 18
+link_most S r = omega (arith, (link_written S r).long, link_length_lem (link S r))
 
 module _ (l t : List ℕ) (is : IsLink l) where
   pub link_kept : link_length (l ++ t) ≡ link_length l
   unfolding link_length
-  link_kept = rw (be16_before l t 12 (omega (arith, is.long, link-length l)))
+  link_kept = rw (be16_before l t 12 (omega (arith, is.long, link_length_lem l)))
 
   ethertype_kept : link_ethertype (l ++ t) ≡ ethertype_trill
-  ethertype_kept = rw (link_kept, be16_before l t (link_length l - 2) (omega (arith, is.long, link-length l))) is.trill
+  ethertype_kept = rw (link_kept, be16_before l t (link_length l - 2) (omega (arith, is.long, link_length_lem l))) is.trill
 
 -- reading a frame as the code does, by outcome: n is the link header's length, e the Ethertype at its end
 module _ (f : List ℕ) where
@@ -94,10 +94,10 @@ module _ (f : List ℕ) where
 
   module _ (n : ℕ) (is : n ≡ link_length f) where
     pub read_from : 2 ≤ n
-    read_from = omega (arith, link-length f)
+    read_from = omega (arith, link_length_lem f)
 
     pub read_near : n + 6 < 18446744073709551616
-    read_near = omega (arith, link-length f)
+    read_near = omega (arith, link_length_lem f)
 
     module _ (a : 14 ≤ length f) where
       pub read_tag_short : length f < n → Unreadable 10 ≡ read_frame f
@@ -105,21 +105,21 @@ module _ (f : List ℕ) where
       read_tag_short h = simp (tests, ← is)
 
       module _ (b : n ≤ length f) (e : ℕ) where
-        pub read-other : e ≡ be16 f (n - 2) → (e ≡ ethertype_trill → ⊥) → Unreadable 11 ≡ read_frame f
+        pub read_other : e ≡ be16 f (n - 2) → (e ≡ ethertype_trill → ⊥) → Unreadable 11 ≡ read_frame f
         unfolding read_frame
-        read-other its h = simp (tests, ← is, ← its)
+        read_other its h = simp (tests, ← is, ← its)
 
         module _ (c : e ≡ ethertype_trill) (its : e ≡ be16 f (n - 2)) where
           pub read_cut : length f < n + 6 → Unreadable 10 ≡ read_frame f
           unfolding read_frame
           read_cut h = simp (tests, ← is, ← its, c)
 
-          pub read-trill : (w g i : ℕ) → n + 6 ≤ length f → w ≡ be16 f n → g ≡ be16 f (n + 2) → i ≡ be16 f (n + 4)
+          pub read_trill : (w g i : ℕ) → n + 6 ≤ length f → w ≡ be16 f n → g ≡ be16 f (n + 2) → i ≡ be16 f (n + 4)
               → Trill (record { place = n; word = w; egress = g; ingress = i }) ≡ read_frame f
           unfolding read_frame
-          read-trill w g i h ew eg ei = simp (tests, ← is, ← its, c, ew, eg, ei)
+          read_trill w g i h ew eg ei = simp (tests, ← is, ← its, c, ew, eg, ei)
 
-pub ruleset read_frame_laws = (rules, read_from, read_near, read_short, read_tag_short, read-other, read_cut, read-trill)
+pub ruleset read_frame_laws = (rules, read_from, read_near, read_short, read_tag_short, read_other, read_cut, read_trill)
 
 -- what is known of a frame that was read
 pub record IsTrill (f : List ℕ) (h : Header) : Type 0 where
@@ -143,10 +143,10 @@ frame_found f = search (either (FrameFound f), leb-true, trill) depth 8
   where
     trill : ltb (length f) (link_length f + 6) ≡ false
         → IsTrill f (record { place = link_length f; word = be16 f (link_length f); egress = be16 f (link_length f + 2); ingress = be16 f (link_length f + 4) })
-    trill e = omega (arith, link-length f, ltb-false (length f) (link_length f + 6) e)
+    trill e = omega (arith, link_length_lem f, ltb-false (length f) (link_length f + 6) e)
 
-pub frame-read : (f : List ℕ) (h : Header) → read_frame f ≡ Trill h → IsTrill f h
-frame-read f h e = rw e at (frame_found f)
+pub frame_read : (f : List ℕ) (h : Header) → read_frame f ≡ Trill h → IsTrill f h
+frame_read f h e = rw e at (frame_found f)
 
 -- a frame of a link header, a TRILL header of a word and two nicknames, and a rest
 abbrev pub with_header : ℕ → ℕ → ℕ → List ℕ → List ℕ
@@ -159,10 +159,10 @@ module _ {l : List ℕ} (is : IsLink l) {w e i : ℕ} (hw : w < 65536) (he : e <
       let f = l ++ behind in
       let place = is.long ∙ sym (link_kept l behind is) in
       let long : length f ≡ length l + (6 + length rest) = length-append l behind ∙ omega arith in
-      let enough : 14 ≤ length l = omega (arith, is.long, link-length l) in
+      let enough : 14 ≤ length l = omega (arith, is.long, link_length_lem l) in
       let trill : ethertype_trill ≡ be16 f (length l - 2) = rw place (sym (ethertype_kept l behind is)) in
       sym
-      (read-trill f (length l) place (omega arith) (omega arith) ethertype_trill refl trill w e i (omega arith)
+      (read_trill f (length l) place (omega arith) (omega arith) ethertype_trill refl trill w e i (omega arith)
       (rw (be16_at l behind) (omega arith)) (rw (be16_after l behind 2) (omega arith)) (rw (be16_after l behind 4) (omega arith)))
 
 -- options area and inner frame of such a frame
@@ -258,7 +258,7 @@ module _ {S : Ways} {f : List ℕ} {h : Header} {egress : Bool} (t : Cleared S f
     pub forwarded_read : read_frame (l ++ forwarded_rest S f h) ≡ Trill sent_header
     unfolding forwarded_rest
     forwarded_read =
-        read_with_header is sent_split.fits (frame-read f h t.read).egress_fits (frame-read f h t.read).ingress_fits (sent_area ++ inner_of f h)
+        read_with_header is sent_split.fits (frame_read f h t.read).egress_fits (frame_read f h t.read).ingress_fits (sent_area ++ inner_of f h)
 
     pub forwarded_area : area_of (l ++ forwarded_rest S f h) sent_header ≡ sent_area
     unfolding forwarded_rest

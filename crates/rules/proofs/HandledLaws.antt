@@ -21,9 +21,9 @@ use specs.declared.Ruling.TheVariants.{Found, Absent}
 use specs.declared.FrameRead.TheVariants.{Trill, Unreadable}
 use specs.declared.ChannelRead.TheVariants.{Fault, BadErr, ErrorHeard, BadEcho, EchoHeard, EchoRequest}
 use Rattle.rules.proofs
-use proofs.TestLaws.{by-test, either, by_option, and_left, and_right, every_below, each_below}
-use proofs.{FrameLaws.Cleared, FrameLaws.link-most, OptionLaws.area_number}
-use proofs.HandlingLaws.{unread-number, length_error, length_echo, echo_ranged, channel_echo}
+use proofs.TestLaws.{by_test, either, by_option, and_left, and_right, every_below, each_below}
+use proofs.{FrameLaws.Cleared, FrameLaws.link_most, OptionLaws.area_number}
+use proofs.HandlingLaws.{unread_number, length_error, length_echo, echo_ranged, channel_echo}
 
 -- an answer that writes nothing, and after which no run goes on
 abbrev pub final : ℕ → Bool
@@ -110,7 +110,7 @@ module _ (S : Ways) (clock f : List ℕ) (h : Header) where
       → How S clock f (faulted S f h code)
   unfolding faulted given
   how_faulted t two code c =
-      by-test (silenced code (inner_of f h)) (λ e. rw e (quiet 25 0 0 refl)) (λ e. rw e
+      by_test (silenced code (inner_of f h)) (λ e. rw e (quiet 25 0 0 refl)) (λ e. rw e
       (each_ruling (How S clock f) (return_path S h.ingress) _ _ (quiet 25 0 0 refl) (λ r n. faults h r code t two n c)))
 
   -- an echo request, answered by itself or beside
@@ -119,7 +119,7 @@ module _ (S : Ways) (clock f : List ℕ) (h : Header) where
       → P (echoed S clock f h)
   unfolding echoed
   echoed_by P lost over =
-      by-test (eqb (reply_mode (body_of (inner_of f h))) 2) (λ e. rw e (each_ruling P (return_path S h.ingress) _ _ lost over)) (λ e. rw e lost)
+      by_test (eqb (reply_mode (body_of (inner_of f h))) 2) (λ e. rw e (each_ruling P (return_path S h.ingress) _ _ lost over)) (λ e. rw e lost)
 
   how_channelled : Cleared S f h true → (c : ChannelRead) → channel_read (inner_of f h) ≡ c → How S clock f (channelled S clock f h c)
   unfolding channelled given
@@ -173,9 +173,9 @@ pub how : (S : Ways) (clock f : List ℕ) → How S clock f (handling S clock f)
 unfolding handling given
 how S clock f =
     elim (read_frame f) as (λ w. read_frame f ≡ w → How S clock f (handling S clock f)) [
-      | Unreadable n ↦ λ e. rw (handling, e) (let r = unread-number f n e in quiet n 0 0 (final_within 10 11 n refl r.0 r.1))
+      | Unreadable n ↦ λ e. rw (handling, e) (let r = unread_number f n e in quiet n 0 0 (final_within 10 11 n refl r.0 r.1))
       | Trill h ↦ λ e.
-          rw (handling, e) (by-test (eqb (header_refusal S.mac f h) 0)
+          rw (handling, e) (by_test (eqb (header_refusal S.mac f h) 0)
           (λ a. rw a (how_routed S clock f h e (eqb-true _ 0 a)))
           (λ a. rw a (quiet _ 0 0 (rw a at (header_final S.mac f h)))))
     ] refl
@@ -191,7 +191,7 @@ pub echo_fits : (S : Ways) (r : NextHop) (clock f : List ℕ) (h : Header) → l
     → length (echo_reply S r h clock (body_of (inner_of f h))) ≤ 576
 echo_fits S r clock f h six c =
     let ranged = echo_ranged (body_of (inner_of f h)) (channel_echo (inner_of f h) c) in
-    omega (arith, length_echo S r f h clock (body_of (inner_of f h)) six ranged.0, ranged.1, link-most S r)
+    omega (arith, length_echo S r f h clock (body_of (inner_of f h)) six ranged.0, ranged.1, link_most S r)
 
 bounded : {a : Handled} → (given a.number && ltb a.number 64) ≡ true → length a.octets ≤ frame_most → length a.beside ≤ beside_least
     → Bounded a
@@ -206,8 +206,8 @@ how_bounded S clock f six (forwards h r t found fits (replied q two e c)) = boun
 how_bounded S clock f six (faults h r code t two found c) = bounded refl (omega (arith, length_error S r f h code)) (omega arith)
 how_bounded S clock f six (echoes h r t found c) = bounded refl (omega (arith, echo_fits S r clock f h six c)) (omega arith)
 
-pub handling-bounded : (S : Ways) (clock f : List ℕ) → length clock ≡ 6 → length f ≤ frame_most → Bounded (handling S clock f)
-handling-bounded S clock f six short = how_bounded S clock f six (how S clock f)
+pub handling_bounded : (S : Ways) (clock f : List ℕ) → length clock ≡ 6 → length f ≤ frame_most → Bounded (handling S clock f)
+handling_bounded S clock f six short = how_bounded S clock f six (how S clock f)
 
 -- every answer of the whole call: a number under 64, at most 2,048 octets written
 pub handled_bounded : (settings clock : List ℕ) (room beside_room : ℕ) (f : List ℕ) → Bounded (handled settings clock room beside_room f)
@@ -215,4 +215,4 @@ unfolding given handled handled_with
 handled_bounded settings clock room beside_room f =
     by_option (settings_of settings)
     (λ e. rw (handled, e) (bounded refl (omega arith) (omega arith)))
-    (λ S e. rw (handled, e) (search (either Bounded, bounded, leb-true, handling-bounded, eqb-true, not-false, ltb-false) depth 8))
+    (λ S e. rw (handled, e) (search (either Bounded, bounded, leb-true, handling_bounded, eqb-true, not-false, ltb-false) depth 8))

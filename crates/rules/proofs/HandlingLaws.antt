@@ -23,8 +23,8 @@ use specs.declared.Ruling.TheVariants.{Found, Absent}
 use specs.declared.FrameRead.TheVariants.{Trill, Unreadable}
 use specs.declared.ChannelRead.TheVariants.{Fault, BadErr, ErrorHeard, EchoRequest}
 use Rattle.rules.proofs
-use proofs.TestLaws.{tests, apart, by-test, either, or_left, or_right, and_no}
-use proofs.FrameLaws.{link-most, frame_found}
+use proofs.TestLaws.{tests, apart, by_test, either, or_left, or_right, and_no}
+use proofs.FrameLaws.{link_most, frame_found}
 use proofs.ReplyLaws.{length_reply, echo_body_length}
 
 module _ (S : Ways) (f : List ℕ) (h : Header) where
@@ -38,56 +38,56 @@ module _ (S : Ways) (f : List ℕ) (h : Header) where
     transit_over r e = rw (transit, e)
 
   module _ (r : NextHop) (beside : List ℕ) (beside_via : ℕ) where
-    pub onward-long : frame_most < length (forwarded S r f h) → onward S r f h beside beside_via ≡ dropped 29
+    pub onward_long : frame_most < length (forwarded S r f h) → onward S r f h beside beside_via ≡ dropped 29
     unfolding onward
-    onward-long n = simp tests
+    onward_long n = simp tests
 
-    pub onward-sent : length (forwarded S r f h) ≤ frame_most
+    pub onward_sent : length (forwarded S r f h) ≤ frame_most
         → onward S r f h beside beside_via ≡ wrote_both 50 (forwarded S r f h) r.neighbour beside beside_via
     unfolding onward
-    onward-sent n = simp tests
+    onward_sent n = simp tests
 
   module _ (code : ℕ) where
-    pub faulted-silent : silenced code (inner_of f h) ≡ true → faulted S f h code ≡ dropped 25
+    pub faulted_silent : silenced code (inner_of f h) ≡ true → faulted S f h code ≡ dropped 25
     unfolding faulted
-    faulted-silent e = rw (faulted, e)
+    faulted_silent e = rw (faulted, e)
 
     module _ (heard : silenced code (inner_of f h) ≡ false) where
-      pub faulted-none : return_path S h.ingress ≡ Absent → faulted S f h code ≡ dropped 25
+      pub faulted_none : return_path S h.ingress ≡ Absent → faulted S f h code ≡ dropped 25
       unfolding faulted
-      faulted-none e = rw (faulted, heard, e)
+      faulted_none e = rw (faulted, heard, e)
 
-      pub faulted-over : (r : NextHop) → return_path S h.ingress ≡ Found r → faulted S f h code ≡ wrote 53 (error_reply S r f h code) r.neighbour
+      pub faulted_over : (r : NextHop) → return_path S h.ingress ≡ Found r → faulted S f h code ≡ wrote 53 (error_reply S r f h code) r.neighbour
       unfolding faulted
-      faulted-over r e = rw (faulted, heard, e)
+      faulted_over r e = rw (faulted, heard, e)
 
   module _ (clock : List ℕ) where
-    pub echoed-mode : (reply_mode (body_of (inner_of f h)) ≡ 2 → ⊥) → echoed S clock f h ≡ dropped 28
+    pub echoed_mode : (reply_mode (body_of (inner_of f h)) ≡ 2 → ⊥) → echoed S clock f h ≡ dropped 28
     unfolding echoed
-    echoed-mode e = simp tests
+    echoed_mode e = simp tests
 
     module _ (asked : reply_mode (body_of (inner_of f h)) ≡ 2) where
-      pub echoed-none : return_path S h.ingress ≡ Absent → echoed S clock f h ≡ dropped 28
+      pub echoed_none : return_path S h.ingress ≡ Absent → echoed S clock f h ≡ dropped 28
       unfolding echoed
-      echoed-none e = simp (tests, echoed, e)
+      echoed_none e = simp (tests, echoed, e)
 
-      pub echoed-over : (r : NextHop) → return_path S h.ingress ≡ Found r
+      pub echoed_over : (r : NextHop) → return_path S h.ingress ≡ Found r
           → echoed S clock f h ≡ wrote 54 (echo_reply S r h clock (body_of (inner_of f h))) r.neighbour
       unfolding echoed
-      echoed-over r e = simp (tests, echoed, e)
+      echoed_over r e = simp (tests, echoed, e)
 
 -- how long what is written is
 module _ (S : Ways) (r : NextHop) (f : List ℕ) (h : Header) where
-  pub length-forwarded : length (forwarded S r f h) ≡ length (link S r) + 6 + length (area_sent S (area_of f h)) + length (inner_of f h)
+  pub length_forwarded : length (forwarded S r f h) ≡ length (link S r) + 6 + length (area_sent S (area_of f h)) + length (inner_of f h)
   unfolding forwarded forwarded_rest
-  length-forwarded =
+  length_forwarded =
       let n = length-append (area_sent S (area_of f h)) (inner_of f h) in
       rw (length-append (link S r)) (omega arith)
 
   -- T-01: "The longest replies become 174 and 576."
   pub length_error : (code : ℕ) → length (error_reply S r f h code) ≤ 174
   unfolding error_reply
-  length_error code = rw (length_reply, length-take) (omega (arith, link-most S r))
+  length_error code = rw (length_reply, length-take) (omega (arith, link_most S r))
 
   pub length_echo : (clock body : List ℕ) → length clock ≡ 6 → 18 ≤ length body → length (echo_reply S r h clock body) ≡ length (link S r) + 28 + length body
   unfolding echo_reply
@@ -97,7 +97,7 @@ module _ (S : Ways) (r : NextHop) (f : List ℕ) (h : Header) where
 pub echo_ranged : (body : List ℕ) → echo_read body ≡ EchoRequest → (18 ≤ length body) × (length body ≤ 530)
 unfolding echo_read
 echo_ranged body e =
-    by-test (ltb (length body) 18 || ltb 530 (length body)) (λ t. apart (cc (rw t at e))) (λ t. search (ltb-false, or_left, or_right))
+    by_test (ltb (length body) 18 || ltb 530 (length body)) (λ t. apart (cc (rw t at e))) (λ t. search (ltb-false, or_left, or_right))
 
 pub channel_echo : (inner : List ℕ) → channel_read inner ≡ EchoRequest → echo_read (body_of inner) ≡ EchoRequest
 unfolding channel_read
@@ -114,97 +114,97 @@ channel_echo inner = search (either (λ c. c ≡ EchoRequest → echo_read (body
 
 -- the stages of an egress, by outcome
 module _ (S : Ways) (clock f : List ℕ) (h : Header) where
-  pub inner-short : length (inner_of f h) < 18 → decapsulated S clock f h ≡ dropped 22
+  pub inner_short : length (inner_of f h) < 18 → decapsulated S clock f h ≡ dropped 22
   unfolding decapsulated
-  inner-short a = simp tests
+  inner_short a = simp tests
 
   module _ (a : 18 ≤ length (inner_of f h)) where
-    pub inner-untagged : untagged (inner_of f h) ≡ true → decapsulated S clock f h ≡ dropped 23
+    pub inner_untagged : untagged (inner_of f h) ≡ true → decapsulated S clock f h ≡ dropped 23
     unfolding decapsulated
-    inner-untagged b = simp (tests, b)
+    inner_untagged b = simp (tests, b)
 
     module _ (b : untagged (inner_of f h) ≡ false) where
-      pub inner-any : h.egress ≡ any_rbridge → to_all_egress_rbridges (inner_of f h) ≡ false → decapsulated S clock f h ≡ dropped 24
+      pub inner_any : h.egress ≡ any_rbridge → to_all_egress_rbridges (inner_of f h) ≡ false → decapsulated S clock f h ≡ dropped 24
       unfolding decapsulated
-      inner-any c d = simp (tests, b, d)
+      inner_any c d = simp (tests, b, d)
 
-      pub inner-delivered : (h.egress ≡ any_rbridge → ⊥) → to_all_egress_rbridges (inner_of f h) ≡ false
+      pub inner_delivered : (h.egress ≡ any_rbridge → ⊥) → to_all_egress_rbridges (inner_of f h) ≡ false
           → decapsulated S clock f h ≡ delivered 51 (inner_start h) (length (inner_of f h))
       unfolding decapsulated
-      inner-delivered c d = simp (tests, b, d)
+      inner_delivered c d = simp (tests, b, d)
 
       module _ (d : to_all_egress_rbridges (inner_of f h) ≡ true) where
         pub inner_up : inner_ethertype (inner_of f h) ≡ ethertype_is_is → decapsulated S clock f h ≡ delivered 52 (inner_start h) (length (inner_of f h))
         unfolding decapsulated
         inner_up g = simp (tests, b, d, and_no)
 
-        pub inner-channel : (inner_ethertype (inner_of f h) ≡ ethertype_is_is → ⊥) → decapsulated S clock f h ≡ channelled S clock f h (channel_read (inner_of f h))
+        pub inner_channel : (inner_ethertype (inner_of f h) ≡ ethertype_is_is → ⊥) → decapsulated S clock f h ≡ channelled S clock f h (channel_read (inner_of f h))
         unfolding decapsulated
-        inner-channel g = simp (tests, b, d, and_no)
+        inner_channel g = simp (tests, b, d, and_no)
 
-  pub routed-faulty : (number place : ℕ) → area_read S (area_of f h) ≡ Faulty number place → routed S clock f h ≡ dropped_at number place
+  pub routed_faulty : (number place : ℕ) → area_read S (area_of f h) ≡ Faulty number place → routed S clock f h ≡ dropped_at number place
   unfolding routed
-  routed-faulty number place a = rw (routed, a)
+  routed_faulty number place a = rw (routed, a)
 
   module _ (a : area_read S (area_of f h) ≡ WellFormed) where
-    pub routed-stopped : area_stops S (we_are_egress S.nickname h) (area_of f h) ≡ true → routed S clock f h ≡ dropped 20
+    pub routed_stopped : area_stops S (we_are_egress S.nickname h) (area_of f h) ≡ true → routed S clock f h ≡ dropped 20
     unfolding routed
-    routed-stopped b = rw (routed, a, b)
+    routed_stopped b = rw (routed, a, b)
 
     module _ (b : area_stops S (we_are_egress S.nickname h) (area_of f h) ≡ false) where
-      pub routed-egress : we_are_egress S.nickname h ≡ true → routed S clock f h ≡ decapsulated S clock f h
+      pub routed_egress : we_are_egress S.nickname h ≡ true → routed S clock f h ≡ decapsulated S clock f h
       unfolding routed
-      routed-egress c = rw (routed, a, b, c)
+      routed_egress c = rw (routed, a, b, c)
 
-      pub routed-transit : we_are_egress S.nickname h ≡ false → routed S clock f h ≡ transit S clock f h
+      pub routed_transit : we_are_egress S.nickname h ≡ false → routed S clock f h ≡ transit S clock f h
       unfolding routed
-      routed-transit c = rw (routed, a, b, c)
+      routed_transit c = rw (routed, a, b, c)
 
-  pub handling-refused : read_frame f ≡ Trill h → (header_refusal S.mac f h ≡ 0 → ⊥) → handling S clock f ≡ dropped (header_refusal S.mac f h)
+  pub handling_refused : read_frame f ≡ Trill h → (header_refusal S.mac f h ≡ 0 → ⊥) → handling S clock f ≡ dropped (header_refusal S.mac f h)
   unfolding handling
-  handling-refused e a = simp (tests, handling, e)
+  handling_refused e a = simp (tests, handling, e)
 
-  pub handling-routed : read_frame f ≡ Trill h → header_refusal S.mac f h ≡ 0 → handling S clock f ≡ routed S clock f h
+  pub handling_routed : read_frame f ≡ Trill h → header_refusal S.mac f h ≡ 0 → handling S clock f ≡ routed S clock f h
   unfolding handling
-  handling-routed e a = simp (tests, handling, e)
+  handling_routed e a = simp (tests, handling, e)
 
-pub handling-unread : (S : Ways) (clock f : List ℕ) (n : ℕ) → read_frame f ≡ Unreadable n → handling S clock f ≡ dropped n
+pub handling_unread : (S : Ways) (clock f : List ℕ) (n : ℕ) → read_frame f ≡ Unreadable n → handling S clock f ≡ dropped n
 unfolding handling
-handling-unread S clock f n e = rw (handling, e)
+handling_unread S clock f n e = rw (handling, e)
 
 -- the refusals before a frame is looked at
 module _ (S : Ways) (clock : List ℕ) (room beside_room : ℕ) (f : List ℕ) where
-  pub clock-bad : (length clock ≡ 6 → ⊥) → handled_with S clock room beside_room f ≡ dropped 1
+  pub clock_bad : (length clock ≡ 6 → ⊥) → handled_with S clock room beside_room f ≡ dropped 1
   unfolding handled_with
-  clock-bad a = simp tests
+  clock_bad a = simp tests
 
   module _ (a : length clock ≡ 6) where
-    pub room-short : room < frame_most → handled_with S clock room beside_room f ≡ dropped 2
+    pub room_short : room < frame_most → handled_with S clock room beside_room f ≡ dropped 2
     unfolding handled_with
-    room-short b = simp tests
+    room_short b = simp tests
 
     module _ (b : frame_most ≤ room) where
-      pub beside-short : beside_room < beside_least → handled_with S clock room beside_room f ≡ dropped 37
+      pub beside_short : beside_room < beside_least → handled_with S clock room beside_room f ≡ dropped 37
       unfolding handled_with
-      beside-short c = simp tests
+      beside_short c = simp tests
 
       module _ (c : beside_least ≤ beside_room) where
-        pub frame-long : frame_most < length f → handled_with S clock room beside_room f ≡ dropped 3
+        pub frame_long : frame_most < length f → handled_with S clock room beside_room f ≡ dropped 3
         unfolding handled_with
-        frame-long d = simp tests
+        frame_long d = simp tests
 
-        pub frame-handled : length f ≤ frame_most → handled_with S clock room beside_room f ≡ handling S clock f
+        pub frame_handled : length f ≤ frame_most → handled_with S clock room beside_room f ≡ handling S clock f
         unfolding handled_with
-        frame-handled d = simp tests
+        frame_handled d = simp tests
 
 module _ (settings clock : List ℕ) (room beside_room : ℕ) (f : List ℕ) where
-  pub settings-bad : settings_of settings ≡ none → handled settings clock room beside_room f ≡ dropped 1
+  pub settings_bad_lem : settings_of settings ≡ none → handled settings clock room beside_room f ≡ dropped 1
   unfolding handled
-  settings-bad e = rw (handled, e)
+  settings_bad_lem e = rw (handled, e)
 
   pub settings_good : (S : Settings) → settings_of settings ≡ some S → handled settings clock room beside_room f ≡ handled_with (ways_of S) clock room beside_room f
   unfolding handled
   settings_good S e = rw (handled, e)
 
-pub unread-number : (f : List ℕ) (n : ℕ) → read_frame f ≡ Unreadable n → (10 ≤ n) × (n ≤ 11)
-unread-number f n e = rw e at (frame_found f)
+pub unread_number : (f : List ℕ) (n : ℕ) → read_frame f ≡ Unreadable n → (10 ≤ n) × (n ≤ 11)
+unread_number f n e = rw e at (frame_found f)

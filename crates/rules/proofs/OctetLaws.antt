@@ -64,9 +64,9 @@ module _ (d : List ℕ) (at : ℕ) (s : List ℕ) where
   length_head : at ≤ length d → length (take at d ++ s) ≡ at + length s
   length_head h = rw (length-append, length-take-le at d h)
 
-  pub length-put : at + length s ≤ length d → length (put d at s) ≡ length d
+  pub length_put : at + length s ≤ length d → length (put d at s) ≡ length d
   unfolding put
-  length-put fits = rw (length-append, length_head (omega arith), length-drop) (omega arith)
+  length_put fits = rw (length-append, length_head (omega arith), length-drop) (omega arith)
 
   put_past : length d ≤ at → put d at s ≡ d ++ s
   unfolding put
@@ -83,8 +83,8 @@ module _ (d : List ℕ) (at : ℕ) (s : List ℕ) (at' : ℕ) (t : List ℕ) (e 
       rw (← head, drop-append-add) (rw head (drop-drop (length t) (at + length s) d)) in
       rw (e, tk, dr, length-append, append_assoc (take at d) s t, add_assoc at (length s) (length t))
 
-  pub put-put : put (put d at s) at' t ≡ put d at (s ++ t)
-  put-put =
+  pub put_put : put (put d at s) at' t ≡ put d at (s ++ t)
+  put_put =
       by_order (length d) at
       (λ h.
       rw (put_past d at s (omega arith), put_past d at (s ++ t) (omega arith), ← append_assoc d s t)
@@ -107,8 +107,8 @@ put_over d at s t h k =
 pub put_tail : (d : List ℕ) (at : ℕ) (s t u : List ℕ) → at + length s ≤ length d → length t ≤ length u
     → put (put d at (s ++ t)) (at + length s) u ≡ put d at (s ++ u)
 put_tail d at s t u h k =
-    rw (← put-put d at s (at + length s) t refl, put_over (put d at s) (at + length s) t u (rw (length-put d at s h) h) k)
-    (put-put d at s (at + length s) u refl)
+    rw (← put_put d at s (at + length s) t refl, put_over (put d at s) (at + length s) t u (rw (length_put d at s h) h) k)
+    (put_put d at s (at + length s) u refl)
 
 -- a write within another one
 pub put_inside : (d : List ℕ) (at : ℕ) (s t u v : List ℕ) → at ≤ length d → length t ≡ length v
@@ -131,9 +131,9 @@ pub put_front : (d s : List ℕ) → put d 0 s ≡ s ++ drop (length s) d
 unfolding put
 put_front d s = rw zero-add
 
-pub put-none : (d : List ℕ) (at : ℕ) → put d at [] ≡ d
+pub put_none : (d : List ℕ) (at : ℕ) → put d at [] ≡ d
 unfolding put
-put-none d at = rw (append-nil, add-zero, take-append-drop)
+put_none d at = rw (append-nil, add-zero, take-append-drop)
 
 -- a buffer begins with what was written at its start
 pub take_put : (d s : List ℕ) → take (length s) (put d 0 s) ≡ s

@@ -16,7 +16,7 @@ use specs.Octets.{octet, be16, part}
 use specs.Options.{chbh, cite, key_of, length_of, ie, nc, option_size, option_at, TlvOption, Options, options, fault, option_first, options_from, options_of}
 use specs.Options.{hop_by_hop_critical, ingress_to_egress_critical, some_key, summarized, draft_read, strippable, kept_options, octets_of, stripped, OptionRead, Taken}
 use specs.Options.{Fault, AreaRead, WellFormed, Faulty, Laid, none, one, WellFormedArea}
-use proofs.TestLaws.{tests, apart, by-test, by_order, either, and_left, and_right, and_no}
+use proofs.TestLaws.{tests, apart, by_test, by_order, either, and_left, and_right, and_no}
 use proofs.OctetLaws.{octet_part, be16_before, be16_at, be16_part, drop_part, length_part}
 use Rattle.rules.specs
 use Rattle.rules.proofs
@@ -230,21 +230,21 @@ unfolding kept_options
 kept_laid none = none
 kept_laid (one {o = o} k s small n above l) =
     let ih = kept_laid l in
-    by-test (strippable o.key o.size) (λ e. rw e (laid_lower (omega arith) ih)) (λ e. rw e (one k s small n above ih))
+    by_test (strippable o.key o.size) (λ e. rw e (laid_lower (omega arith) ih)) (λ e. rw e (one k s small n above ih))
 
 kept_shorter : (os : List TlvOption) → length (octets_of (kept_options os)) ≤ length (octets_of os)
 unfolding octets_of kept_options
 kept_shorter [] = omega arith
 kept_shorter (o ∷ os) =
     let ih = kept_shorter os in
-    by-test (strippable o.key o.size) (λ e. rw e (simp length-append (omega arith))) (λ e. rw e (simp length-append (omega arith)))
+    by_test (strippable o.key o.size) (λ e. rw e (simp length-append (omega arith))) (λ e. rw e (simp length-append (omega arith)))
 
 kept_kept : (os : List TlvOption) → kept_options (kept_options os) ≡ kept_options os
 unfolding kept_options
 kept_kept [] = refl
 kept_kept (o ∷ os) =
     let ih = kept_kept os in
-    by-test (strippable o.key o.size) (λ e. rw e ih) (λ e. rw (e, kept_options, e, ih))
+    by_test (strippable o.key o.size) (λ e. rw e ih) (λ e. rw (e, kept_options, e, ih))
 
 -- a critical option is never stripped, so the options kept need the same summary bits
 pub strippable_nc : (key size : ℕ) → strippable key size ≡ true → nc key ≡ 1
@@ -257,7 +257,7 @@ module _ (test : ℕ → Bool) (critical : (key : ℕ) → nc key ≡ 1 → test
   kept_some [] = refl
   kept_some (o ∷ os) =
       let ih = kept_some os in
-      by-test (strippable o.key o.size)
+      by_test (strippable o.key o.size)
       (λ e. rw (e, critical o.key (strippable_nc o.key o.size e)) ih)
       (λ e. rw (e, ih))
 

@@ -9,19 +9,19 @@ use Rattle.rules.specs.Campus.{Described, refused, accepted, described, plain_ru
 use Rattle.rules.proofs.TestLaws.{tests, either}
 
 module _ (file : List ℕ) (room : ℕ) where
-  pub campus-short : room < trace_least → campus file room ≡ refusal 49
+  pub campus_short : room < trace_least → campus file room ≡ refusal 49
   unfolding campus
-  campus-short h = simp tests
+  campus_short h = simp tests
 
   module _ (h : trace_least ≤ room) where
-    pub campus-refused : (code : ℕ) → described file ≡ refused code → campus file room ≡ refusal code
+    pub campus_refused : (code : ℕ) → described file ≡ refused code → campus file room ≡ refusal code
     unfolding campus
-    campus-refused code e = simp (campus, tests, e)
+    campus_refused code e = simp (campus, tests, e)
 
     module _ (d : Described) (e : described file ≡ accepted d) where
-      pub campus-needed : room < trace_needed d → campus file room ≡ refusal 49
+      pub campus_needed : room < trace_needed d → campus file room ≡ refusal 49
       unfolding campus
-      campus-needed n = simp (campus, tests, e)
+      campus_needed n = simp (campus, tests, e)
 
       pub campus_run : trace_needed d ≤ room → campus file room ≡ record { code = 0; count = length (plain_run d); trace = trace_octets (plain_run d) }
       unfolding campus
@@ -32,6 +32,6 @@ pub least_needed : (d : Described) → trace_least ≤ trace_needed d
 unfolding trace_needed
 least_needed d = search (either (λ n. trace_least ≤ n), leb-true)
 
-pub campus-accepted : (file : List ℕ) (room : ℕ) (d : Described) → described file ≡ accepted d → trace_needed d ≤ room
+pub campus_accepted : (file : List ℕ) (room : ℕ) (d : Described) → described file ≡ accepted d → trace_needed d ≤ room
     → campus file room ≡ record { code = 0; count = length (plain_run d); trace = trace_octets (plain_run d) }
-campus-accepted file room d e n = campus_run file room (omega (arith, n, least_needed d)) d e n
+campus_accepted file room d e n = campus_run file room (omega (arith, n, least_needed d)) d e n

@@ -15,9 +15,9 @@ use specs.{Settings.Settings, Settings.ways_of, Answer.Handled, Demand.replies_i
 use specs.Handling.{handling, frame_most, beside_least}
 use specs.Campus.{switch_named, Kind, reply, State, Waiting, replies_made, in_campus, staying, waiting_after, Next, over, next, sent_on, first_waiting, next_after}
 use specs.Campus.{run_from, handlings_most, hop_received, entry_octets, trace_octets}
-use proofs.TestLaws.{apart, by-test, by_option, and_left, each_of}
+use proofs.TestLaws.{apart, by_test, by_option, and_left, each_of}
 use proofs.NextLaws.{next_on, next_waiting}
-use proofs.HandledLaws.{Bounded, handling-bounded}
+use proofs.HandledLaws.{Bounded, handling_bounded}
 use proofs.StepLaws.{hop_most, IsReply, Forwarded, Made, nothing, one, does, does_forward, does_make}
 use Rattle.rules.specs
 use Rattle.rules.proofs
@@ -27,7 +27,7 @@ pub named : (switches : List Settings) (n : ℕ) (S : Settings) → switch_named
 unfolding switch_named
 named [] n S e = apart cc
 named (T ∷ switches) n S e =
-    by-test (eqb T.nickname n)
+    by_test (eqb T.nickname n)
     (λ c.
     let same : some T ≡ some S = (rw (switch_named, c) at e) in
     let is : S ≡ T = cc in
@@ -50,13 +50,13 @@ module _ {S : Settings} {f : List ℕ} where
   made_mute nothing y = refl
   made_mute (one w o) y = absurd (o.not_a_reply y)
 
-pub no-replies : replies_in [] ≡ 0
+pub no_replies : replies_in [] ≡ 0
 unfolding replies_in
-no-replies = refl
+no_replies = refl
 
-pub replies-on : (s : State) (states : List State) → replies_in (s ∷ states) ≡ length (replies_made s.answer) + replies_in states
+pub replies_on : (s : State) (states : List State) → replies_in (s ∷ states) ≡ length (replies_made s.answer) + replies_in states
 unfolding replies_in
-replies-on s states = refl
+replies_on s states = refl
 
 -- those that wait are replies, of at most 576 octets
 abbrev pub Replies : List Waiting → Type 0
@@ -79,7 +79,7 @@ stays : (switches : List Settings) {S : Settings} {f : List ℕ} {l : List Waiti
 unfolding staying
 stays switches nothing = (Prim.tt, omega arith)
 stays switches (one w o) =
-    by-test (in_campus switches w.towards)
+    by_test (in_campus switches w.towards)
     (λ e. rw e ((o.is_reply, o.short, Prim.tt), omega arith))
     (λ e. rw e (Prim.tt, omega arith))
 
@@ -201,7 +201,7 @@ module _ (switches : List Settings) (clock : List ℕ) where
         let b = joined q _ a (stays switches made).0 in
         let step : Step S f q = record { few = made_few made; queued = rw length-append (omega (arith, (stays switches made).1)); mute = made_mute made } in
         rw (run_step m i n kind f q S e)
-        (by-test (sent_on switches (answer S f))
+        (by_test (sent_on switches (answer S f))
         (λ t.
         rw (next_on switches (answer S f) kind q t)
         (onward step (does_forward d (and_left _ (in_campus switches (answer S f).via) t)) (runs m (suc i) _ kind _ (queue S f q) b)))
@@ -228,17 +228,17 @@ module _ (switches : List Settings) (clock : List ℕ) where
 
     stands : {i : ℕ} {S : Settings} {kind : Kind} {f : List ℕ} {q : List Waiting} → Step S f q → length f ≤ frame_most → (kind ≡ reply → IsReply f)
         → Stands (state i S kind f)
-    stands {S = S} {f = f} t k y = record { frame_fits = k; bounded = handling-bounded (ways_of S) clock f six k; unanswered = λ e. t.mute (y e) }
+    stands {S = S} {f = f} t k y = record { frame_fits = k; bounded = handling_bounded (ways_of S) clock f six k; unanswered = λ e. t.mute (y e) }
 
     pub every : {kind : Kind} {f : List ℕ} {q : List Waiting} {states : List State} → Run kind f q states → length f ≤ frame_most
         → (kind ≡ reply → IsReply f) → (s : State) → Memᴰ s states → Stands s
     every stopped k y = λ s w. absurd (Memᴰ.not-nil w)
-    every (onward t o r) k y = each_of Stands (stands t k y) (every r (handling-bounded _ clock _ six k).fits (λ e. o.reply_kept (y e)))
+    every (onward t o r) k y = each_of Stands (stands t k y) (every r (handling_bounded _ clock _ six k).fits (λ e. o.reply_kept (y e)))
     every (ended t) k y = each_of Stands (stands t k y) (λ s w. absurd (Memᴰ.not-nil w))
     every (drained t e z l r) k y = each_of Stands (stands t k y) (every r (omega arith) (λ e. z))
 
 -- the trace has eight octets for each state
-pub length-trace : (states : List State) → length (trace_octets states) ≡ 8 * length states
+pub length_trace : (states : List State) → length (trace_octets states) ≡ 8 * length states
 unfolding trace_octets entry_octets
-length-trace [] = refl
-length-trace (s ∷ states) = let ih = length-trace states in omega arith
+length_trace [] = refl
+length_trace (s ∷ states) = let ih = length_trace states in omega arith

@@ -25,12 +25,12 @@ pub record Draft (S : Settings) : Type 0 where
   pub nickname_fits : S.nickname < 65536
   pub edition_1 : S.rfc7179 ≡ false
 
-pub edition-1-all : (switches : List Settings) → some_edition2 switches ≡ false → (S : Settings) → Memᴰ S switches → S.rfc7179 ≡ false
+pub edition_1_all : (switches : List Settings) → some_edition2 switches ≡ false → (S : Settings) → Memᴰ S switches → S.rfc7179 ≡ false
 unfolding some_edition2
-edition-1-all [] e = λ S i. absurd (Memᴰ.not-nil i)
-edition-1-all (T ∷ switches) e =
+edition_1_all [] e = λ S i. absurd (Memᴰ.not-nil i)
+edition_1_all (T ∷ switches) e =
     let p = or_false T.rfc7179 (some_edition2 switches) e in
-    each_of (λ S. S.rfc7179 ≡ false) p.0 (edition-1-all switches p.1)
+    each_of (λ S. S.rfc7179 ≡ false) p.0 (edition_1_all switches p.1)
 
 module _ (switches : List Settings) (clock : List ℕ) where
   abbrev run : ℕ → ℕ → Settings → Kind → List ℕ → List State
@@ -143,5 +143,5 @@ module _ (switches : List Settings) (clock : List ℕ) where
           | answered k a q c ↦ omega (arith, arrives_le switches (ours (egress_received f)) (towards switches (egress_received f)) a)
         ]
 
-    pub one-reply : (m i : ℕ) (S : Settings) (kind : Kind) (f : List ℕ) → Memᴰ S switches → replies_in (single_run m i switches clock S kind f) ≤ 1
-    one-reply m i S kind f j = (holds m i S kind f j).few
+    pub one_reply : (m i : ℕ) (S : Settings) (kind : Kind) (f : List ℕ) → Memᴰ S switches → replies_in (single_run m i switches clock S kind f) ≤ 1
+    one_reply m i S kind f j = (holds m i S kind f j).few

@@ -24,8 +24,8 @@ use specs.declared.Ruling.TheVariants.{Found, Absent}
 use specs.declared.FrameRead.TheVariants.{Trill, Unreadable}
 use specs.declared.ChannelRead.TheVariants.{Fault, ErrorHeard, EchoHeard, EchoRequest}
 use Rattle.rules.proofs
-use proofs.TestLaws.{apart, by-test, and_right, or_left, or_right}
-use proofs.FrameLaws.{Cleared, frame-read, link-written, header_passed, sent_hop, sent_header, forwarded_read, forwarded_inner}
+use proofs.TestLaws.{apart, by_test, and_right, or_left, or_right}
+use proofs.FrameLaws.{Cleared, frame_read, link_written, header_passed, sent_hop, sent_header, forwarded_read, forwarded_inner}
 use proofs.ReplyLaws.{reply_header, reply_read, reply_inner_lem, error_heard, echo_heard, echo_body_length, echo_body_spid}
 use proofs.HandlingLaws.{echo_ranged, channel_echo, length_error, length_echo}
 use proofs.NextLaws.{made_reply}
@@ -88,12 +88,12 @@ module _ (S : Settings) (d : ℕ) (r : NextHop) where
       elim (ruling S.hops d) as (λ w. ruling S.hops d ≡ w → ruling S.hops d ≡ Found r) [
         | Absent ↦ λ is. apart (cc (rw (next_hop, is) at e))
         | Found q ↦ λ is.
-            by-test (eqb q.neighbour 0) (λ b. apart (cc (rw (next_hop, is, b) at e))) (λ b. is ∙ (rw (next_hop, is, b) at e))
+            by_test (eqb q.neighbour 0) (λ b. apart (cc (rw (next_hop, is, b) at e))) (λ b. is ∙ (rw (next_hop, is, b) at e))
       ] refl
 
   return_rules : return_path (ways_of S) d ≡ Found r → ruling S.hops d ≡ Found r
   unfolding return_path
-  return_rules e = by-test (eqb d S.nickname) (λ b. apart (cc (rw b at e))) (λ b. hop_rules (rw b at e))
+  return_rules e = by_test (eqb d S.nickname) (λ b. apart (cc (rw b at e))) (λ b. hop_rules (rw b at e))
 
 -- what goes on after a handling that answers 50
 pub record Forwarded (S : Settings) (f : List ℕ) (a : Handled) : Type 0 where
@@ -107,15 +107,15 @@ pub record Forwarded (S : Settings) (f : List ℕ) (a : Handled) : Type 0 where
 
 module _ (S : Settings) (f : List ℕ) (h : Header) (r : NextHop) (t : Cleared (ways_of S) f h false) (found : next_hop S h.egress ≡ Found r) where
   abbrev sent : Header
-  sent = sent_header t (link-written (ways_of S) r)
+  sent = sent_header t (link_written (ways_of S) r)
 
   sent_read : read_frame (forwarded (ways_of S) r f h) ≡ Trill sent
   unfolding forwarded
-  sent_read = forwarded_read t (link-written (ways_of S) r)
+  sent_read = forwarded_read t (link_written (ways_of S) r)
 
   sent_inner : inner_of (forwarded (ways_of S) r f h) sent ≡ inner_of f h
   unfolding forwarded
-  sent_inner = forwarded_inner t (link-written (ways_of S) r)
+  sent_inner = forwarded_inner t (link_written (ways_of S) r)
 
   forwarded_on : (beside : List ℕ) (via : ℕ) → Forwarded S f (wrote_both 50 (forwarded (ways_of S) r f h) r.neighbour beside via)
   unfolding towards
@@ -151,10 +151,10 @@ module _ (S : Settings) (own : S.nickname < 65536) (f : List ℕ) (h : Header) (
     answered : Heard (reply_inner (ways_of S) number code body) → (Heard (inner_of f h) → ⊥) → length written ≤ beside_least
         → Answered S f written r.neighbour
     answered heard new short =
-        let fits = (frame-read f h t.read).ingress_fits in
-        let header = reply_header (ways_of S) own fits number code body (link-written (ways_of S) r) in
-        let read = reply_read (ways_of S) own fits number code body (link-written (ways_of S) r) in
-        let inner = reply_inner_lem (ways_of S) own fits number code body (link-written (ways_of S) r) in
+        let fits = (frame_read f h t.read).ingress_fits in
+        let header = reply_header (ways_of S) own fits number code body (link_written (ways_of S) r) in
+        let read = reply_read (ways_of S) own fits number code body (link_written (ways_of S) r) in
+        let inner = reply_inner_lem (ways_of S) own fits number code body (link_written (ways_of S) r) in
         record {
           hops_left = omega (arith, hop_read f h t.read, (header_passed (ways_of S) f h t.unrefused).hops_left);
           not_a_reply = λ y. new (reply_heard f t.read y);

@@ -16,16 +16,16 @@ pub ruleset tests = (lt-ltb, le-ltb, le-leb, lt-leb, eq-eqb, ne_eqb)
 pub apart : {X : Type 0} → ◌≡◌ {A = ℕ} 0 1 → X
 apart e = absurd (omega arith)
 
-pub by-test : {X : Type 0} (b : Bool) → (b ≡ true → X) → (b ≡ false → X) → X
-by-test true t f = t refl
-by-test false t f = f refl
+pub by_test : {X : Type 0} (b : Bool) → (b ≡ true → X) → (b ≡ false → X) → X
+by_test true t f = t refl
+by_test false t f = f refl
 
 -- two numbers, by their order, or whether they are equal
 pub by_order : {X : Type 0} (a b : ℕ) → (a < b → X) → (b ≤ a → X) → X
-by_order a b less more = by-test (ltb a b) (λ t. less (ltb-true a b t)) (λ t. more (ltb-false a b t))
+by_order a b less more = by_test (ltb a b) (λ t. less (ltb-true a b t)) (λ t. more (ltb-false a b t))
 
 pub by_equal : {X : Type 0} (a b : ℕ) → (a ≡ b → X) → ((a ≡ b → ⊥) → X) → X
-by_equal a b same other = by-test (eqb a b) (λ t. same (eqb-true a b t)) (λ t. other (eqb-false a b t))
+by_equal a b same other = by_test (eqb a b) (λ t. same (eqb-true a b t)) (λ t. other (eqb-false a b t))
 
 -- what holds either way of a test: `search` goes through a chain of tests by it
 pub either : {A : Type 0} (P : A → Type 0) (b : Bool) (x y : A) → (b ≡ true → P x) → (b ≡ false → P y) → P (cond b x y)
@@ -41,17 +41,17 @@ pub by_option : {A X : Type 0} (w : Option A) → (w ≡ none → X) → ((a : A
 by_option none n s = n refl
 by_option (some a) n s = s a refl
 
-pub and-true : (a b : Bool) → (a && b) ≡ true → (a ≡ true) × (b ≡ true)
-and-true true true e = (refl, refl)
-and-true true false e = apart cc
-and-true false b e = apart cc
+pub and_true : (a b : Bool) → (a && b) ≡ true → (a ≡ true) × (b ≡ true)
+and_true true true e = (refl, refl)
+and_true true false e = apart cc
+and_true false b e = apart cc
 
 -- one part alone: `search` takes a conjunction or a disjunction apart by these
 pub and_left : (a b : Bool) → (a && b) ≡ true → a ≡ true
-and_left a b e = (and-true a b e).0
+and_left a b e = (and_true a b e).0
 
 pub and_right : (a b : Bool) → (a && b) ≡ true → b ≡ true
-and_right a b e = (and-true a b e).1
+and_right a b e = (and_true a b e).1
 
 pub or_false : (a b : Bool) → (a || b) ≡ false → (a ≡ false) × (b ≡ false)
 or_false false false e = (refl, refl)
@@ -97,5 +97,5 @@ every_below (suc n) test = test n && every_below n test
 pub each_below : (n : ℕ) (test : ℕ → Bool) → every_below n test ≡ true → (k : ℕ) → k < n → test k ≡ true
 each_below zero test e k h = absurd (omega arith)
 each_below (suc n) test e k h =
-    let both = and-true (test n) (every_below n test) e in
+    let both = and_true (test n) (every_below n test) e in
     by_equal k n (λ same. rw same both.0) (λ other. each_below n test both.1 k (omega arith))

@@ -8,9 +8,9 @@ use lib.Dec.{ltb}
 use lib.ListN.{length, length-append}
 use specs.Campus.{Described, refused, accepted, described, State, plain_run}
 use specs.Text.{ascii, line_feed, decimal_from, decimal, entry_text, entries_text, printed}
-use proofs.TestLaws.{tests, by-test}
-use proofs.DescriptionLaws.{described_result, accepted-good}
-use proofs.DemandLaws.{plain-most, plain_numbers}
+use proofs.TestLaws.{tests, by_test}
+use proofs.DescriptionLaws.{described_result, accepted_good}
+use proofs.DemandLaws.{plain_most, plain_numbers}
 use Rattle.rules.specs
 use Rattle.rules.proofs
 
@@ -30,7 +30,7 @@ unfolding decimal_from
 digits_most k zero n h = omega arith
 digits_most zero (suc fuel) n h = rw (last_digit (suc fuel) n (omega arith) (omega arith)) (omega arith)
 digits_most (suc k) (suc fuel) n h =
-    by-test (ltb n 10)
+    by_test (ltb n 10)
     (λ b. rw (decimal_from, b) (omega arith))
     (λ b. rw (decimal_from, b, length-append) (omega (arith, digits_most k fuel (n / 10) (omega arith))))
 
@@ -93,9 +93,9 @@ module _ (file : List ℕ) where
         | refused code ↦ λ e.
             rw (printed_refused code e) (simp length-append (omega (arith, digits_most 1 (suc code) code (refused_ranged file code e).1)))
         | accepted d ↦ λ e.
-            let a = accepted-good file d e in
+            let a = accepted_good file d e in
             let n = length (plain_run d) in
-            let most = plain-most d a in
+            let most = plain_most d a in
             rw (printed_accepted d e)
             (simp length-append (omega (arith, lines_most (plain_run d) (plain_numbers d a), digits_most 3 (suc n) n (omega (arith, most)))))
       ] refl

@@ -14,8 +14,8 @@ use Rattle.rules.specs as rules
 use rules.{Octets.octet, Octets.put, Link.ethertype_trill, Fields.field, Fields.length_good}
 use rules.declared.NextHop.{NextHop}
 use rules.Settings.{Settings, hop_good, hop_of, serial_met, with_hop, with_field, continues, nickname_valid, ways_of}
-use Rattle.rules.proofs.TestLaws.{and-true, and_yes, by_order, by_equal, tests}
-use Rattle.rules.proofs.{OctetLaws.length-put, FrameLaws.none_given}
+use Rattle.rules.proofs.TestLaws.{and_true, and_yes, by_order, by_equal, tests}
+use Rattle.rules.proofs.{OctetLaws.length_put, FrameLaws.none_given}
 use Rattle.stores.specs
 use specs.Store.{count_in, hops_from, index_in, hop_for, ways_in, store_good, StandsFor, Stands}
 use specs.Insert.{first_word, second_word, index_for, inserted_in, Shifted}
@@ -43,8 +43,8 @@ module _ (w : List ℕ) where
   pub room_parts : room_in w ≡ true → (4 ≤ length w) × (count_in w < 64) × (6 + 2 * count_in w ≤ length w)
   unfolding room_in
   room_parts e =
-      let a = and-true (leb 4 (length w)) (ltb (count_in w) 64 && leb (6 + 2 * count_in w) (length w)) e in
-      let b = and-true (ltb (count_in w) 64) (leb (6 + 2 * count_in w) (length w)) a.1 in
+      let a = and_true (leb 4 (length w)) (ltb (count_in w) 64 && leb (6 + 2 * count_in w) (length w)) e in
+      let b = and_true (ltb (count_in w) 64) (leb (6 + 2 * count_in w) (length w)) a.1 in
       (leb-true 4 (length w) a.0, ltb-true (count_in w) 64 b.0, leb-true (6 + 2 * count_in w) (length w) b.1)
 
   module _ (a : 4 ≤ length w) where
@@ -243,7 +243,7 @@ module _ (w v : List ℕ) (long : 4 ≤ length w) where
   switch_counts = refl
 
   pub switch_long : length (with_switch w v) ≡ length w
-  switch_long = length-put w 0 ((S.switch_of v).nickname ∷ ((S.switch_of v).mac * 65536 + ethertype_trill) ∷ 0 ∷ 0 ∷ []) long
+  switch_long = length_put w 0 ((S.switch_of v).nickname ∷ ((S.switch_of v).mac * 65536 + ethertype_trill) ∷ 0 ∷ 0 ∷ []) long
 
 -- words that stand for settings say what these say, and are good
 module _ (w : List ℕ) (T : Settings) (s : Stands w T) where

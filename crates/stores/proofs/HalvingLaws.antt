@@ -5,7 +5,7 @@ use Prim.Native.Nat.{ℕ, ◌+◌, ◌*◌, ◌<◌, ◌≤◌}
 use mathlib.Core.Path.{◌≡◌}
 use mathlib.Core.Bool.{Bool, true, false}
 use native.Mathlib.Omega.{arith}
-use Rattle.rules.proofs.TestLaws.{by-test}
+use Rattle.rules.proofs.TestLaws.{by_test}
 use Rattle.stores.specs.Halving.{halved, twice_halved, six_times}
 
 module _ (P : ℕ → Bool) where
@@ -17,7 +17,7 @@ module _ (P : ℕ → Bool) where
 
   step_reached : (at half : ℕ) → Reached at → Reached (halved P at half)
   unfolding halved
-  step_reached at half r = by-test (P (at + half)) (λ t. rw t (λ z. t)) (λ f. rw f r)
+  step_reached at half r = by_test (P (at + half)) (λ t. rw t (λ z. t)) (λ f. rw f r)
 
   pub reached : Reached (six_times P)
   reached =
@@ -28,7 +28,7 @@ module _ (P : ℕ → Bool) where
     step_beyond : (at half : ℕ) → 0 < half → Beyond (at + (half + half)) → Beyond (halved P at half + half)
     unfolding halved
     step_beyond at half z b =
-        by-test (P (at + half)) (λ t. rw t (λ j h. b j (omega arith))) (λ f. rw f (λ j h. falls (at + half) j (omega arith) h f))
+        by_test (P (at + half)) (λ t. rw t (λ j h. b j (omega arith))) (λ f. rw f (λ j h. falls (at + half) j (omega arith) h f))
 
     pub beyond : Beyond 64 → Beyond (six_times P + 1)
     beyond b =

@@ -11,8 +11,8 @@ use lib.Seq.{get_or-set_same, get_or-set_other, get_or-take, get_or-drop, get_or
 use lib.Dec.{eqb, ltb, leb}
 use borrow.Author.Tests.{eqb-true, eqb-false, ltb-true, ltb-false, leb-true}
 use Rattle.rules.specs.Octets.{part, put}
-use Rattle.rules.proofs.OctetLaws.{length-put, length_part}
-use Rattle.rules.proofs.TestLaws.{by-test, and-true, or_yes, or_no, or_assoc, by_order, by_equal, tests}
+use Rattle.rules.proofs.OctetLaws.{length_put, length_part}
+use Rattle.rules.proofs.TestLaws.{by_test, and_true, or_yes, or_no, or_assoc, by_order, by_equal, tests}
 use Rattle.rules.specs.declared.NextHop.{NextHop}
 use Rattle.stores.specs
 use specs.Store.{first_at, second_at, rank_at, hop_of, hop_at, hops_from, Ordered, StandsFor}
@@ -41,7 +41,7 @@ module _ (w : List ℕ) (rank n : ℕ) where
 
   below_true : (j p : ℕ) → suc j ≡ p → below_at w n rank p ≡ true → (p ≤ n) × (rank_at w j < rank)
   below_true j p e t =
-      let b = and-true (leb (suc j) n) (ltb (rank_at w j) rank) (sym (below_is j) ∙ rw e t) in
+      let b = and_true (leb (suc j) n) (ltb (rank_at w j) rank) (sym (below_is j) ∙ rw e t) in
       (rw e at (leb-true (suc j) n b.0), ltb-true (rank_at w j) rank b.1)
 
   below_false : (j : ℕ) → below_at w n rank (suc j) ≡ false → j < n → rank ≤ rank_at w j
@@ -65,7 +65,7 @@ module _ (w : List ℕ) (rank n : ℕ) where
   pub index_most : index_for w rank n ≤ n
   unfolding index_for
   index_most =
-      by-test (below_at w n rank n) (λ t. rw t (omega arith)) (λ f. rw f
+      by_test (below_at w n rank n) (λ t. rw t (omega arith)) (λ f. rw f
       (by_order 0 found (λ z. (found_below (found - 1) (omega arith)).0) (λ z. omega arith)))
 
   module _ (o : Ordered w n) where
@@ -88,7 +88,7 @@ module _ (w : List ℕ) (rank n : ℕ) where
     placed : IndexFor w n rank (index_for w rank n)
     unfolding index_for
     placed =
-        by-test (below_at w n rank n)
+        by_test (below_at w n rank n)
         (λ t. rw t (record { within = omega arith; above = λ j a b. absurd (omega arith); below = λ j e. (below_true j n e t).1 }))
         (λ f. rw f
         (record {
@@ -142,7 +142,7 @@ module _ (w : List ℕ) (n first second p : ℕ) (within : p ≤ n) (room : 6 + 
       record {
         shifted =
             record {
-              size = length-put w at new new_room;
+              size = length_put w at new new_room;
               before = put_before w at new new_room;
               moved = up;
               beyond = λ j h. put_beyond w at new new_room j (j - (6 + 2 * n)) (omega (arith, up_long));
@@ -215,12 +215,12 @@ module _ (w : List ℕ) (n first second : ℕ) where
         fresh h = omega (arith, eqb-false (rank_at w index) rank (simp tests at m), (placed w rank n o).above index (omega arith) h)
 
   pub inserted_long : 6 + 2 * n ≤ length w → length (inserted_in w n first second) ≡ length w
-  inserted_long room = by-test (met_in w n rank) (λ t. rw (inserted_met t)) (λ t. (inserted_so t room).shifted.size)
+  inserted_long room = by_test (met_in w n rank) (λ t. rw (inserted_met t)) (λ t. (inserted_so t room).shifted.size)
 
   pub met_record : met_in w n rank ≡ true → (index < n) × (rank_at w index ≡ rank)
   unfolding met_in met_at
   met_record m =
-      let b = and-true (ltb index n) (eqb (rank_at w index) rank) m in
+      let b = and_true (ltb index n) (eqb (rank_at w index) rank) m in
       (ltb-true index n b.0, eqb-true (rank_at w index) rank b.1)
 
 -- rows that agree, or that agree one index up
@@ -372,7 +372,7 @@ module _ (w : List ℕ) {n : ℕ} (r : NextHop) {hops : List NextHop} (few : n <
 
   pub met_is : met_in w n (first_word r / 65536) ≡ S.serial_met r hops
   met_is =
-      by-test (met_in w n (first_word r / 65536)) (λ t. t ∙ sym (met_so t)) (λ f. f ∙ sym (s.same_met r ∙ row_unmet w r n 0 (λ j a c. apart f j (omega arith))))
+      by_test (met_in w n (first_word r / 65536)) (λ t. t ∙ sym (met_so t)) (λ f. f ∙ sym (s.same_met r ∙ row_unmet w r n 0 (λ j a c. apart f j (omega arith))))
 
 -- words that agree from the first record on
 pub stands_same : (w v : List ℕ) {n : ℕ} {hops : List NextHop} → StandsFor w n hops → ((j : ℕ) → 4 ≤ j → j < 4 + 2 * n → get_or v j 0 ≡ get_or w j 0)

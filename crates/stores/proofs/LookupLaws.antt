@@ -6,7 +6,7 @@ use mathlib.Core.Bool.{true, false, false≢true}
 use native.Mathlib.Omega.{arith}
 use borrow.Author.Tests.{ltb-true, leb-true, leb-false}
 use lib.Dec.{ltb, leb, eqb}
-use Rattle.rules.proofs.TestLaws.{by-test, by_order, by_equal, and-true, tests}
+use Rattle.rules.proofs.TestLaws.{by_test, by_order, by_equal, and_true, tests}
 use Rattle.rules.specs.declared.Ruling.{Ruling}
 use Rattle.rules.specs.declared.Ruling.TheVariants.{Found, Absent}
 use Rattle.rules.specs.Settings as S
@@ -26,7 +26,7 @@ next_hop_lem T d = go (S.ruling T.hops d) refl
 
 for_it : (w : List ℕ) (n d i : ℕ) → i < n → dest_at w i ≡ d → hop_for w n d i ≡ unless_withdrawn (Found (hop_at w i))
 unfolding hop_for unless_withdrawn hop_at
-for_it w n d i h e = by-test (eqb (second_at w i % 65536) 0) (λ t. simp (tests, t)) (λ f. simp (tests, f))
+for_it w n d i h e = by_test (eqb (second_at w i % 65536) 0) (λ t. simp (tests, t)) (λ f. simp (tests, f))
 
 -- what is known of an index that the search comes to
 record Between (w : List ℕ) (n d at : ℕ) : Type 0 where
@@ -41,7 +41,7 @@ module _ (w : List ℕ) (n : ℕ) (o : Ordered w n) where
     up_true : (i : ℕ) → up_to w n d i ≡ true → (i < n) × (dest_at w i ≤ d)
     unfolding up_to
     up_true i t =
-        let b = and-true (ltb i n) (leb (dest_at w i) d) t in
+        let b = and_true (ltb i n) (leb (dest_at w i) d) t in
         (ltb-true i n b.0, leb-true (dest_at w i) d b.1)
 
     up_false : (i : ℕ) → up_to w n d i ≡ false → i < n → d < dest_at w i
@@ -116,7 +116,7 @@ module _ (w : List ℕ) (n : ℕ) (o : Ordered w n) where
   right_index : (d : ℕ) → Right d (index_in w n d)
   unfolding index_in
   right_index d =
-      by-test (last_at w n d (hint_at w d))
+      by_test (last_at w n d (hint_at w d))
       (λ t. simp (index_in, t) (right_between d (hint_at w d) (last_between d (hint_at w d) t)))
       (λ f. simp (index_in, f) (right_between d (searched w n d) (searched_between d)))
 

@@ -23,10 +23,10 @@ use rules.{Settings.hop_of, Settings.switch_good, Campus.known}
 use rules.declared.{FieldRead.FieldRead, NextHop.NextHop}
 use rules.declared.FieldRead.TheVariants.{Taken, Cut}
 use Rattle.rules.proofs as rule_laws
-use rule_laws.TestLaws.{by-test, and-true, tests}
-use rule_laws.{OctetLaws.put_front, OctetLaws.length-put, HandlingLaws.settings_good, Taken.taken, Taken.taken_first}
-use rule_laws.FieldLaws.{IsField, field_read, fields-at-end, fields-at-cut, fields-at-on}
-use rule_laws.SettingsLaws.{from_on, from-bad, from-read}
+use rule_laws.TestLaws.{by_test, and_true, tests}
+use rule_laws.{OctetLaws.put_front, OctetLaws.length_put, HandlingLaws.settings_good, Taken.taken, Taken.taken_first}
+use rule_laws.FieldLaws.{IsField, field_read, fields_at_end, fields_at_cut, fields_at_on}
+use rule_laws.SettingsLaws.{from_on, from_bad, from_read}
 use Rattle.stores.specs
 use specs.Store.{count_in, handled_in, Stands, Roomy, Filled, Fills, Hinted, preparing, Prepared}
 use specs.Insert.{first_word, second_word, met_in, inserted_in}
@@ -34,7 +34,7 @@ use specs.Extend.{with_switch, opens_in, Opens, room_in, count_by, met_by, added
 use specs.Extend.{extended, with_record, Extends}
 use Rattle.octets.specs.{Flags.flag_tag, Flags.flag_value, Flags.flag_by, Records.record_of, Records.hop_by}
 use Rattle.octets.specs.declared.values.Record.{Record}
-use rule_laws.FirstLaws.{continues-cut, opened-field, first, settings-open, settings-bad, settings-cut, switch-fold}
+use rule_laws.FirstLaws.{continues_cut, opened_field, first, settings_open, settings_bad_lem, settings_cut, switch_fold}
 use Rattle.stores.proofs
 use proofs.InsertLaws.{inserted_long}
 use proofs.ExtendLaws.{Ample, record_long, extending_continues, extended_stands, extended_long, extended_few, switch_stands}
@@ -44,12 +44,12 @@ use proofs.ExtendLaws.{switch_counts, switch_long, says, room_parts, is_good, st
 module _ (w : List ℕ) (n : ℕ) (is : n ≡ count_by w) where
   full_so : n ≡ 64 → room_in w ≡ false
   unfolding count_by
-  full_so e = by-test (room_in w) (λ t. absurd (omega (arith, rw t at is, room_parts w t))) (λ f. f)
+  full_so e = by_test (room_in w) (λ t. absurd (omega (arith, rw t at is, room_parts w t))) (λ f. f)
 
   module _ (h : n ≡ 64 → ⊥) where
     room_so : room_in w ≡ true
     unfolding count_by
-    room_so = by-test (room_in w) (λ t. t) (λ f. absurd (h (rw f at is)))
+    room_so = by_test (room_in w) (λ t. t) (λ f. absurd (h (rw f at is)))
 
     pub admit_count : n ≡ count_in w
     unfolding count_by
@@ -65,7 +65,7 @@ module _ (w : List ℕ) (n : ℕ) (is : n ≡ count_by w) where
     pub added_long : (u : List ℕ) (r : NextHop) → u ≡ added_to w r → length u ≡ length w
     added_long u r q =
         let has = room_parts w room_so in
-        by-test (met_by w r) (λ t. rw (q, t)) (λ t. rw (q, t) (record_long {r = r} (record { few = has.1; room = has.2; new = t })))
+        by_test (met_by w r) (λ t. rw (q, t)) (λ t. rw (q, t) (record_long {r = r} (record { few = has.1; room = has.2; new = t })))
 
 -- a record: one law for each way that it is refused, and one where it is taken
 module _ (w v : List ℕ) where
@@ -188,12 +188,12 @@ module _ (w : List ℕ) (tag : ℕ) (v : List ℕ) (r : ℕ) (u : List ℕ) wher
   pub extend_flag : (tag ≡ 2 → ⊥) → FlagIn w tag v r u → Extends w tag v r u
   unfolding extending extended
   extend_flag n t =
-      by-test (eqb (flag_code w tag v) 0)
+      by_test (eqb (flag_code w tag v) 0)
       (λ z. record { code = simp (extending, tests) t.code; words = t.words ∙ simp (extended, extending, tests, z) })
       (λ z. record { code = simp (extending, tests) t.code; words = t.words ∙ simp (extended, extending, tests, z) })
 
   pub flag_same : FlagIn w tag v r u → length u ≡ length w
-  flag_same t = by-test (eqb (flag_code w tag v) 0) (λ z. rw (t.words, z, length-set)) (λ z. rw (t.words, z))
+  flag_same t = by_test (eqb (flag_code w tag v) 0) (λ z. rw (t.words, z, length-set)) (λ z. rw (t.words, z))
 
   pub extend_long : Extends w tag v r u → length u ≡ length w
   extend_long e = rw e.words (extended_long w tag v)
@@ -225,7 +225,7 @@ module _ (s : List ℕ) (from : ℕ) (w : List ℕ) where
         record {
           filled = λ T t.
               let r = l.left T t in
-              rw (← r.decides, fields-at-end s at h) (refl, r.stands);
+              rw (← r.decides, fields_at_end s at h) (refl, r.stands);
           roomy = λ e. l.roomy;
         }
 
@@ -236,13 +236,13 @@ module _ (s : List ℕ) (from : ℕ) (w : List ℕ) where
         record {
           filled = λ T t.
               let r = l.left T t in
-              rw (← r.decides, is, from-bad r.read f fs (bad r.read r.stands));
+              rw (← r.decides, is, from_bad r.read f fs (bad r.read r.stands));
           roomy = λ e. absurd (false≢true e);
         }
 
     module _ (h : at < length s) (read : FieldRead) (q : read ≡ field_at s at) where
       pub filling_cut : read ≡ Cut → Fills s from w false v
-      filling_cut c = stopped cut [] (fields-at-cut s at h (sym q ∙ c)) (λ T t. continues-cut T) v
+      filling_cut c = stopped cut [] (fields_at_cut s at h (sym q ∙ c)) (λ T t. continues_cut T) v
 
       module _ (tag size next : ℕ) (t : read ≡ Taken tag size next) (r : ℕ) (u : List ℕ) (step : Extends v tag (part s (at + 3) (next - (at + 3))) r u) where
         abbrev value : List ℕ
@@ -252,7 +252,7 @@ module _ (s : List ℕ) (from : ℕ) (w : List ℕ) where
         its = field_read s at tag size next (sym q ∙ t)
 
         on : fields_at s at ≡ field tag value ∷ fields_at s next
-        on = fields-at-on s at tag size next h (sym q ∙ t)
+        on = fields_at_on s at tag size next h (sym q ∙ t)
 
         stepped : Extends v tag value r u
         stepped =
@@ -342,19 +342,19 @@ unknown w (some T) e = absurd (false≢true e)
 
 module _ (s : List ℕ) (read : FieldRead) (q : read ≡ field_at s 0) where
   pub prepare_cut : (w : List ℕ) → read ≡ Cut → Filled w (settings_of s) false
-  prepare_cut w c = unknown w (settings_of s) (settings-cut s (sym q ∙ c))
+  prepare_cut w c = unknown w (settings_of s) (settings_cut s (sym q ∙ c))
 
   module _ (tag size next : ℕ) (t : read ≡ Taken tag size next) (v : List ℕ) (held : v ≡ part s 3 (next - 3)) (o : Bool) (is : o ≡ opens (field tag v)) where
     opens_by : {b : Bool} → o ≡ b → opens (field tag (part s 3 (next - 3))) ≡ b
     opens_by e = sym (rw held at is) ∙ e
 
     pub prepare_shut : (w : List ℕ) → not o ≡ true → Filled w (settings_of s) false
-    prepare_shut w n = unknown w (settings_of s) (settings-bad s (sym q ∙ t) (opens_by (not-true o n)))
+    prepare_shut w n = unknown w (settings_of s) (settings_bad_lem s (sym q ∙ t) (opens_by (not-true o n)))
 
     pub prepare_filled : not o ≡ false → (w : List ℕ) → Stands w (switch_of v) → (r : Bool) (u : List ℕ) → Fills s next w r u → Filled u (settings_of s) r
     prepare_filled n w stands r u fills =
-        let open_so = settings-open s (field tag (part s 3 (next - 3))) (fields_at s next) (first s (sym q ∙ t)) (opens_by (not-false o n)) in
-        rw (open_so, opened-field, ← held) (fills.filled (switch_of v) stands)
+        let open_so = settings_open s (field tag (part s 3 (next - 3))) (fields_at s next) (first s (sym q ∙ t)) (opens_by (not-false o n)) in
+        rw (open_so, opened_field, ← held) (fills.filled (switch_of v) stands)
 
 pub ruleset prepare_laws = (rules, taken, taken_first, open_stands, open_roomy, prepare_cut, prepare_shut, prepare_filled)
 
@@ -367,11 +367,11 @@ settings_named s T e = go (fields s) refl
     go [] is = cc (rw (settings_of, is) at e)
     go (cut ∷ fs) is = cc (rw (settings_of, is) at e)
     go (field tag v ∷ fs) is =
-        by-test (opens (field tag v))
+        by_test (opens (field tag v))
         (λ o.
-        let whole = from-read (switch_of v) T fs (rw (settings_of, is, o) at e) in
-        let good = (and-true (eqb tag 1 && length_good tag (length v)) (nickname_valid (be16 v 0) && mac_good (be48 v 2)) o).1 in
-        rw (← whole, switch-fold (λ n m. n)) (and-true (nickname_valid (be16 v 0)) (mac_good (be48 v 2)) good).0)
+        let whole = from_read (switch_of v) T fs (rw (settings_of, is, o) at e) in
+        let good = (and_true (eqb tag 1 && length_good tag (length v)) (nickname_valid (be16 v 0) && mac_good (be48 v 2)) o).1 in
+        rw (← whole, switch_fold (λ n m. n)) (and_true (nickname_valid (be16 v 0)) (mac_good (be48 v 2)) good).0)
         (λ o. cc (rw (settings_of, is, o) at e))
 
 -- the call: one law for each way out
@@ -413,7 +413,7 @@ module _ (s store w : List ℕ) (ok : Bool) (f : Filled w (settings_of s) ok) wh
         let whole : out ≡ w ++ drop 164 store = p ∙ (rw long at (put_front store w)) in
         let word : (j : ℕ) → j < 164 → get_or out j 0 ≡ get_or w j 0 = λ j h. rw whole (get_or-append w (drop 164 store) 0 j (omega arith)) in
         let st = stands_too w out T (λ j h. word j (omega (arith, its_known.stands.records.ordered.few))) its_known.stands in
-        let size : length out ≡ length store = rw p (length-put store 0 w (omega arith)) in
+        let size : length out ≡ length store = rw p (length_put store 0 w (omega arith)) in
         let good = is_good out T st (settings_named s T e) (omega (arith, st.records.ordered.few)) in
         record {
           answered = simp (preparing, e, tests);

@@ -11,7 +11,7 @@ use lib.ListN.{length, get_or, set, drop, replicate, length-set}
 use lib.Seq.{get_or-take, get_or-drop, paste-zero}
 use Rattle.octets.proofs.Ends.{block_all, fill_on, fill_end}
 use Rattle.rules.specs.Octets.{part, put}
-use Rattle.rules.proofs.OctetLaws.{length-put, length_part}
+use Rattle.rules.proofs.OctetLaws.{length_put, length_part}
 use Rattle.rules.proofs.TestLaws.{by_order}
 use Rattle.stores.specs
 use specs.Halving.{twice_halved}
@@ -166,7 +166,7 @@ module _ (w : List ℕ) (from to : ℕ) where
         moved_on : Shifted w (i - k) to (put v (i - k + 2) block)
         moved_on =
             record {
-              size = length-put v (i - k + 2) block fits ∙ s.size;
+              size = length_put v (i - k + 2) block fits ∙ s.size;
               before = λ j b. put_before v (i - k + 2) block fits j (omega arith) ∙ s.before j (omega arith);
               moved = λ j a b.
                   by_order j i (up j a)

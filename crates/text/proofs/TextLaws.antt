@@ -11,8 +11,8 @@ use lib.Dec.{leb}
 use lib.ListN.{length, take, drop, replicate, length-replicate}
 use lib.Seq.{length-take-le}
 use Rattle.rules.specs as rules
-use Rattle.rules.proofs.{TestLaws.by-test, OctetLaws.take_put, DescriptionLaws.accepted-good, OutcomeLaws.campus-refused}
-use Rattle.rules.proofs.{OutcomeLaws.campus-needed, DemandLaws.plain-most, DemandLaws.plain-room}
+use Rattle.rules.proofs.{TestLaws.by_test, OctetLaws.take_put, DescriptionLaws.accepted_good, OutcomeLaws.campus_refused}
+use Rattle.rules.proofs.{OutcomeLaws.campus_needed, DemandLaws.plain_most, DemandLaws.plain_room}
 use rules.Campus.{Described, some_edition2, trace_needed, Description, refused, accepted, described, State, plain_run, Kind, original, reply}
 use rules.Campus.{hop_received, egress_received, kind_octet, entry_octets, trace_octets}
 use rules.Text.{blank, line_feed, hex2, hex4, decimal, kind_letter, entry_text, entries_text, printed}
@@ -78,7 +78,7 @@ module _ {file trace₀ trace : List ℕ} {code count : ℕ} (done : CampusDone 
     where
       go : (w : Description) → described file ≡ w → Prints
       go (refused x) e =
-          let o = campus-refused file (length trace₀) enough.least x e in
+          let o = campus_refused file (length trace₀) enough.least x e in
           let k : code ≡ x = rw o at done.coded in
           let n : count ≡ 0 = rw o at done.counted in
           let r = refused_ranged file x e in
@@ -89,11 +89,11 @@ module _ {file trace₀ trace : List ℕ} {code count : ℕ} (done : CampusDone 
       go (accepted d) e =
           let run : List State = plain_run d in
           let m = done.demanded d e (enough.asked d e) in
-          let good = accepted-good file d e in
+          let good = accepted_good file d e in
           let lines : lines_of count trace ≡ entries_text run = rw (m.traces, m.counts) (lines_entries run (drop (8 * length run) trace₀)) in
           record {
             text = sym (text_handled code count trace m.answers_0) ∙ rw (lines, m.counts, printed_accepted file d e) (simp append_assoc);
-            printable = omega (arith, m.answers_0, m.counts, plain-most d good, plain-room d good, enough.asked d e);
+            printable = omega (arith, m.answers_0, m.counts, plain_most d good, plain_room d good, enough.asked d e);
           }
 
   pub printable_so : Printable code count trace
@@ -110,7 +110,7 @@ enough_2 file =
     let long = length-replicate {A = ℕ} 32768 0 in
     record {
       least = omega arith;
-      asked = λ d e. by-test (some_edition2 d.switches) (λ t. rw t (omega arith)) (λ f. rw f (omega arith));
+      asked = λ d e. by_test (some_edition2 d.switches) (λ t. rw t (omega arith)) (λ f. rw f (omega arith));
     }
 
 pub enough_1 : {file trace : List ℕ} {code count : ℕ} → CampusDone file (replicate 640 0) trace code count → (code ≡ 49 → ⊥)
@@ -121,8 +121,8 @@ enough_1 {file} done other =
     record {
       least = least;
       asked = λ d e.
-          by-test (leb (trace_needed d) room) (λ t. leb-true (trace_needed d) room t) (λ f.
-          absurd (other (rw (campus-needed file room least d e (leb-false (trace_needed d) room f)) at done.coded)));
+          by_test (leb (trace_needed d) room) (λ t. leb-true (trace_needed d) room t) (λ f.
+          absurd (other (rw (campus_needed file room least d e (leb-false (trace_needed d) room f)) at done.coded)));
     }
 
 pub ruleset text_of_laws = (rules, printable_so, text_done, enough_2)
