@@ -38,9 +38,11 @@ all: $(LIBRARY) $(PROGRAMS:%=build/%)
 # ---- The proved archives, and the library made of them ----
 
 # rt proves what it builds. What is unchanged is not proved again: build/libNAME.sum is the sum of the sources that build/libNAME.a was
-# proved from. The sources' times do not matter, since a checkout changes them.
-crates = $(sort $(1) $(foreach below,$(shell sed -n 's/^$(1)://p' ../crates.txt),$(call crates,$(below))))
-sources = find ../crates.txt $(wildcard $(addprefix ../crates/,$(crates))) -name must-fail -prune -o -type f -print
+# proved from. The sources' times do not matter, since a checkout changes them, nor what rt keeps in out/. An archive is of the crate
+# NAME, or of NAME_c where other crates use NAME.
+crates = $(sort $(1) $(foreach below,$(shell sed -nE 's/^$(1)( staticlib)?://p' ../crates.txt),$(call crates,$(below))))
+below = $(sort $(call crates,$(1)) $(call crates,$(1)_c))
+sources = find ../crates.txt $(wildcard $(addprefix ../crates/,$(below))) \( -name must-fail -o -name out \) -prune -o -type f -print
 sum = $(shell $(sources) | LC_ALL=C sort | xargs sha256sum | sha256sum)
 
 # One proof at a time, each archive after the one before: they prove the crates below in the same folder.
@@ -58,7 +60,6 @@ build/lib%.a:
 	@mkdir -p build
 	@rm -f build/lib$*.sum
 	./prove $*
-	@cp ../target/staticlib/lib$*.a $@
 	@echo '$(sum_$*)' > build/lib$*.sum
 
 # Whoever reads the library or a program while it is made anew finds the old one or the new one, and no part of one.

@@ -30,7 +30,7 @@
 #endif
 
 #define STAFFRIPPLE_VERSION "0.1.0"
-#define STAFFRIPPLE_KIT "rattle-kit-5b logic 064da1ca440f63e7" /* the Rattle kit that it was made with */
+#define STAFFRIPPLE_KIT "rattle-kit-13f logic dac8208d650f15bf" /* the Rattle kit that it was made with */
 
 #ifdef __cplusplus
 extern "C" {

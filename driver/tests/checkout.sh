@@ -21,13 +21,14 @@ cat > "$dir/rt" <<'RT'
 #!/bin/sh
 [ "$1" != version ] || { echo 'another kit'; exit; }
 here=$(dirname "$0")
-echo "$*" >> "$here/asked"
+crate=$(basename "$PWD")
+echo "$* of $crate" >> "$here/asked"
 [ ! -e "$here/fail" ] || { seq 1 30; echo 'handler NOT PROVED'; exit 1; }
 mkdir "$here/busy" || { echo 'NOT PROVED: not alone'; exit 1; }
 trap 'rmdir "$here/busy"; exit 1' TERM
 [ ! -e "$here/hold" ] || { : > "$here/held"; sleep 1000 & wait; }
 sleep 0.5
-mkdir -p target/staticlib && cp "$here/archives/lib$2.a" target/staticlib/
+mkdir -p out && cp "$here/archives/lib${crate%_c}.a" "out/lib$crate.a"
 rmdir "$here/busy"
 RT
 chmod +x "$dir/rt"
@@ -47,7 +48,7 @@ begin() {
     for file in driver/*; do
         case $file in */build) ;; *) cp -R "$file" "$dir/checkout/driver/" ;; esac
     done
-    sed 's/:.*//' crates.txt | while read -r crate; do
+    sed 's/[ :].*//' crates.txt | while read -r crate; do
         mkdir -p "$dir/checkout/crates/$crate/src"
         echo "// $crate" > "$dir/checkout/crates/$crate/src/lib.rt"
     done
@@ -79,7 +80,7 @@ judge() {
 }
 
 c1=$(cat examples/C1.out)
-all=$(for name in $names; do echo "staticlib $name"; done)
+all=$(for name in $names; do sed -nE "s/^($name(_c)?) staticlib:.*/lib of \1/p" crates.txt; done)
 
 # ---- What is proved when ----
 
@@ -93,14 +94,14 @@ judge 'make after it proves nothing' 0 out '' err '' asked "$all"
 find crates -type f -exec touch {} +
 run make -s -C driver all
 judge 'newer files that are the same prove nothing' 0 out '' err '' asked "$all"
-rm -rf target
+rm -rf crates/*/out
 run ./staffripple examples/C1.hex
-judge 'nor does a target that is gone' 0 out "$c1" asked "$all"
+judge 'nor does it where what rt keeps is gone' 0 out "$c1" asked "$all"
 echo '// more' >> crates/campus/src/lib.rt
 run ./staffripple examples/C1.hex
 judge 'what has changed is proved, and what rests on it' 0 out "$c1" asked "$all
-staticlib run
-staticlib text"
+lib of run
+lib of text_c"
 mkdir -p elsewhere
 ln -s ../staffripple elsewhere/link
 ln -s link elsewhere/second

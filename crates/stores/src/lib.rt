@@ -8,8 +8,7 @@ ghost use Rattle.stores.specs.Store.{Prepared};
 ghost use Rattle.stores.specs.Extend.{Opens, Extends};
 
 // Settings octets into a store of 164 words or more, once for all frames: 0, 1 for bad settings, 2 for too few words.
-#[unsafe(no_mangle)]
-pub extern "C" fn trill_prepare(settings: &[u8], store: &mut [u64]) -> u32
+pub fn trill_prepare(settings: &[u8], store: &mut [u64]) -> u32
     ensures { Prepared settings.now store.old store.new result }
 {
     let mut w = [0u64; 164];

@@ -64,8 +64,7 @@ fn text_of(description: &[u8], text: &mut [u8]) -> Printed
 }
 
 // What the program prints for a description. The least trace buffer is too small only for a campus with an edition 2 switch.
-#[unsafe(no_mangle)]
-pub extern "C" fn campus_text(description: &[u8], text: &mut [u8]) -> Printed
+pub fn campus_text(description: &[u8], text: &mut [u8]) -> Printed
     ensures { TextDone description.now text.old text.new result.written result.needed }
 {
     let mut trace = [0u8; 640];

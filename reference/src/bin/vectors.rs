@@ -20,36 +20,34 @@ const TRACE_MOST: usize = 32768;
 
 const HEADER: &str = "\
 -- Generated cases, each with what the second program answers.
-use mathlib.Core.Path.{_≡_, refl}
-use mathlib.Core.Bool.{Bool, true, false, _&&_}
-use mathlib.Core.List.{List, [], _∷_, _++_}
-use Prim.Native.Nat.{ℕ}
+use mathlib.Core.Path.{◌≡◌, refl}
+use Rattle.std.specs.Prelude.{ℕ, Bool, true, false, ◌&&◌, List, [], ◌∷◌, ◌++◌, ◌==◌}
 use Prim.Native.String.{String}
-use lib.Dec.{eqb}
-use Rattle·rules.specs.Answer.{Handled}
-use Rattle·rules.specs.Campus.{Outcome, campus}
-use Rattle·rules.specs.Cases.{Case, computedIn, hex}
-use Rattle·rules.specs.Handling.{handled, partOf}
-use Rattle·rules.specs.Text.{printed}
+use Rattle.rules.specs.Octets.{if◌then◌else◌}
+use Rattle.rules.specs.Answer.{Handled}
+use Rattle.rules.specs.Campus.{Outcome, campus}
+use Rattle.rules.specs.Cases.{Case, computed_in, hex}
+use Rattle.rules.specs.Handling.{handled, part_of}
+use Rattle.rules.specs.Text.{printed}
 
 -- 256, which is no octet, stands between what is written and the reply beside it
 unfoldable answer : Handled → List ℕ
-answer a = a .number ∷ a .start ∷ a .size ∷ a .via ∷ a .besideVia ∷ (a .octets ++ 256 ∷ a .beside)
+answer a = a.number ∷ a.start ∷ a.size ∷ a.via ∷ a.beside_via ∷ (a.octets ++ 256 ∷ a.beside)
 
 unfoldable outcome : Outcome → List ℕ
-outcome o = o .code ∷ o .count ∷ o .trace
+outcome o = o.code ∷ o.count ∷ o.trace
 
 unfoldable same : List ℕ → List ℕ → Bool
 same [] [] = true
 same [] (b ∷ t) = false
 same (a ∷ s) [] = false
-same (a ∷ s) (b ∷ t) = eqb a b && same s t
+same (a ∷ s) (b ∷ t) = (a == b) && same s t
 
 -- the names of the cases that do not come out as expected: tested and not compared, which is quick on long octet strings
 unfoldable failing : List Case → List String
-unfolding same computedIn
+unfolding same computed_in
 failing [] = []
-failing (c ∷ cases) = elim (same (c .computed) (c .expected)) [ true ↦ failing cases | false ↦ c .name ∷ failing cases ]
+failing (c ∷ cases) = if same c.computed c.expected then failing cases else c.name ∷ failing cases
 ";
 
 fn main() -> io::Result<()> {
@@ -122,7 +120,7 @@ fn parts(seed: u64) -> impl Iterator<Item = String> {
         }
         let octets = part(&input.frame, input.start as usize, input.length as usize);
         let computed = format!(
-            "partOf {} {} {}",
+            "part_of {} {} {}",
             hex(&input.frame),
             input.start,
             input.length
@@ -172,8 +170,11 @@ fn write_crate(directory: &Path, cases: &[String]) -> io::Result<()> {
         .unwrap();
     }
     fs::create_dir_all(directory.join("src"))?;
-    fs::create_dir_all(directory.join("specs"))?;
-    fs::write(directory.join("src/lib.rt"), "// Cases alone.\n")?;
-    fs::write(directory.join("specs/Lib.antt"), "pub mod Vectors\n")?;
-    fs::write(directory.join("specs/Vectors.antt"), file)
+    fs::create_dir_all(directory.join("proofs"))?;
+    fs::write(
+        directory.join("src/lib.rt"),
+        "// Cases alone.\n\n#![tactic(auto)]\n",
+    )?;
+    fs::write(directory.join("proofs/Lib.antt"), "mod Vectors\n")?;
+    fs::write(directory.join("proofs/Vectors.antt"), file)
 }
