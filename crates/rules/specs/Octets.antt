@@ -1,5 +1,5 @@
 -- Octet strings: numbers in them, big-endian throughout, a part of one, and a buffer after something was written into it.
-use Rattle.std.specs.Prelude.{ℕ, ◌+◌, ◌*◌, ◌/◌, ◌%◌, List, [], ◌∷◌, ◌++◌, Bool, cond, length, get_or, take, drop}
+use Rattle.std.specs.Prelude.{ℕ, ◌+◌, ◌*◌, ◌/◌, ◌%◌, List, [], ◌∷◌, ◌++◌, length, get_or, take, drop}
 
 -- a place past the end reads 0, and a number above 255, which no octet string has, by its low eight bits
 abbrev pub octet : List ℕ → ℕ → ℕ

@@ -1,5 +1,4 @@
 -- Its contract, by arithmetic.
-use Rattle.std.proofs.Common.{arith}
 use lib.Bits.{and_mask}
 use Rattle.handler.specs.Ranks.{mix_of}
 use Rattle.handler.proofs.validation.mix.Goals as goal
