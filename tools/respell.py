@@ -70,6 +70,10 @@ def turned(text, new, dashed=True):
     return NAME.sub(lambda m: new.get(m[0], m[0]) if dashed or "-" not in m[0] else m[0], text)
 
 
+def outside_strings(text, new):
+    return "".join(part if part.startswith('"') else turned(part, new) for part in re.split(r'("[^"\n]*")', text))
+
+
 def by_comment(text, new, mark):
     """In a comment a word with a dash is English, but for what stands in backticks."""
     lines = []
@@ -77,7 +81,7 @@ def by_comment(text, new, mark):
         at = line.find(mark)
         at = len(line) if at < 0 else at
         said = re.sub(r"`[^`]*`", lambda m: turned(m[0], new), turned(line[at:], new, False))
-        lines.append(turned(line[:at], new) + said)
+        lines.append(outside_strings(line[:at], new) + said)
     return "\n".join(lines)
 
 

@@ -429,7 +429,7 @@ cases =
     ∷ files "T-01 15 octets in a file" (hop_vlan (hex "000F") (hex "01") (hex "00")) (42 ∷ 0 ∷ [])
     ∷ transits "T-09 critical alert, echo" "0045" "81000000" asks 50 64 60
     ∷ arrives "T-09 critical alert, echo, at the egress" "0045" "81000000" asks 54 60
-    ∷ transits "T-09 non_critical alert, echo" "0045" "00800000" asks 50 64 60
+    ∷ transits "T-09 non-critical alert, echo" "0045" "00800000" asks 50 64 60
     ∷ transits "T-09 critical flag, no summary bit" "0045" "01000000" asks 38 0 0
     ∷ transits "T-09 summary bit, no flag, one word" "0045" "80000000" asks 38 0 0
     ∷ transits "T-09 CRHbH, no flag, two words" "0085" "80000000 00000000" asks 20 0 0
@@ -438,10 +438,10 @@ cases =
     ∷ arrives "T-09 CRItE, no flag, two words, at the egress" "0085" "40000000 00000000" asks 20 0
     ∷ transits "T-09 critical alert, unknown protocol" "0045" "81000000" strange 53 76 0
     ∷ transits "T-09 critical alert, unknown protocol, silent" "0045" "81000000" (message "0002 C000" "") 25 0 0
-    ∷ transits "T-09 non_critical alert, unknown protocol" "0045" "00800000" strange 50 46 0
+    ∷ transits "T-09 non-critical alert, unknown protocol" "0045" "00800000" strange 50 46 0
     ∷ transits "T-09 both alerts, unknown protocol" "0045" "81800000" strange 53 76 0
     ∷ transits "T-09 critical alert, ERR 1" "0045" "81000000" (message "0FF8 4001" "") 26 0 0
-    ∷ transits "T-09 non_critical alert, ERR 1" "0045" "00800000" (message "0FF8 4001" "") 50 46 0
+    ∷ transits "T-09 non-critical alert, ERR 1" "0045" "00800000" (message "0FF8 4001" "") 50 46 0
     ∷ transits "T-09 critical alert, ordinary frame" "0045" "81000000" inner 50 44 0
     ∷ arrives "T-09 critical alert, ordinary frame, at the egress" "0045" "81000000" inner 51 0
     ∷ transits "T-09 unknown critical flag" "0045" "90000000" asks 20 0 0
@@ -449,7 +449,7 @@ cases =
     ∷ transits "T-09 critical reserved flag" "0045" "20020000" inner 50 44 0
     ∷ arrives "T-09 critical reserved flag, at the egress" "0045" "20020000" inner 51 0
     ∷ transits "T-09 CRItE and its flag" "0045" "40000020" asks 50 64 0
-    ∷ transits "T-09 CRItE and a non_critical alert" "0045" "40800020" asks 50 64 0
+    ∷ transits "T-09 CRItE and a non-critical alert" "0045" "40800020" asks 50 64 0
     ∷ arrives "T-09 CRItE and its flag, at the egress" "0045" "40000020" asks 20 0
     ∷ transits "T-09 critical alert, echo reply" "0045" "81000000" (message "0FF8 4000" "40000001 02 00 000001000002 000000000000") 50 64 0
     ∷ transits "T-09 critical alert, reply mode 1" "0045" "81000000" (message "0FF8 4000" "30000001 01 00 000001000002 000000000000") 50 64 0
