@@ -188,9 +188,9 @@ module _ {s w starts : List ℕ} {n clock place first : ℕ} {v trace : List ℕ
     fit : (S : Settings) → Memᴰ S all → S.nickname < 65536
     fit = all_small w starts n sound.each
 
-    loop-ready : (few : ℕ) → replies_in (run_of w starts n first clock' frame) ≤ few → (waiting : List ℕ) → 579 * few ≤ length waiting
+    loop_ready : (few : ℕ) → replies_in (run_of w starts n first clock' frame) ≤ few → (waiting : List ℕ) → 579 * few ≤ length waiting
         → LoopReady w starts n first clock' frame waiting trace
-    loop-ready few h waiting enough =
+    loop_ready few h waiting enough =
         let short : length frame ≤ 2048 = rw frame_is good.short_frame in
         let count = same.count in
         let most = plain_most d good in
@@ -198,14 +198,14 @@ module _ {s w starts : List ℕ} {n clock place first : ℕ} {v trace : List ℕ
         search (arith, sound, named, six)
 
     module _ (two : Bool) (is : two ≡ some_edition2 (switches_in w starts n)) where
-      pub loop-2 : two ≡ true → LoopReady w starts n first clock' frame (replicate 36477 0) trace
-      loop-2 t =
-          loop-ready 63 (omega (arith, few_replies all clock' six fit handlings_most 1 entry.nickname original frame, hop_most frame))
+      pub loop_2 : two ≡ true → LoopReady w starts n first clock' frame (replicate 36477 0) trace
+      loop_2 t =
+          loop_ready 63 (omega (arith, few_replies all clock' six fit handlings_most 1 entry.nickname original frame, hop_most frame))
           (replicate 36477 0) (omega (arith, length-replicate {A = ℕ} 36477 0))
 
-      pub loop-1 : two ≡ false → LoopReady w starts n first clock' frame (replicate 579 0) trace
-      loop-1 t =
-          loop-ready 1 (rw one (one_reply all clock' six draft handlings_most 1 entry original frame (named_member all entry.nickname entry named)))
+      pub loop_1 : two ≡ false → LoopReady w starts n first clock' frame (replicate 579 0) trace
+      loop_1 t =
+          loop_ready 1 (rw one (one_reply all clock' six draft handlings_most 1 entry original frame (named_member all entry.nickname entry named)))
           (replicate 579 0) (omega (arith, length-replicate {A = ℕ} 579 0))
         where
           draft : (S : Settings) → Memᴰ S all → Draft S
@@ -219,7 +219,7 @@ module _ {s w starts : List ℕ} {n clock place first : ℕ} {v trace : List ℕ
         rw (states_so s d at.ready.read.is)
         (record { counted = ran.counted ∙ sym same.count; traced = rw same.trace ran.traced })
 
-pub ruleset run_at_laws = (rules, clock_six, loop-2, loop-1, run_plain)
+pub ruleset run_at_laws = (rules, clock_six, loop_2, loop_1, run_plain)
 
 -- the outcome, by the room and the description
 module _ (file trace : List ℕ) where

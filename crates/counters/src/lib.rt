@@ -115,8 +115,7 @@ fn count(
     }
 }
 
-#[unsafe(no_mangle)]
-pub extern "C" fn trill_handle_counted(
+pub fn trill_handle_counted(
     counters: &mut Counters,
     frame: &[u8],
     settings: &[u8],

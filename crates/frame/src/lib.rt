@@ -10,8 +10,7 @@ ghost use Rattle.handler.specs.Tasks.{Both};
 
 use handler::{Answer, WayOut};
 
-#[unsafe(no_mangle)]
-pub extern "C" fn trill_handle(
+pub fn trill_handle(
     frame: &[u8],
     settings: &[u8],
     clock: &[u8],
@@ -26,8 +25,7 @@ pub extern "C" fn trill_handle(
 }
 
 // T-11: the link header towards a destination; 1, 21 or 2 where there is none.
-#[unsafe(no_mangle)]
-pub extern "C" fn trill_way_out(settings: &[u8], destination: u16, out: &mut [u8]) -> WayOut
+pub fn trill_way_out(settings: &[u8], destination: u16, out: &mut [u8]) -> WayOut
     ensures { WayDone (way_out settings.now destination (length out.old)) result out.old out.new }
 {
     handler::way_out(settings, destination, out)

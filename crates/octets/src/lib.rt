@@ -7,10 +7,10 @@ mod link;
 mod values;
 
 ghost use Rattle.std.specs.Prelude.{◌≡◌, ◌++◌, ◌*◌, ◌+◌, ◌/◌, ◌%◌, ◌≤◌, length};
-ghost use Rattle.rules.specs.Octets.{octet as octet_of, be16 as be16Of, be32 as be32Of, be48 as be48Of, octets16, octets48, put};
+ghost use Rattle.rules.specs.Octets.{octet as octet_of, be16 as be16_of, be32 as be32_of, be48 as be48_of, octets16, octets48, put};
 ghost use Rattle.rules.specs.Fields.{field_at};
 ghost use Rattle.octets.specs.Copy.{Wrote, fitting};
-ghost use Rattle.octets.specs.Words.{be64 as be64Of, octets64, low_first, le64 as le64Of, swapped};
+ghost use Rattle.octets.specs.Words.{be64 as be64_of, octets64, low_first, le64 as le64_of, swapped};
 
 pub use link::read_frame;
 use rules::FieldRead;
@@ -30,7 +30,7 @@ pub fn octet(s: &[u8], at: usize) -> u8
 }
 
 pub fn be16(s: &[u8], at: usize) -> u16
-    ensures { result ≡ be16Of s.now at }
+    ensures { result ≡ be16_of s.now at }
 {
     if s.len() <= at {
         return 0;
@@ -48,7 +48,7 @@ fn join32(high: u16, low: u16) -> u32
 }
 
 pub fn be32(s: &[u8], at: usize) -> u32
-    ensures { result ≡ be32Of s.now at }
+    ensures { result ≡ be32_of s.now at }
 {
     if s.len() <= at {
         return 0;
@@ -70,7 +70,7 @@ fn join64(high: u32, low: u32) -> u64
 }
 
 pub fn be48(s: &[u8], at: usize) -> u64
-    ensures { result ≡ be48Of s.now at }
+    ensures { result ≡ be48_of s.now at }
 {
     if s.len() <= at {
         return 0;
@@ -102,7 +102,7 @@ fn join_octets(a: u8, b: u8, c: u8, d: u8, e: u8, f: u8, g: u8, h: u8) -> u64
 // The low octet first, as the machine has numbers: so LLVM makes one load of the eight.
 fn le64(s: &[u8], at: usize) -> u64
     requires { at + 8 ≤ length s.now }
-    ensures { result ≡ le64Of s.now at }
+    ensures { result ≡ le64_of s.now at }
 {
     join_octets(
         s[at],
@@ -133,7 +133,7 @@ fn swap64(x: u64) -> u64
 }
 
 pub fn be64(s: &[u8], at: usize) -> u64
-    ensures { result ≡ be64Of s.now at }
+    ensures { result ≡ be64_of s.now at }
 {
     if s.len() < 8 {
         return part64(s, at);
@@ -146,7 +146,7 @@ pub fn be64(s: &[u8], at: usize) -> u64
 
 // `be64` where octets are missing: apart from it and called, so that what is inlined of it stays small.
 fn part64(s: &[u8], at: usize) -> u64
-    ensures { result ≡ be64Of s.now at }
+    ensures { result ≡ be64_of s.now at }
 {
     if s.len() <= at {
         return 0;

@@ -10,8 +10,7 @@ ghost use Rattle.handler.specs.Tasks.{Both};
 
 use handler::{Answer, WayOut};
 
-#[unsafe(no_mangle)]
-pub extern "C" fn trill_handle_prepared(
+pub fn trill_handle_prepared(
     frame: &[u8],
     store: &[u64],
     clock: &[u8],
@@ -25,8 +24,7 @@ pub extern "C" fn trill_handle_prepared(
     handler::handle_prepared(frame, store, clock, out, beside)
 }
 
-#[unsafe(no_mangle)]
-pub extern "C" fn trill_way_out_prepared(store: &[u64], destination: u16, out: &mut [u8]) -> WayOut
+pub fn trill_way_out_prepared(store: &[u64], destination: u16, out: &mut [u8]) -> WayOut
     ensures { WayDone (way_out_in store.now destination (length out.old)) result out.old out.new }
 {
     handler::way_out_prepared(store, destination, out)

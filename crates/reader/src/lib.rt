@@ -53,8 +53,7 @@ fn begin(reader: &mut [u64], clock: u64, early: u32)
     reader[3] = 0;
 }
 
-#[unsafe(no_mangle)]
-pub extern "C" fn trill_reader_start(
+pub fn trill_reader_start(
     reader: &mut [u64],
     settings: &[u8],
     clock: &[u8],
@@ -72,8 +71,7 @@ pub extern "C" fn trill_reader_start(
     early
 }
 
-#[unsafe(no_mangle)]
-pub extern "C" fn trill_reader_burst(reader: &mut [u64], gathered: &mut [u8], octets: &[u8]) -> u32
+pub fn trill_reader_burst(reader: &mut [u64], gathered: &mut [u8], octets: &[u8]) -> u32
     ensures { BurstDone (burst reader.old gathered.old octets.now) result reader.new gathered.new }
 {
     if reader.len() < 168 {
@@ -138,8 +136,7 @@ fn handle_gathered(reader: &[u64], gathered: &[u8], out: &mut [u8], beside: &mut
     handler::handle_prepared(frame, &reader[4..], &clock, out, beside)
 }
 
-#[unsafe(no_mangle)]
-pub extern "C" fn trill_reader_mark(
+pub fn trill_reader_mark(
     reader: &mut [u64],
     gathered: &[u8],
     out: &mut [u8],

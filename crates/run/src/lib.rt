@@ -6,8 +6,7 @@ ghost use Rattle.campus.specs.Done.{CampusDone};
 
 use campus::Outcome;
 
-#[unsafe(no_mangle)]
-pub extern "C" fn campus_run(description: &[u8], trace: &mut [u8]) -> Outcome
+pub fn campus_run(description: &[u8], trace: &mut [u8]) -> Outcome
     ensures { CampusDone description.now trace.old trace.new result.code result.count }
 {
     campus::campus_run(description, trace)

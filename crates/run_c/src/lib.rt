@@ -1,0 +1,14 @@
+// The run of a campus, for C.
+
+#![tactic(auto)]
+
+ghost use Rattle.campus.specs.Done.{CampusDone};
+
+use campus::Outcome;
+
+#[unsafe(no_mangle)]
+pub extern "C" fn campus_run(description: &[u8], trace: &mut [u8]) -> Outcome
+    ensures { CampusDone description.now trace.old trace.new result.code result.count }
+{
+    run::campus_run(description, trace)
+}
