@@ -16,8 +16,8 @@
  *   - A pointer may not be null, even where its length is 0. The staffripple_ calls at the end of this
  *     file take null with length 0 too.
  *
- * Numbers within octets are big-endian. The compiled library is for x86-64 with the System V calling
- * convention; it needs memcpy and memset and nothing else.
+ * Numbers within octets are big-endian. The compiled library is for x86-64-v2, that is with SSE4.2, and the System V
+ * calling convention; it needs memcpy and memset and nothing else.
  */
 #ifndef STAFFRIPPLE_H
 #define STAFFRIPPLE_H

@@ -4,8 +4,8 @@
 
 ghost use Rattle.counters.specs.Counting.{call_of, counted, CallDone};
 
-use handler::Answer;
 use counters::Counters;
+use handler::Answer;
 
 #[unsafe(no_mangle)]
 pub extern "C" fn trill_handle_counted(

@@ -21,9 +21,8 @@ const TRACE_MOST: usize = 32768;
 const HEADER: &str = "\
 -- Generated cases, each with what the second program answers.
 use mathlib.Core.Path.{◌≡◌, refl}
-use Rattle.std.specs.Prelude.{ℕ, Bool, true, false, ◌&&◌, List, [], ◌∷◌, ◌++◌, ◌==◌}
+use Rattle.std.specs.Prelude.{ℕ, Bool, true, false, ◌&&◌, List, [], ◌∷◌, ◌++◌, ◌==◌, if◌then◌else◌}
 use Prim.Native.String.{String}
-use Rattle.rules.specs.Octets.{if◌then◌else◌}
 use Rattle.rules.specs.Answer.{Handled}
 use Rattle.rules.specs.Campus.{Outcome, campus}
 use Rattle.rules.specs.Cases.{Case, computed_in, hex}
