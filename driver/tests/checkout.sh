@@ -100,7 +100,7 @@ judge 'nor does it where what rt keeps is gone' 0 out "$c1" asked "$all"
 echo '// more' >> crates/campus/src/lib.rt
 run ./staffripple examples/C1.hex
 judge 'what has changed is proved, and what rests on it' 0 out "$c1" asked "$all
-lib of run
+lib of run_c
 lib of text_c"
 mkdir -p elsewhere
 ln -s ../staffripple elsewhere/link

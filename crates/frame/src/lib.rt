@@ -1,4 +1,4 @@
-// The calls on settings octets, for C; as `prepared` has those on a store.
+// The calls on settings octets under the names that C knows, which `frame_c` exports; as `prepared` has those on a store.
 
 #![tactic(auto)]
 

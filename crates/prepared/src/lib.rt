@@ -1,5 +1,5 @@
-// The calls on a prepared store, for C. They are a library of their own: in it each step of a handling has one caller, and the compiler
-// makes one function of them all.
+// The calls on a prepared store under the names that C knows, which `prepared_c` exports. They are a library of their own: in it each step
+// of a handling has one caller, and the compiler makes one function of them all.
 
 #![tactic(auto)]
 

@@ -1,4 +1,4 @@
-// The run of a campus, for C.
+// The run of a campus under the name that C knows, which `run_c` exports.
 
 #![tactic(auto)]
 
