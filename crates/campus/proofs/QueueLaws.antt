@@ -1,9 +1,10 @@
 -- The replies that wait in their slots: what one more reply, and the first taken out, leave; and what is next. By the laws of buffers, and by induction
 -- on the replies. One law for each need, for `search` to cite.
+use Rattle.std.specs.Prelude.{Some}
+use Rattle.std.specs.Prelude.{Option, Some, None}
 use mathlib.Core.Path.{◌≡◌, refl, sym, ap, ◌∙◌}
 use mathlib.Core.List.{List, [], ◌∷◌, ◌++◌, append_assoc, append-nil}
 use mathlib.Core.Bool.{Bool, true, false, ◌&&◌}
-use mathlib.Core.Option.{some}
 use Prim.Native.Nat.{ℕ, suc, ◌+◌, ◌-◌, ◌*◌, ◌/◌, ◌%◌, ◌<◌, ◌≤◌}
 use native.Mathlib.Nat.{lt_of_le_of_lt}
 use native.Mathlib.Omega.{arith}
@@ -20,11 +21,9 @@ use Rattle.octets.specs.Copy.{Wrote, fitting}
 use Rattle.octets.proofs.Ends.{copied, copied_on, wrote_long}
 use Rattle.handler.specs.declared.answers.Answer.{Answer}
 use Rattle.campus.specs
-use specs.declared.switches.Named.{Named}
-use specs.declared.switches.Named.TheVariants.{At, Unknown}
-use specs.declared.running.{At.At as Turn, Onward.Onward}
-use specs.declared.running.Onward.TheVariants.{To, Ends}
-use specs.{Stores.settings_at, Stores.switches_in, Stores.number_in, Stores.Sound, Steps.kind_by}
+use specs.declared.switches.Switches.{Switches}
+use specs.declared.running.At.{At}
+use specs.{Switches.switch_at, Switches.all_of, Switches.number_of, Switches.IsSound, Steps.kind_by}
 use specs.Queue.{waiting_by, slot_octets, Free, Slot, Held, Queue, Waits, replies_by, WaitReady, sent_to, onward_by, NextReady, Onwards, Leads, OnwardReady, Onwarded}
 use Rattle.campus.proofs.StoresLaws.{lent, named_none, named_some}
 
@@ -73,11 +72,11 @@ back_copied cur f w₂ w₁ least most long =
 
 pub ruleset copy_back_laws = (rules, length-take-le, back_copied)
 
-held_long : (w starts : List ℕ) (n : ℕ) (waiting : List ℕ) (q : List Waiting) (head tail : ℕ) → Held w starts n waiting q head tail
+held_long : (sw : Switches) (waiting : List ℕ) (q : List Waiting) (head tail : ℕ) → Held sw waiting q head tail
     → head + length q ≡ tail
-held_long w starts n waiting [] head tail e = omega arith
-held_long w starts n waiting (x ∷ q) head tail e =
-    let i = held_long w starts n waiting q (suc head) tail e.1 in
+held_long sw waiting [] head tail e = omega arith
+held_long sw waiting (x ∷ q) head tail e =
+    let i = held_long sw waiting q (suc head) tail e.1 in
     omega arith
 
 -- a slot filled
@@ -102,58 +101,58 @@ module _ (waiting : List ℕ) (tail i : ℕ) (f : List ℕ) (free : Free waiting
   free_still a = omega (arith, after_long)
 
   -- one more reply, at the tail
-  module _ (w starts : List ℕ) (n : ℕ) where
-    slot_still : {x : Waiting} {h : ℕ} → h < tail → Slot w starts n waiting x h → Slot w starts n after x h
+  module _ (sw : Switches) where
+    slot_still : {x : Waiting} {h : ℕ} → h < tail → Slot sw waiting x h → Slot sw after x h
     slot_still {x} {h} lt a =
         let free = free_still a.free in
         let size = length (slot_octets a.place x.frame) in
         let holds = before_put waiting (tail * 579) (slot_octets i f) room (h * 579) size (omega arith) ∙ a.holds in
         search
 
-    module _ (towards : ℕ) (there : (i < n) × (switch_named (switches_in w starts n) towards ≡ some (settings_at w starts i))) where
-      held_more : (q : List Waiting) (head : ℕ) → Held w starts n waiting q head tail
-          → Held w starts n after (q ++ (waiting_by towards f ∷ [])) head (tail + 1)
+    module _ (towards : ℕ) (there : (i < length sw.starts.now) × (switch_named (all_of sw) towards ≡ Some (switch_at sw i))) where
+      held_more : (q : List Waiting) (head : ℕ) → Held sw waiting q head tail
+          → Held sw after (q ++ (waiting_by towards f ∷ [])) head (tail + 1)
       held_more [] head e =
           let holds = at_put waiting (tail * 579) (slot_octets i f) room in
           (rw e (search free_still), omega arith)
       held_more (x ∷ q) head e =
-          let l = held_long w starts n waiting q (suc head) tail e.1 in
+          let l = held_long sw waiting q (suc head) tail e.1 in
           (slot_still (omega arith) e.0, held_more q (suc head) e.1)
 
 pub ruleset put_slot_laws = (rules, slot_put)
 
-module _ (w starts : List ℕ) (n : ℕ) (waiting : List ℕ) (tail : ℕ) where
-  waits_not : (made : List Waiting) → staying (switches_in w starts n) made ≡ [] → Waits w starts n waiting waiting tail tail made
+module _ (sw : Switches) (waiting : List ℕ) (tail : ℕ) where
+  waits_not : (made : List Waiting) → staying (all_of sw) made ≡ [] → Waits sw waiting waiting tail tail made
   waits_not made e = record { held = λ head q a. rw (e, append-nil q) a; more = omega arith; same = refl }
 
   -- a reply to a switch of the campus waits, and any other has left
-  module _ (towards : ℕ) (f : List ℕ) (found : Named) (is : found ≡ number_in w starts n towards) where
-    pub wait_left : found ≡ Unknown → Waits w starts n waiting waiting tail tail (waiting_by towards f ∷ [])
+  module _ (towards : ℕ) (f : List ℕ) (found : Option ℕ) (is : found ≡ number_of sw towards) where
+    pub wait_left : found ≡ None → Waits sw waiting waiting tail tail (waiting_by towards f ∷ [])
     wait_left e =
         waits_not (waiting_by towards f ∷ [])
-        (stays_left (switches_in w starts n) (waiting_by towards f) (rw (named_none w starts n towards found is e)))
+        (stays_left (all_of sw) (waiting_by towards f) (rw (named_none sw.words.now sw.starts.now (length sw.starts.now) towards found is e)))
 
-    module _ (i : ℕ) (e : found ≡ At i) where
+    module _ (i : ℕ) (e : found ≡ Some i) where
       pub wait_put : Free waiting tail → length f ≤ 576 → {waiting' : List ℕ} → waiting' ≡ put waiting (tail * 579) (slot_octets i f)
-          → Waits w starts n waiting waiting' tail (tail + 1) (waiting_by towards f ∷ [])
+          → Waits sw waiting waiting' tail (tail + 1) (waiting_by towards f ∷ [])
       wait_put free short c =
-          let there = named_some w starts n towards found is i e in
-          let stays = stays_in (switches_in w starts n) (waiting_by towards f) (rw there.1) in
+          let there = named_some sw.words.now sw.starts.now (length sw.starts.now) towards found is i e in
+          let stays = stays_in (all_of sw) (waiting_by towards f) (rw there.1) in
           rw c
           (record {
-            held = λ head q a. rw stays (held_more waiting tail i f free short w starts n towards there q head a);
+            held = λ head q a. rw stays (held_more waiting tail i f free short sw towards there q head a);
             more = omega arith;
             same = after_long waiting tail i f free short;
           })
 
-      pub wait_few : Sound w starts n → length starts ≡ 16 → i < 16
-      wait_few s long = omega (arith, named_some w starts n towards found is i e)
+      pub wait_few : IsSound sw → i < 16
+      wait_few s = omega (arith, named_some sw.words.now sw.starts.now (length sw.starts.now) towards found is i e)
 
 pub ruleset put_waiting_laws = (rules, wait_left, wait_put, wait_few)
 
 -- the reply that a handling made
-module _ {w starts : List ℕ} {n : ℕ} {a : Answer} {out beside waiting : List ℕ} {tail : ℕ}
-    (ready : WaitReady w starts n a out beside waiting tail) where
+module _ {sw : Switches} {a : Answer} {out beside waiting : List ℕ} {tail : ℕ}
+    (ready : WaitReady sw a out beside waiting tail) where
   module _ (writes : Bool) (is : writes ≡ writes_reply a.number) where
     module _ (e : writes ≡ true) where
       by_reply : replies_by a out beside ≡ waiting_by a.neighbour (take a.written out) ∷ []
@@ -170,26 +169,26 @@ module _ {w starts : List ℕ} {n : ℕ} {a : Answer} {out beside waiting : List
         pub reply_less : length f ≤ 576
         reply_less = rw (held, length-take) (omega (arith, ready.short (sym is ∙ e)))
 
-        pub reply_waits : {waiting' : List ℕ} {r : ℕ} → Waits w starts n waiting waiting' tail r (waiting_by a.neighbour f ∷ [])
-            → Waits w starts n waiting waiting' tail r (replies_by a out beside)
+        pub reply_waits : {waiting' : List ℕ} {r : ℕ} → Waits sw waiting waiting' tail r (waiting_by a.neighbour f ∷ [])
+            → Waits sw waiting waiting' tail r (replies_by a out beside)
         reply_waits x = rw (by_reply, ← held) x
 
     module _ (e : writes ≡ false) where
-      pub waits_none : a.beside ≡ 0 → Waits w starts n waiting waiting tail tail (replies_by a out beside)
+      pub waits_none : a.beside ≡ 0 → Waits sw waiting waiting tail tail (replies_by a out beside)
       unfolding replies_by
-      waits_none z = rw (sym is ∙ e, eq-eqb a.beside 0 z) (waits_not w starts n waiting tail [] (stays_none (switches_in w starts n)))
+      waits_none z = rw (sym is ∙ e, eq-eqb a.beside 0 z) (waits_not sw waiting tail [] (stays_none (all_of sw)))
 
-      module _ (some : a.beside ≡ 0 → ⊥) where
+      module _ (there : a.beside ≡ 0 → ⊥) where
         by_beside : replies_by a out beside ≡ waiting_by a.beside_neighbour (take a.beside beside) ∷ []
         unfolding replies_by
-        by_beside = rw (sym is ∙ e, ne_eqb a.beside 0 some)
+        by_beside = rw (sym is ∙ e, ne_eqb a.beside 0 there)
 
         pub beside_free : Free waiting tail
         beside_free = ready.free (rw by_beside (omega arith))
 
         pub beside_waits : {f waiting' : List ℕ} {r : ℕ} → f ≡ take a.beside beside
-            → Waits w starts n waiting waiting' tail r (waiting_by a.beside_neighbour f ∷ [])
-            → Waits w starts n waiting waiting' tail r (replies_by a out beside)
+            → Waits sw waiting waiting' tail r (waiting_by a.beside_neighbour f ∷ [])
+            → Waits sw waiting waiting' tail r (replies_by a out beside)
         beside_waits held x = rw (by_beside, ← held) x
 
   pub beside_less : {f : List ℕ} → f ≡ take a.beside beside → length f ≤ 576
@@ -213,21 +212,21 @@ slot_read (a ∷ b ∷ c ∷ l) i f short e =
     record { switch = cc; size = omega arith; frame = cc }
 
 -- the reply that has waited longest
-module _ {w starts : List ℕ} {n : ℕ} {waiting : List ℕ} {head tail : ℕ} (queue : Queue w starts n waiting head tail) where
-  pub leads_over : (cur : List ℕ) → head ≡ tail → Leads w starts n waiting head tail cur Ends first_waiting
+module _ {sw : Switches} {waiting : List ℕ} {head tail : ℕ} (queue : Queue sw waiting head tail) where
+  pub leads_over : (cur : List ℕ) → head ≡ tail → Leads sw waiting head tail cur None first_waiting
   unfolding first_waiting
   leads_over cur e =
       record {
         leads = λ q.
-            elim q as (λ (p : List Waiting). Held w starts n waiting p head tail → Onwards w starts n waiting cur tail Ends (first_waiting p)) [
+            elim q as (λ (p : List Waiting). Held sw waiting p head tail → Onwards sw waiting cur tail None (first_waiting p)) [
               | [] ↦ λ h. tt
-              | x ∷ l ↦ λ h. absurd (omega (arith, held_long w starts n waiting l (suc head) tail h.1))
+              | x ∷ l ↦ λ h. absurd (omega (arith, held_long sw waiting l (suc head) tail h.1))
             ];
       }
 
-  module _ (some : head ≡ tail → ⊥) where
-    first_slot : (q : List Waiting) → Held w starts n waiting q head tail → Free waiting head × (be16 (drop (head * 579) waiting) 1 ≤ 576)
-    first_slot [] h = absurd (some h)
+  module _ (waits : head ≡ tail → ⊥) where
+    first_slot : (q : List Waiting) → Held sw waiting q head tail → Free waiting head × (be16 (drop (head * 579) waiting) 1 ≤ 576)
+    first_slot [] h = absurd (waits h)
     first_slot (x ∷ q) h =
         let its = slot_read (drop (head * 579) waiting) h.0.place x.frame h.0.short h.0.holds in
         (h.0.free, omega (arith, its))
@@ -248,7 +247,10 @@ module _ {w starts : List ℕ} {n : ℕ} {waiting : List ℕ} {head tail : ℕ} 
       pub first_octet : 0 < length slot
       first_octet = omega (arith, slot_long)
 
-      module _ (size : ℕ) (is : size ≡ be16 slot 1) where
+      module _ (b : ℕ) (read : b ≡ be16 slot 1) (size : ℕ) (wide : size ≡ b) where
+        is : size ≡ be16 slot 1
+        is = wide ∙ read
+
         size_small : size ≤ 576
         size_small = rw (is, held) first_is.1
 
@@ -260,18 +262,18 @@ module _ {w starts : List ℕ} {n : ℕ} {waiting : List ℕ} {head tail : ℕ} 
 
         pub leads_first : (i : ℕ) → i ≡ get_or slot 0 0 → (cur cur' : List ℕ) (end : ℕ)
             → Wrote (fitting cur 0 (take (3 + size - 3) (drop 3 slot))) 0 end cur cur' → length cur ≡ 2048
-            → Leads w starts n waiting head tail cur' (To (record { switch = i; replied = true; size = size; head = head + 1; tail = tail })) first_waiting
+            → Leads sw waiting head tail cur' (Some (record { switch = i; replied = true; size = size; head = head + 1; tail = tail })) first_waiting
         unfolding first_waiting
         leads_first i there cur cur' end c long =
             let less : 3 + size - 3 ≡ size = omega arith in
             let piece : length (take size (drop 3 slot)) ≡ size = sym (rw less at first_part) in
             let begins = copied_begins (rw less at c) (omega (arith, size_small)) in
             let one : head + 1 ≡ suc head = omega arith in
-            let onward : Onward = To (record { switch = i; replied = true; size = size; head = head + 1; tail = tail }) in
+            let onward : Option At = Some (record { switch = i; replied = true; size = size; head = head + 1; tail = tail }) in
             record {
               leads = λ q.
-                  elim q as (λ (p : List Waiting). Held w starts n waiting p head tail → Onwards w starts n waiting cur' tail onward (first_waiting p)) [
-                    | [] ↦ λ h. absurd (some h)
+                  elim q as (λ (p : List Waiting). Held sw waiting p head tail → Onwards sw waiting cur' tail onward (first_waiting p)) [
+                    | [] ↦ λ h. absurd (waits h)
                     | x ∷ l ↦ λ h.
                         let its = slot_read (drop (head * 579) waiting) h.0.place x.frame h.0.short h.0.holds in
                         let at : i ≡ h.0.place = there ∙ rw held its.switch in
@@ -286,45 +288,37 @@ pub ruleset first_waiting_laws =
     (rules, lent, leads_over, first_within, lt_of_le_of_lt, first_next, first_octet, first_ends, first_part, leads_first)
 
 -- the switch that a forwarded frame goes to
-module _ (w starts : List ℕ) (n : ℕ) (a : Answer) where
-  pub sent_not : (a.number ≡ 50 → ⊥) → Unknown ≡ sent_to w starts n a
-  unfolding sent_to
-  sent_not h = simp ne_eqb
-
-  pub sent_on_lem : a.number ≡ 50 → (found : Named) → found ≡ number_in w starts n a.neighbour → found ≡ sent_to w starts n a
-  unfolding sent_to
-  sent_on_lem h found e = simp eq-eqb e
-
-  module _ (found : Named) (is : found ≡ sent_to w starts n a) where
-    sent_unknown : found ≡ Unknown → (eqb a.number 50 && in_campus (switches_in w starts n) a.neighbour) ≡ false
+module _ (sw : Switches) (a : Answer) where
+  module _ (found : Option ℕ) (is : found ≡ sent_to sw a) where
+    sent_unknown : found ≡ None → (eqb a.number 50 && in_campus (all_of sw) a.neighbour) ≡ false
     unfolding sent_to
     sent_unknown e =
         by_test (eqb a.number 50)
-        (λ t. rw (t, named_none w starts n a.neighbour (number_in w starts n a.neighbour) refl (rw (is, t) at e)))
+        (λ t. rw (t, named_none sw.words.now sw.starts.now (length sw.starts.now) a.neighbour (number_of sw a.neighbour) refl (rw (is, t) at e)))
         (λ t. rw t)
 
-    sent_at : (i : ℕ) → found ≡ At i
-        → (eqb a.number 50 ≡ true) × ((i < n) × (switch_named (switches_in w starts n) a.neighbour ≡ some (settings_at w starts i)))
+    sent_at : (i : ℕ) → found ≡ Some i
+        → (eqb a.number 50 ≡ true) × ((i < length sw.starts.now) × (switch_named (all_of sw) a.neighbour ≡ Some (switch_at sw i)))
     unfolding sent_to
     sent_at i e =
         let fifty : eqb a.number 50 ≡ true = by_test (eqb a.number 50) (λ t. t) (λ t. cc (rw (is, t) at e)) in
-        (fifty, named_some w starts n a.neighbour (number_in w starts n a.neighbour) refl i (rw (is, fifty) at e))
+        (fifty, named_some sw.words.now sw.starts.now (length sw.starts.now) a.neighbour (number_of sw a.neighbour) refl i (rw (is, fifty) at e))
 
     -- the frame that was forwarded, if it stays; else that reply
     module _ (waiting : List ℕ) (head tail : ℕ) (out : List ℕ) where
-      pub next_waiting : found ≡ Unknown → (kind : Kind) {cur : List ℕ} {r : Onward} → Leads w starts n waiting head tail cur r first_waiting
-          → Leads w starts n waiting head tail cur r (onward_by (switches_in w starts n) kind a out)
+      pub next_waiting : found ≡ None → (kind : Kind) {cur : List ℕ} {r : Option At} → Leads sw waiting head tail cur r first_waiting
+          → Leads sw waiting head tail cur r (onward_by (all_of sw) kind a out)
       unfolding onward_by
       next_waiting e kind first = record { leads = λ q h. rw (sent_unknown e) (first.leads q h) }
 
-      pub next_on : NextReady w starts n a waiting head tail → {i : ℕ} (replied : Bool) {f : List ℕ} → found ≡ At i → f ≡ take a.written out
+      pub next_on : NextReady sw a waiting head tail → {i : ℕ} (replied : Bool) {f : List ℕ} → found ≡ Some i → f ≡ take a.written out
           → length out ≡ 2048 → (cur : List ℕ) {cur' : List ℕ} → cur' ≡ put cur 0 f
-          → Leads w starts n waiting head tail cur' (To (record { switch = i; replied = replied; size = a.written; head = head; tail = tail }))
-          (onward_by (switches_in w starts n) (kind_by replied) a out)
+          → Leads sw waiting head tail cur' (Some (record { switch = i; replied = replied; size = a.written; head = head; tail = tail }))
+          (onward_by (all_of sw) (kind_by replied) a out)
       unfolding onward_by
       next_on ready {i} replied {f} e held long cur {cur'} c =
           let s = sent_at i e in
-          let stays : in_campus (switches_in w starts n) a.neighbour ≡ true = rw s.1.1 in
+          let stays : in_campus (all_of sw) a.neighbour ≡ true = rw s.1.1 in
           let size : length f ≡ a.written = rw held (length-take-le a.written out (omega arith)) in
           let begins : take a.written cur' ≡ f = rw (c, ← size) (take_put cur f) in
           let is_frame = begins ∙ held in
@@ -332,31 +326,29 @@ module _ (w starts : List ℕ) (n : ℕ) (a : Answer) where
 
       -- what is copied back has a link header, and fits
       module _ (f : List ℕ) (held : f ≡ take a.written out) (long : length out ≡ 2048) where
-        pub next_least : NextReady w starts n a waiting head tail → {i : ℕ} → found ≡ At i → 8 ≤ length f
+        pub next_least : NextReady sw a waiting head tail → {i : ℕ} → found ≡ Some i → 8 ≤ length f
         next_least ready {i} e = rw (held, length-take) (omega (arith, ready.linked (eqb-true a.number 50 (sent_at i e).0)))
 
         pub next_most : length f ≤ 2048
         next_most = rw (held, length-take) (omega arith)
 
-pub ruleset sent_to_laws = (rules, sent_not, sent_on_lem)
-
 pub ruleset next_of_laws = (rules, next_waiting, next_on, next_least, next_most)
 
 -- the reply put in, and what is next
-module _ {w starts : List ℕ} {n : ℕ} {a : Answer} {at : Turn} {out beside waiting waiting' : List ℕ} {tail : ℕ}
-    (put_in : Waits w starts n waiting waiting' at.tail tail (replies_by a out beside)) where
-  pub onward_next : OnwardReady w starts n a at out beside waiting → NextReady w starts n a waiting' at.head tail
+module _ {sw : Switches} {a : Answer} {at : At} {out beside waiting waiting' : List ℕ} {tail : ℕ}
+    (put_in : Waits sw waiting waiting' at.tail tail (replies_by a out beside)) where
+  pub onward_next : OnwardReady sw a at out beside waiting → NextReady sw a waiting' at.head tail
   onward_next ready =
-      let queue : Queue w starts n waiting' at.head tail =
+      let queue : Queue sw waiting' at.head tail =
       record {
-        queue = ready.queue.queue ++ staying (switches_in w starts n) (replies_by a out beside);
+        queue = ready.queue.queue ++ staying (all_of sw) (replies_by a out beside);
         held = put_in.held at.head ready.queue.queue ready.queue.held;
       } in
       search
 
-  pub onward_done : {cur' : List ℕ} {r : Onward}
-      → Leads w starts n waiting' at.head tail cur' r (onward_by (switches_in w starts n) (kind_by at.replied) a out)
-      → Onwarded w starts n a at out beside waiting waiting' cur' r
+  pub onward_done : {cur' : List ℕ} {r : Option At}
+      → Leads sw waiting' at.head tail cur' r (onward_by (all_of sw) (kind_by at.replied) a out)
+      → Onwarded sw a at out beside waiting waiting' cur' r
   onward_done led =
       record { tail = tail; more = put_in.more; leads = λ q x. led.leads _ (put_in.held at.head q x); same = put_in.same }
 

@@ -1,10 +1,9 @@
 -- Reading a description. One field more, checked and taken into the stores: by the tests of `field_refusal`, and the laws of stores. Then the loop: the words
 -- stand for the switches read so far, and the rest of the fields decides as the whole does. One law for each way out and each need.
-use Rattle.std.specs.Prelude.{if◌then◌else◌}
+use Rattle.std.specs.Prelude.{if◌then◌else◌, is_some, Option, Some, None}
 use mathlib.Core.Path.{◌≡◌, refl, sym, ap, ◌∙◌}
 use mathlib.Core.List.{List, [], ◌∷◌, ◌++◌}
 use mathlib.Core.Bool.{Bool, true, false, not, ◌||◌, false≢true, not-not}
-use mathlib.Core.Option.{Option}
 use Prim.Native.Nat.{ℕ, suc, ◌+◌, ◌-◌, ◌≤◌, ◌<◌, ◌*◌}
 use native.Mathlib.Omega.{arith}
 use borrow.Author.Rules.{rules}
@@ -18,58 +17,20 @@ use rules.Settings.{Settings, switch_of, opens, switch_good, hop_of, serial_met,
 use rules.Campus.{switch_named, known, order_good, value_good, nickname_new, room_good, serial_new, entry_known, field_refusal, with_next, Described, on_latest}
 use rules.Campus.{refused, described_from, described, file_most}
 use rules.declared.FieldRead.{FieldRead}
-use rules.declared.FieldRead.TheVariants.{Taken, Cut}
 use Rattle.rules.proofs.{TestLaws.by_test, TestLaws.and_yes, FrameLaws.none_given, OctetLaws.length_part, Taken.taken}
 use Rattle.rules.proofs.FieldLaws.{IsField, field_read, fields_end, fields_cut, fields_on}
 use Rattle.rules.proofs.DescriptionLaws.{described_end, described_none, described_on, described_refused}
 use Rattle.octets.specs.Flags.{flag_tag, flag_value, flag_by}
-use Rattle.stores.specs.Extend.{opens_in, with_switch}
+use Rattle.stores.specs.Extend.{opens_in, with_switch, extending, record_code, flag_code}
 use Rattle.stores.proofs.ExtendLaws.{record_by, record_checked, flag_checked, extended_long, switch_long}
 use Rattle.campus.specs
 use specs.Places.{order_by, counted_by, between, clock_at, entry_value, code_after, clocked_by}
-use specs.Stores.{known_in, end_of, span_of, Kept, Stores, PartOpens, PartExtends, so_far, OfSettings, Took, words_for, ReadDone}
-use specs.declared.reading.Reading.{Reading}
+use specs.Stores.{known_in, end_of, span_of, Kept, Stores, PartOpens, PartExtends, so_far, OfSettings, Took, words_for, Accepts}
+use rules.declared.Refusal.{Refusal}
+use rules.declared.Refusal.TheVariants as R
+use Rattle.rules.specs.Answer.{code_of}
 use Rattle.campus.proofs
 use proofs.StoresLaws.{end_is, part_long, stores_along, stores_opened, latest_ample, stores_extended, known_is, span_none, span_more, span_most, stores_sound}
-
--- the number of switches, and the place of the clock
-module _ (n tag : ℕ) where
-  pub counted_same : (tag ≡ 1 → ⊥) → n ≡ counted_by n tag
-  unfolding counted_by
-  counted_same h = simp ne_eqb
-
-  pub counted_more : tag ≡ 1 → n + 1 ≡ counted_by n tag
-  unfolding counted_by
-  counted_more e = rw e
-
-module _ (clock tag at : ℕ) where
-  pub clocked_same : (tag ≡ 4 → ⊥) → clock ≡ clocked_by clock tag at
-  unfolding clocked_by
-  clocked_same h = simp ne_eqb
-
-  pub clocked_here : tag ≡ 4 → at + 3 ≡ clocked_by clock tag at
-  unfolding clocked_by
-  clocked_here e = rw e
-
-pub ruleset counted_laws = (rules, counted_same, counted_more)
-
-pub ruleset clocked_laws = (rules, clocked_same, clocked_here)
-
--- whether a tag is in its place
-module _ (n clock tag : ℕ) where
-  pub order_settings : {k : ℕ} → tag ≡ k → (eqb k 2 || eqb k 3 || eqb k 6) ≡ true → not (eqb n 0) ≡ order_by n clock tag
-  unfolding order_by
-  order_settings e t = rw (e, order_by, t)
-
-  pub order_4 : tag ≡ 4 → eqb clock 0 ≡ order_by n clock tag
-  unfolding order_by
-  order_4 e = rw e
-
-  pub order_any : (tag ≡ 2 → ⊥) → (tag ≡ 3 → ⊥) → (tag ≡ 6 → ⊥) → (tag ≡ 4 → ⊥) → true ≡ order_by n clock tag
-  unfolding order_by
-  order_any a b c d = simp ne_eqb
-
-pub ruleset order_good_laws = (rules, order_settings, order_4, order_any)
 
 -- the code of one field, by the switches so far
 serial_other : (l : List Settings) (c : Option (List ℕ)) (v : List ℕ) (tag : ℕ) → (tag ≡ 2 → ⊥) → serial_new (so_far l c) tag v ≡ true
@@ -77,7 +38,7 @@ unfolding serial_new
 serial_other [] c v tag h = refl
 serial_other (T ∷ l) c v tag h = rw (serial_new, ne_eqb tag 2 h)
 
-order_is : (l : List Settings) (c : Option (List ℕ)) (n clock tag : ℕ) → length l ≡ n → known c ≡ not (eqb clock 0)
+order_is : (l : List Settings) (c : Option (List ℕ)) (n : ℕ) (clock : Option ℕ) (tag : ℕ) → length l ≡ n → known c ≡ is_some clock
     → order_good (so_far l c) tag ≡ order_by n clock tag
 unfolding order_good order_by
 order_is l c n clock tag h k =
@@ -85,7 +46,7 @@ order_is l c n clock tag h k =
     (λ t.
     let no_clock : eqb tag 4 ≡ false = by_test (eqb tag 4) (λ e. cc (rw (eqb-true tag 4 e) at t)) (λ f. f) in
     rw (t, h, no_clock) (and_yes (not (eqb n 0))))
-    (λ f. by_test (eqb tag 4) (λ e. rw (f, e, k) (not-not (eqb clock 0))) (λ e. rw (f, e)))
+    (λ f. by_test (eqb tag 4) (λ e. rw (f, e, k)) (λ e. rw (f, e)))
 
 -- a record and a flag, of the latest switch
 module _ (T : Settings) (l : List Settings) (c : Option (List ℕ)) (v : List ℕ) where
@@ -111,9 +72,9 @@ settings_tag {tag} o =
     cc (rw (ne_eqb tag 1 o.no_switch, f, g, ne_eqb tag 4 o.no_clock, ne_eqb tag 5 o.no_entry, h) at o.good))))
 
 -- what a refusal leaves
-module _ (w starts : List ℕ) (n clock tag : ℕ) (v : List ℕ) where
+module _ (w starts : List ℕ) (n : ℕ) (clock : Option ℕ) (tag : ℕ) (v : List ℕ) where
   not_taken : (code : ℕ) (w' : List ℕ) → 0 < code → length w' ≡ length w
-      → ((l : List Settings) (c : Option (List ℕ)) → Stores w starts l → length l ≡ n → known c ≡ not (eqb clock 0)
+      → ((l : List Settings) (c : Option (List ℕ)) → Stores w starts l → length l ≡ n → known c ≡ is_some clock
       → code ≡ field_refusal (so_far l c) (field tag v))
       → Took w starts n clock tag v code w' starts
   not_taken code w' z same j = record { size = same; starts_size = refl; checked = j; stored = λ l c s e q. absurd (omega arith) }
@@ -158,10 +119,10 @@ module _ (w starts : List ℕ) (n clock tag : ℕ) (v : List ℕ) where
           unfolding field_refusal order_good value_good nickname_new room_good entry_known
           entry_code l c s m = rw (e, rw e at its_good, serial_other l c v 5 (omega arith), ← known_is w starts l s n m (be16 v 0), ← is)
 
-          pub took_48 : not x ≡ true → Took w starts n clock tag v 48 w starts
+          pub took_48 : x ≡ false → Took w starts n clock tag v 48 w starts
           took_48 y = not_taken 48 w (omega arith) refl (λ l c s m k. (rw y at (entry_code l c s m)))
 
-          pub took_5 : not x ≡ false → Took w starts n clock tag v 0 w starts
+          pub took_5 : x ≡ true → Took w starts n clock tag v 0 w starts
           unfolding with_next
           took_5 y = record { size = refl; starts_size = refl; checked = λ l c s m k. (rw y at (entry_code l c s m)); stored = λ l c s m z. rw e s }
 
@@ -182,7 +143,7 @@ opened_long {w} {v = v} {end = end} o k e =
     (part_long w end _ (omega arith)
     (by_test (opens_in (drop end w) v) (λ t. rw t (switch_long (drop end w) v (rw length-drop (omega arith)))) (λ f. rw f)))
 
-module _ (w starts : List ℕ) (n clock : ℕ) (v : List ℕ) (k : Kept w starts n) (long : length_good 1 (length v) ≡ true)
+module _ (w starts : List ℕ) (n : ℕ) (clock : Option ℕ) (v : List ℕ) (k : Kept w starts n) (long : length_good 1 (length v) ≡ true)
     (x : Bool) (is : x ≡ known_in w starts n (be16 v 0)) (end : ℕ) (ends : end ≡ end_of w starts n)
     (r : Bool) (w' : List ℕ) (o : PartOpens w end v r w') where
   good_is : r ≡ switch_good (switch_of v)
@@ -234,7 +195,19 @@ pub ruleset open_laws = (rules, open_44, open_45, open_46, open_taken, opened_lo
 pub part_extended_long : {w v w' : List ℕ} {at tag r : ℕ} → PartExtends w at tag v r w' → at ≤ length w → length w' ≡ length w
 part_extended_long {w} {v} {at = at} {tag} x h = rw x.words (part_long w at _ h (extended_long (drop at w) tag v))
 
-module _ (w starts : List ℕ) (n clock tag : ℕ) (v : List ℕ) (k : Kept w starts n) (some : 0 < n) where
+-- the codes that a store gives
+codes : (w : List ℕ) (tag : ℕ) (v : List ℕ) → (extending w tag v ≤ 47) × ((extending w tag v ≡ 0 → ⊥) → 42 ≤ extending w tag v)
+unfolding extending record_code flag_code
+codes w tag v = grind arith
+
+module _ {w v w' : List ℕ} {at tag r : ℕ} (x : PartExtends w at tag v r w') where
+  pub code_most : r ≤ 47
+  code_most = rw x.code (codes (drop at w) tag v).0
+
+  pub code_least : (r ≡ 0 → ⊥) → 42 ≤ r
+  code_least z = rw x.code ((codes (drop at w) tag v).1 (rw x.code at z))
+
+module _ (w starts : List ℕ) (n : ℕ) (clock : Option ℕ) (tag : ℕ) (v : List ℕ) (k : Kept w starts n) (there : 0 < n) where
   pub extend_within : get_or starts (n - 1) 0 ≤ length w
   extend_within = omega (arith, k.started.within (n - 1) (omega arith))
 
@@ -271,32 +244,20 @@ module _ (w starts : List ℕ) (n clock tag : ℕ) (v : List ℕ) (k : Kept w st
     latest [] c s m = absurd (omega arith)
     latest (T ∷ l) c s m = (latest_code T l c s m, latest_stored T l c s m)
 
-    pub extend_taken : Took w starts n clock tag v r w' starts
-    extend_taken =
-        record {
+    pub extend_taken : (code : ℕ) → code ≡ r → Took w starts n clock tag v code w' starts
+    extend_taken code same =
+        rw same (record {
           size = part_extended_long x extend_within;
           starts_size = refl;
           checked = λ l c s m q. (latest l c s m).0;
           stored = λ l c s m z. (latest l c s m).1 z;
-        }
+        })
 
-pub ruleset extend_laws = (rules, extend_within, extend_taken, part_extended_long)
+pub ruleset extend_laws = (rules, extend_within, code_most, code_least, extend_taken, part_extended_long)
 
-module _ (s : List ℕ) (start end : ℕ) where
-  pub between_back : end < start → [] ≡ between s start end
-  unfolding between
-  between_back h = simp lt-leb
-
-  module _ (order : start ≤ end) where
-    pub between_past : length s < end → [] ≡ between s start end
-    unfolding between
-    between_past h = simp (le-leb, lt-leb)
-
-    pub between_there : end ≤ length s → take (end - start) (drop start s) ≡ between s start end
-    unfolding between
-    between_there h = simp le-leb
-
-pub ruleset between_laws = (rules, between_back, between_past, between_there)
+pub between_there : (s : List ℕ) (start end : ℕ) → start ≤ end → end ≤ length s → take (end - start) (drop start s) ≡ between s start end
+unfolding between
+between_there s start end order h = simp le-leb
 
 -- what a field that is not refused says
 record Passed (d : Described) (tag : ℕ) (v : List ℕ) : Type 0 where
@@ -322,12 +283,12 @@ module _ (s : List ℕ) (at : ℕ) where
   unfolding code_after
   after_end h = simp le-leb
 
-  module _ (read : FieldRead) (is : read ≡ field_at s at) (h : at < length s) where
-    pub after_cut : read ≡ Cut → 41 ≡ code_after s at
+  module _ (read : Option FieldRead) (is : read ≡ field_at s at) (h : at < length s) where
+    pub after_cut : read ≡ None → 41 ≡ code_after s at
     unfolding code_after
     after_cut e = rw (code_after, lt-leb (length s) at h, ← is, e)
 
-    module _ (tag size next : ℕ) (e : read ≡ Taken tag size next) (good : Bool) (its : good ≡ length_good tag size) where
+    module _ (u : FieldRead) (e : read ≡ Some u) (good : Bool) (its : good ≡ length_good u.tag u.length) where
       pub after_length : not good ≡ true → 42 ≡ code_after s at
       unfolding code_after
       after_length f = rw (code_after, lt-leb (length s) at h, ← is, e, ← its, f)
@@ -335,8 +296,6 @@ module _ (s : List ℕ) (at : ℕ) where
       pub after_order : not good ≡ false → 43 ≡ code_after s at
       unfolding code_after
       after_order t = rw (code_after, lt-leb (length s) at h, ← is, e, ← its, t)
-
-pub ruleset code_after_laws = (rules, after_end, after_cut, after_length, after_order)
 
 module _ (s : List ℕ) (at : ℕ) (h : at < length s) (d : Described) (k : known d.entry ≡ true) (g : ℕ) where
   abbrev Refused : Type 0
@@ -350,22 +309,22 @@ module _ (s : List ℕ) (at : ℕ) (h : at < length s) (d : Described) (k : know
   unfolding field_refusal order_good
   behind = go (field_at s at) refl
     where
-      go : (w : FieldRead) → w ≡ field_at s at → Refused
-      go Cut e = refuses cut [] 41 (fields_cut g s at h (sym e)) refl (after_cut s at Cut e h refl) (omega arith)
-      go (Taken tag size next) e =
-          let i = field_read s at tag size next (sym e) in
-          let v : List ℕ = part s (at + 3) size in
-          let l : length v ≡ size = length_part s (at + 3) size (omega arith) in
-          let on = fields_on g s at tag size next h (sym e) in
-          by_test (length_good tag size)
-          (λ b. refuses (field tag v) (fields_from g s next) 43 on (rw (l, b, k))
-          (after_order s at (Taken tag size next) e h tag size next refl true (sym b) refl) (omega arith))
-          (λ b. refuses (field tag v) (fields_from g s next) 42 on (rw (l, b))
-          (after_length s at (Taken tag size next) e h tag size next refl false (sym b) refl) (omega arith))
+      go : (w : Option FieldRead) → w ≡ field_at s at → Refused
+      go None e = refuses cut [] 41 (fields_cut g s at h (sym e)) refl (after_cut s at None e h refl) (omega arith)
+      go (Some u) e =
+          let i = field_read s at u (sym e) in
+          let v : List ℕ = part s (at + 3) u.length in
+          let l : length v ≡ u.length = length_part s (at + 3) u.length (omega arith) in
+          let on = fields_on g s at u h (sym e) in
+          by_test (length_good u.tag u.length)
+          (λ b. refuses (field u.tag v) (fields_from g s u.next) 43 on (rw (l, b, k))
+          (after_order s at (Some u) e h u refl true (sym b) refl) (omega arith))
+          (λ b. refuses (field u.tag v) (fields_from g s u.next) 42 on (rw (l, b))
+          (after_length s at (Some u) e h u refl false (sym b) refl) (omega arith))
 
-clock_known : (s : List ℕ) (clock : ℕ) → known (clock_at s clock) ≡ not (eqb clock 0)
-unfolding clock_at
-clock_known s clock = by_test (eqb clock 0) (λ e. rw e) (λ e. rw e)
+clock_known : (s : List ℕ) (clock : Option ℕ) → known (clock_at s clock) ≡ is_some clock
+clock_known s None = refl
+clock_known s (Some place) = refl
 
 hop_long : (k : ℕ) → length_good 2 k ≡ true → 14 ≤ k
 unfolding length_good
@@ -420,23 +379,26 @@ module _ (l : List Settings) (c : Option (List ℕ)) (tag : ℕ) (v : List ℕ) 
   unfolding counted_by room_good
   after_few r h = by_test (eqb tag 1) (λ a. rw a (omega (arith, ltb-true (length l) 16 (rw a at r)))) (λ a. rw a h)
 
--- what is answered
-abbrev pub refusing : ℕ → Reading
-refusing code = record { code = code; n = 0; clock = 0; place = 0 }
+-- no refusal has the code 0
+code_some : (e : Refusal) → code_of e ≡ 0 → ⊥
+code_some R.FileLong z = cc
+code_some R.FieldCut z = cc
+code_some R.BadLength z = cc
+code_some R.OutOfPlace z = cc
+code_some R.BadValue z = cc
+code_some R.NicknameMet z = cc
+code_some R.TooMany z = cc
+code_some R.SerialMet z = cc
+code_some R.EntryUnknown z = cc
+code_some R.TraceShort z = cc
 
-module _ {s w starts : List ℕ} {r : Reading} where
-  refused_done : {code : ℕ} → r ≡ refusing code → (code ≡ 0 → ⊥) → refused code ≡ described s → ReadDone s w starts r
-  refused_done is z q = rw is (record { refuses = λ n. q; accepts = λ e. absurd (z e) })
-
-  pub done_long : 32768 < length s → r ≡ refusing 40 → ReadDone s w starts r
-  unfolding described
-  done_long h is = refused_done is (omega arith) (rw (lt-ltb file_most (length s) h))
+pub done_long : (s : List ℕ) → 32768 < length s → refused 40 ≡ described s
+unfolding described
+done_long s h = rw (lt-ltb file_most (length s) h)
 
 -- what the loop keeps
-pub record Holding (s w₀ starts₀ w starts : List ℕ) (n clock at : ℕ) : Type 0 where
+pub record Holding (s w starts : List ℕ) (n : ℕ) (clock : Option ℕ) (at : ℕ) : Type 0 where
   pub within : at ≤ length s
-  pub size : length w ≡ length w₀
-  pub starts_size : length starts ≡ length starts₀
   pub sixteen : length starts ≡ 16
   pub words : words_for (length s) ≤ length w
   pub switches : List Settings
@@ -448,13 +410,11 @@ pub record Holding (s w₀ starts₀ w starts : List ℕ) (n clock at : ℕ) : T
   pub enough : length s ≤ at + fuel
   pub rest : described_from (so_far switches (clock_at s clock)) (fields_from (suc fuel) s at) ≡ described s
 
-pub holding_begin : (s w starts : List ℕ) → length s ≤ 32768 → length starts ≡ 16 → words_for (length s) ≤ length w → Holding s w starts w starts 0 0 0
-unfolding described fields clock_at
+pub holding_begin : (s w starts : List ℕ) → length s ≤ 32768 → length starts ≡ 16 → words_for (length s) ≤ length w → Holding s w starts 0 None 0
+unfolding described fields
 holding_begin s w starts h l e =
     record {
       within = omega arith;
-      size = refl;
-      starts_size = refl;
       sixteen = l;
       words = e;
       switches = [];
@@ -467,12 +427,12 @@ holding_begin s w starts h l e =
       rest = rw (le-ltb file_most (length s) h);
     }
 
-module _ {s w₀ starts₀ w starts : List ℕ} {n clock at : ℕ} (h : Holding s w₀ starts₀ w starts n clock at) where
+module _ {s w starts : List ℕ} {n : ℕ} {clock : Option ℕ} {at : ℕ} (h : Holding s w starts n clock at) where
   abbrev d : Described
   d = so_far h.switches (clock_at s clock)
 
-  pub done_ended : {r : Reading} → length s ≤ at → r ≡ refusing 43 → ReadDone s w starts r
-  done_ended l is = refused_done is (omega arith) (sym (described_none d refl) ∙ (rw (fields_end h.fuel s at l) at h.rest))
+  pub done_ended : length s ≤ at → refused 43 ≡ described s
+  done_ended l = sym (described_none d refl) ∙ (rw (fields_end h.fuel s at l) at h.rest)
 
   module _ (more : at < length s) where
     span_room : span_of h.switches + 6 ≤ length w
@@ -488,124 +448,122 @@ module _ {s w₀ starts₀ w starts : List ℕ} {n clock at : ℕ} (h : Holding 
         let room : end_of w starts n + 6 ≤ length w = omega (arith, span_room) in
         search
 
-    module _ (read : FieldRead) (q : read ≡ field_at s at) where
-      pub done_cut : {r : Reading} → read ≡ Cut → r ≡ refusing 41 → ReadDone s w starts r
+    module _ (read : Option FieldRead) (q : read ≡ field_at s at) where
+      pub done_cut : read ≡ None → refused 41 ≡ described s
       unfolding field_refusal
-      done_cut e is =
-          refused_done is (omega arith)
-          (sym (described_refused d cut [] (omega arith)) ∙ (rw (fields_cut h.fuel s at more (sym q ∙ e)) at h.rest))
+      done_cut e = sym (described_refused d cut [] (omega arith)) ∙ (rw (fields_cut h.fuel s at more (sym q ∙ e)) at h.rest)
 
-      module _ (tag size next : ℕ) (t : read ≡ Taken tag size next) (code : ℕ) (w' starts' : List ℕ)
-          (took : Took w starts n clock tag (part s (at + 3) (next - (at + 3))) code w' starts') where
+      module _ (u : FieldRead) (t : read ≡ Some u) (code : ℕ) (w' starts' : List ℕ)
+          (took : Took w starts n clock u.tag (part s (at + 3) (u.next - (at + 3))) code w' starts') where
         abbrev v : List ℕ
-        v = part s (at + 3) (next - (at + 3))
+        v = part s (at + 3) (u.next - (at + 3))
 
-        its : IsField s at tag size next
-        its = field_read s at tag size next (sym q ∙ t)
+        its : IsField s at u
+        its = field_read s at u (sym q ∙ t)
 
-        v_long : length v ≡ next - (at + 3)
-        v_long = length_part s (at + 3) (next - (at + 3)) (omega (arith, its))
+        v_long : length v ≡ u.next - (at + 3)
+        v_long = length_part s (at + 3) (u.next - (at + 3)) (omega (arith, its))
 
         less : suc (h.fuel - 1) ≡ h.fuel
         less = omega (arith, its)
 
-        first_field : described_from d (field tag v ∷ fields_from h.fuel s next) ≡ described s
+        first_field : described_from d (field u.tag v ∷ fields_from h.fuel s u.next) ≡ described s
         first_field =
-            let its_size : next - (at + 3) ≡ size = omega (arith, its) in
-            rw its_size (rw (fields_on h.fuel s at tag size next more (sym q ∙ t)) at h.rest)
+            let its_size : u.next - (at + 3) ≡ u.length = omega (arith, its) in
+            rw its_size (rw (fields_on h.fuel s at u more (sym q ∙ t)) at h.rest)
 
-        code_is : code ≡ field_refusal d (field tag v)
+        code_is : code ≡ field_refusal d (field u.tag v)
         code_is = took.checked h.switches (clock_at s clock) h.stores h.count (clock_known s clock)
 
-        pub done_refused : {r : Reading} → (code ≡ 0 → ⊥) → r ≡ refusing code → ReadDone s w' starts' r
-        done_refused z is =
-            refused_done is z
-            (rw code_is (sym (described_refused d (field tag v) (fields_from h.fuel s next) (λ y. z (code_is ∙ y))) ∙ first_field))
+        pub done_refused : (e : Refusal) → code ≡ code_of e → refused (code_of e) ≡ described s
+        done_refused e c =
+            rw (← c, code_is)
+            (sym (described_refused d (field u.tag v) (fields_from h.fuel s u.next) (λ y. code_some e (sym c ∙ code_is ∙ y))) ∙ first_field)
 
         module _ (z : code ≡ 0) where
-          passed : Passed d tag v
-          passed = passes d tag v (sym code_is ∙ z)
+          passed : Passed d u.tag v
+          passed = passes d u.tag v (sym code_is ∙ z)
 
-          with_next_lem : described_from (with_next d (field tag v)) (fields_from h.fuel s next) ≡ described s
-          with_next_lem = sym (described_on d (field tag v) (fields_from h.fuel s next) (sym code_is ∙ z)) ∙ first_field
+          with_next_lem : described_from (with_next d (field u.tag v)) (fields_from h.fuel s u.next) ≡ described s
+          with_next_lem = sym (described_on d (field u.tag v) (fields_from h.fuel s u.next) (sym code_is ∙ z)) ∙ first_field
 
-          stored : Stores w' starts' (with_next d (field tag v)).switches
+          stored : Stores w' starts' (with_next d (field u.tag v)).switches
           stored = took.stored h.switches (clock_at s clock) h.stores h.count z
 
-          next_is : (tag ≡ 5 → ⊥) → so_far (with_next d (field tag v)).switches (clock_at s (clocked_by clock tag at)) ≡ with_next d (field tag v)
-          unfolding with_next clocked_by clock_at length_good
+          next_is : (u.tag ≡ 5 → ⊥) → so_far (with_next d (field u.tag v)).switches (clock_at s (clocked_by clock u.tag at)) ≡ with_next d (field u.tag v)
+          unfolding with_next clocked_by length_good
           next_is five =
-              by_test (eqb tag 1) (λ a. rw (eqb-true tag 1 a)) (λ a.
-              by_test (eqb tag 4)
+              by_test (eqb u.tag 1) (λ a. rw (eqb-true u.tag 1 a)) (λ a.
+              by_test (eqb u.tag 4)
               (λ b.
-              let six : next - (at + 3) ≡ 6 = sym v_long ∙ eqb-true (length v) 6 (rw (eqb-true tag 4 b) at passed.its_length) in
-              rw (a, b, ne_eqb (at + 3) 0 (omega arith), six))
-              (λ b. rw (a, b, ne_eqb tag 5 five)))
+              let six : u.next - (at + 3) ≡ 6 = sym v_long ∙ eqb-true (length v) 6 (rw (eqb-true u.tag 4 b) at passed.its_length) in
+              rw (a, b, six))
+              (λ b. rw (a, b, ne_eqb u.tag 5 five)))
 
-          pub holding_on : (tag ≡ 5 → ⊥) → {clock' n' : ℕ} → clock' ≡ clocked_by clock tag at → n' ≡ counted_by n tag
-              → Holding s w₀ starts₀ w' starts' n' clock' next
-          holding_on five {n' = n'} ec en =
-              let counted : counted_by (length h.switches) tag ≡ n' = rw h.count (sym en) in
+          pub holding_on : (u.tag ≡ 5 → ⊥) → {clock₁ clock' : Option ℕ} {n₁ n' : ℕ} → clock₁ ≡ clock → n₁ ≡ n → clock' ≡ clocked_by clock₁ u.tag at → n' ≡ counted_by n₁ u.tag
+              → Holding s w' starts' n' clock' u.next
+          holding_on five {n' = n'} sc sn ec₁ en₁ =
+              let ec = rw sc at ec₁ in
+              let en = rw sn at en₁ in
+              let counted : counted_by (length h.switches) u.tag ≡ n' = rw h.count (sym en) in
               record {
                 within = its.within;
-                size = took.size ∙ h.size;
-                starts_size = took.starts_size ∙ h.starts_size;
                 sixteen = took.starts_size ∙ h.sixteen;
                 words = omega arith;
-                switches = (with_next d (field tag v)).switches;
-                count = after_count h.switches (clock_at s clock) tag v ∙ counted;
-                few = omega (arith, after_few h.switches (clock_at s clock) tag v passed.has_room (omega (arith, h.count, h.few)));
+                switches = (with_next d (field u.tag v)).switches;
+                count = after_count h.switches (clock_at s clock) u.tag v ∙ counted;
+                few = omega (arith, after_few h.switches (clock_at s clock) u.tag v passed.has_room (omega (arith, h.count, h.few)));
                 stores = stored;
-                span = omega (arith, after_span h.switches (clock_at s clock) tag v passed.its_length, v_long, its);
+                span = omega (arith, after_span h.switches (clock_at s clock) u.tag v passed.its_length, v_long, its);
                 fuel = h.fuel - 1;
                 enough = omega (arith, its);
                 rest = rw (less, ec, next_is five) with_next_lem;
               }
 
           -- the entry field, and what stands behind it
-          module _ (five : tag ≡ 5) where
+          module _ (five : u.tag ≡ 5) where
             abbrev entered : Described
             entered = record { switches = h.switches; clock = clock_at s clock; entry = switch_named h.switches (be16 v 0); frame = drop 2 v }
 
-            entered_is : with_next d (field tag v) ≡ entered
+            entered_is : with_next d (field u.tag v) ≡ entered
             unfolding with_next
             entered_is = rw five
 
-            entered_rest : described_from entered (fields_from (suc (h.fuel - 1)) s next) ≡ described s
+            entered_rest : described_from entered (fields_from (suc (h.fuel - 1)) s u.next) ≡ described s
             entered_rest = rw (← entered_is, less) with_next_lem
 
             entered_known : known entered.entry ≡ true
             unfolding entry_known
             entered_known = rw five at passed.is_known
 
-            whole_value : length s ≤ next → entry_value s at ≡ v
+            whole_value : length s ≤ u.next → entry_value s at ≡ v
             whole_value l =
-                let e : length s ≡ next = omega (arith, its) in
+                let e : length s ≡ u.next = omega (arith, its) in
                 sym (between_there s (at + 3) (length s) (omega (arith, its)) (omega arith)) ∙ ap (λ (x : ℕ). part s (at + 3) (x - (at + 3))) e
 
-            pub done_entered : {r : Reading} → r ≡ record { code = code_after s next; n = n; clock = clock; place = at } → ReadDone s w' starts' r
-            done_entered is =
-                rw is
-                (by_test (leb (length s) next)
+            pub done_entered : {n₁ : ℕ} {clock₁ : Option ℕ} → n₁ ≡ n → clock₁ ≡ clock → 0 ≡ code_after s u.next → Accepts s w' starts' n₁ clock₁ at
+            done_entered sn sc z =
+                rw (sn, sc)
+                (by_test (leb (length s) u.next)
                 (λ b.
-                let l = leb-true (length s) next b in
+                let l = leb-true (length s) u.next b in
                 record {
-                  refuses = λ y. absurd (y (sym (after_end s next l)));
-                  accepts = λ y.
-                      record {
-                        switches = h.switches;
-                        is = rw (whole_value l) (sym entered_rest ∙ rw (fields_end (h.fuel - 1) s next l) (described_end entered entered_known));
-                        stores = rw (ap (λ (x : Described). x.switches) entered_is) at stored;
-                        count = h.count;
-                        sixteen = took.starts_size ∙ h.sixteen;
-                        span = omega (arith, span_room);
-                        entry_in = omega (arith, its);
-                      };
+                  switches = h.switches;
+                  is = rw (whole_value l) (sym entered_rest ∙ rw (fields_end (h.fuel - 1) s u.next l) (described_end entered entered_known));
+                  stores = rw (ap (λ (x : Described). x.switches) entered_is) at stored;
+                  count = h.count;
+                  few = omega (arith, took.starts_size);
+                  span = omega (arith, span_room);
+                  entry_in = omega (arith, its);
                 })
-                (λ b.
-                let x = behind s next (leb-false (length s) next b) entered entered_known (h.fuel - 1) in
-                record { refuses = λ y. sym x.0 ∙ entered_rest; accepts = λ y. absurd (x.1 y) }))
+                (λ b. absurd ((behind s u.next (leb-false (length s) u.next b) entered entered_known (h.fuel - 1)).1 (sym z))))
+
+            pub done_behind : (e : Refusal) → code_of e ≡ code_after s u.next → refused (code_of e) ≡ described s
+            done_behind e c =
+                by_test (leb (length s) u.next)
+                (λ b. absurd (code_some e (c ∙ sym (after_end s u.next (leb-true (length s) u.next b)))))
+                (λ b. rw c (sym (behind s u.next (leb-false (length s) u.next b) entered entered_known (h.fuel - 1)).0 ∙ entered_rest))
 
 pub ruleset holding = (holding_begin, holding_kept, holding_on)
 
-pub ruleset read_laws = (rules, taken, done_long, done_ended, done_cut, done_refused, done_entered, holding)
+pub ruleset read_laws = (rules, taken, done_long, done_ended, done_cut, done_refused, done_entered, done_behind, holding)

@@ -1,5 +1,7 @@
 -- The run as the code makes it. One handling: what its entry says, and what it leaves in the buffers. Then the loop: the states so far are traced, and the
 -- run from here, with the replies that wait, is the rest of the whole. One law for each need, for `search` to cite.
+use Rattle.std.specs.Prelude.{Result, Ok, Err}
+use Rattle.std.specs.Prelude.{Option, Some, None}
 use mathlib.Core.Path.{◌≡◌, refl, sym, ap, ◌∙◌}
 use mathlib.Core.List.{List, [], ◌∷◌, ◌++◌, append_assoc, append-nil}
 use mathlib.Core.Bool.{Bool, false, true≢false}
@@ -7,22 +9,19 @@ use Prim.Native.Nat.{ℕ, suc, ◌+◌, ◌-◌, ◌*◌, ◌/◌, ◌%◌, ◌<
 use native.Mathlib.Omega.{arith}
 use native.Mathlib.Numerals.{add-one}
 use borrow.Author.Rules.{rules}
-use borrow.Author.Tests.{eqb-true, eqb-false}
-use lib.Dec.{eqb}
-use lib.ListN.{length, get_or, take, drop, length-take, length-append}
+use lib.ListN.{length, get_or, take, length-take, length-append}
 use Rattle.rules.specs as rules
-use rules.{Octets.octet, Octets.be16, Octets.put, Settings.Settings, Settings.Ways, Settings.ways_of}
-use rules.Link.{link, link_length, link_ethertype, ethertype_tag, ethertype_trill}
+use rules.{Octets.put, Settings.Settings, Settings.Ways, Settings.ways_of}
+use rules.Link.{link}
 use rules.{Header.hop_count, Header.read_frame, Handling.handling, Answer.Handled, Answer.given, Demand.replies_in}
 use rules.Campus.{hop_received, egress_received, kind_octet, entry_octets, Kind, State, Waiting, replies_made, staying, Next, over, next, sent_on}
 use rules.Campus.{next_after, run_from, trace_octets}
-use rules.declared.{Header.Header, FrameRead.FrameRead}
-use rules.declared.FrameRead.TheVariants.{Trill, Unreadable}
+use rules.declared.{Header.Header, Number.Number}
 use Rattle.rules.proofs as rule_laws
-use rule_laws.{TestLaws.by_test, StepLaws.hop_read, StepLaws.egress_read, StepLaws.reply_short}
+use rule_laws.{StepLaws.reply_short}
 use rule_laws.HandledLaws.{final, How, ends, forwards, faults, echoes, how, Bounded, handling_bounded}
-use rule_laws.HandlingLaws.{frame_handled, handling_unread, unread_number, length_forwarded}
-use rule_laws.FrameLaws.{frame_read, length_tagged, length_plain, read_trill, read_other, link_length_lem, link_written}
+use rule_laws.HandlingLaws.{frame_handled, length_forwarded}
+use rule_laws.FrameLaws.{link_length_lem, link_written}
 use rule_laws.OctetLaws.{length_put, put_put, put_none, take_put}
 use rule_laws.RunLaws.{run_step, rest, no_replies, replies_on, length_trace}
 use Rattle.octets.specs.Copy.{Wrote, fitting}
@@ -33,80 +32,28 @@ use Rattle.handler.specs.Tasks.{Both}
 use Rattle.stores.proofs.IndexLaws.{good_whole}
 use Rattle.campus.specs
 use specs.declared.received.HopEgress.{HopEgress}
-use specs.declared.running.{At.At, Onward.Onward}
-use specs.Stores.{store_at, settings_at, SoundAt, switches_in}
-use specs.Steps.{Readable, AnsweredBy, received_of, kind_by, entry_by, handled_by, StepReady, state_at, Stepped, Ran, run_of}
-use specs.declared.running.Onward.TheVariants.{To, Ends}
+use specs.declared.running.At.{At}
+use specs.Stores.{store_at, settings_at, SoundAt}
+use specs.Switches.{switch_at, all_of}
+use specs.declared.switches.Switches.{Switches}
+use specs.Steps.{received_of, kind_by, entry_by, handled_by, StepReady, state_at, Stepped, Ran, run_of}
 use specs.Queue.{replies_by, Free, Queue, Holds, Onwards, onward_by, OnwardReady, Onwarded, TurnReady, Turned, LoopReady, Begun}
-use Rattle.campus.proofs.{StoresLaws.lent, StoresLaws.name_here, QueueLaws.copied_begins}
-
--- a tag at the end of the link header
-module _ (f : List ℕ) (high a : ℕ) (is_high : high ≡ octet f 12) (is_a : a ≡ ethertype_tag / 256 % 256) where
-  pub untagged_high : (high ≡ a → ⊥) → 14 ≡ link_length f
-  untagged_high h = length_plain f (be16 f 12) refl (λ e. h (omega arith))
-
-  module _ (low b : ℕ) (is_low : low ≡ octet f 13) (is_b : b ≡ ethertype_tag % 256) where
-    pub untagged_low : (low ≡ b → ⊥) → 14 ≡ link_length f
-    untagged_low h = length_plain f (be16 f 12) refl (λ e. h (omega arith))
-
-    pub tagged : high ≡ a → low ≡ b → 18 ≡ link_length f
-    tagged e g = length_tagged f (be16 f 12) refl (omega arith)
-
-pub ruleset link_length_laws = (rules, untagged_high, untagged_low, tagged)
+use Rattle.campus.proofs.{StoresLaws.name_here, QueueLaws.copied_begins}
 
 -- hop count and egress of a frame, by what it is read as
-module _ (f : List ℕ) (read : FrameRead) (is : read ≡ read_frame f) where
-  pub received_none : {number : ℕ} → read ≡ Unreadable number → record { hop = 0; egress = 0 } ≡ received_of f
+module _ (f : List ℕ) (read : Result Header Number) (is : read ≡ read_frame f) where
+  pub received_none : {number : Number} → read ≡ Err number → record { hop = 0; egress = 0 } ≡ received_of f
   unfolding received_of hop_received egress_received
   received_none e = rw (received_of, hop_received, egress_received, ← is, e)
 
-  pub received_trill : {h : Header} {low hop : ℕ} → read ≡ Trill h → low ≡ h.word % 256 → hop ≡ hop_count (low % 256)
+  pub received_trill : {h : Header} {low hop : ℕ} → read ≡ Ok h → low ≡ h.word % 256 → hop ≡ hop_count (low % 256)
       → record { hop = hop; egress = h.egress } ≡ received_of f
   unfolding received_of hop_received egress_received
   received_trill {h} {hop = hop} e l n =
       let its : hop ≡ hop_count h.word = omega arith in
       rw (its, received_of, hop_received, egress_received, ← is, e)
 
-pub ruleset in_any_laws = (rules, received_none, received_trill)
-
--- and where it stands in a frame that is readable
-module _ {f : List ℕ} (r : Readable f) where
-  pub readable_long : link_length f + 6 ≤ length f
-  readable_long =
-      let i = frame_read f r.header r.is in
-      omega arith
-
-  header_is : read_frame f
-      ≡ Trill (record { place = link_length f; word = be16 f (link_length f); egress = be16 f (link_length f + 2); ingress = be16 f (link_length f + 4) })
-  header_is =
-      let i = frame_read f r.header r.is in
-      let n = link_length f in
-      let long : 14 ≤ length f = omega arith in
-      let whole : n ≤ length f = omega arith in
-      by_test (eqb (link_ethertype f) ethertype_trill)
-      (λ t.
-      let there = read_trill f n refl long whole (link_ethertype f) (eqb-true _ _ t) refl (be16 f n) (be16 f (n + 2)) (be16 f (n + 4)) in
-      sym (there readable_long refl refl refl))
-      (λ t. cc (read_other f n refl long whole (link_ethertype f) refl (eqb-false _ _ t), r.is))
-
-  pub in_header : {at hop egress : ℕ} → at ≡ link_length f → hop ≡ hop_count (get_or f (at + 1) 0 % 256) → egress ≡ be16 f (at + 2)
-      → record { hop = hop; egress = egress } ≡ received_of f
-  unfolding received_of
-  in_header {hop = hop} is h e =
-      let its_hop : hop ≡ hop_received f = omega (arith, hop_read f _ header_is, rw is at h) in
-      rw (its_hop, rw is at e, egress_read f _ header_is)
-
-pub ruleset in_header_laws = (rules, in_header)
-
--- by the answer
-pub is_readable : {f : List ℕ} {number : ℕ} → AnsweredBy f number → 12 ≤ number → Readable f
-is_readable {f} given h =
-    elim (read_frame f) as (λ x. read_frame f ≡ x → Readable f) [
-      | Trill g ↦ λ e. record { header = g; is = e }
-      | Unreadable m ↦ λ e. absurd (omega (arith, given.unread m e, (unread_number f m e).1))
-    ] refl
-
-pub ruleset received_laws = (rules, is_readable)
+pub ruleset received_laws = (rules, received_none, received_trill)
 
 -- an entry's eight octets, written where there is room for them
 pub entry_put : {trace' : List ℕ} (trace : List ℕ) (at nickname : ℕ) (replied : Bool) (number : ℕ) (f : List ℕ) {a b kind : ℕ} {h : HopEgress} {x y end : ℕ}
@@ -127,12 +74,12 @@ module _ {w starts : List ℕ} {i : ℕ} (s : SoundAt w starts i) where
   pub nickname_small : get_or w (get_or starts i 0) 0 < 65536
   nickname_small = omega (arith, nickname_is, (good_whole (store_at w starts i) s.good).named)
 
-  pub handled_by_lem : (clock frame : List ℕ) {out out' beside beside' : List ℕ} {r : Answer}
-      → Both (handled_in (take (length w - get_or starts i 0) (drop (get_or starts i 0) w)) clock (length out) (length beside) frame) r out out' beside beside'
+  pub handled_by_lem : (clock frame store : List ℕ) {out out' beside beside' : List ℕ} {r : Answer} → store ≡ store_at w starts i
+      → Both (handled_in store clock (length out) (length beside) frame) r out out' beside beside'
       → length out ≡ 2048 → length beside ≡ 576 → Both (handled_by (settings_at w starts i) clock 2048 576 frame) r out out' beside beside'
   unfolding handled_in
-  handled_by_lem clock frame b long long_beside =
-      rw (long, long_beside, lent w (get_or starts i 0), handled_in, s.good, s.says) at b
+  handled_by_lem clock frame store is b long long_beside =
+      rw (long, long_beside, is, handled_in, s.good, s.says) at b
 
 pub ruleset nickname_of_laws = (rules, nickname_is, nickname_small)
 
@@ -148,11 +95,11 @@ forwards_linked S clock f (faults h r code t two found c) e = absurd (omega arit
 forwards_linked S clock f (echoes h r t found c) e = absurd (omega arith)
 
 -- what is left of a handling
-module _ {w starts clock : List ℕ} {at : At} {trace : List ℕ} {k : ℕ} (ready : StepReady w starts clock at trace k) (frame cur : List ℕ)
+module _ {sw : Switches} {clock : List ℕ} {at : At} {trace : List ℕ} {k : ℕ} (ready : StepReady sw clock at trace k) (frame cur : List ℕ)
     (is : frame ≡ take at.size cur) (out out' beside beside' : List ℕ) (a : Answer)
-    (h : Both (handled_by (settings_at w starts at.switch) clock 2048 576 frame) a out out' beside beside') where
+    (h : Both (handled_by (switch_at sw at.switch) clock 2048 576 frame) a out out' beside beside') where
   abbrev T : Settings
-  T = settings_at w starts at.switch
+  T = switch_at sw at.switch
 
   frame_short : length frame ≤ 2048
   frame_short = rw (is, length-take) (omega arith)
@@ -166,12 +113,9 @@ module _ {w starts clock : List ℕ} {at : At} {trace : List ℕ} {k : ℕ} (rea
   pub step_number : a.number < 64
   step_number = rw both.answer bounded.number_small
 
-  pub step_answers : AnsweredBy frame a.number
-  step_answers = record { unread = λ m e. rw (both.answer, handling_unread (ways_of T) clock frame m e) }
-
   pub step_done : {trace' : List ℕ}
-      → trace' ≡ put trace (k * 8) (entry_by (settings_at w starts at.switch).nickname (kind_by at.replied) a.number frame)
-      → Stepped k (state_at w starts clock at cur k) out out' beside beside' trace trace' a
+      → trace' ≡ put trace (k * 8) (entry_by (switch_at sw at.switch).nickname (kind_by at.replied) a.number frame)
+      → Stepped k (state_at sw clock at cur k) out out' beside beside' trace trace' a
   unfolding entry_octets
   step_done e =
       let named : T.nickname < 65536 = rw (← nickname_is ready.sound) (nickname_small ready.sound) in
@@ -185,7 +129,7 @@ module _ {w starts clock : List ℕ} {at : At} {trace : List ℕ} {k : ℕ} (rea
         short_beside = rw both.answer bounded.fits_beside;
       })
 
-pub ruleset step_laws = (rules, step_number, step_answers, step_done)
+pub ruleset step_laws = (rules, step_number, step_done)
 
 pub trace_none : trace_octets [] ≡ []
 unfolding trace_octets
@@ -220,44 +164,44 @@ module _ {h : Handled} {a : Answer} {out out' beside beside' : List ℕ} (b : Bo
   next_is switches kind q = rw (b.answer, b.after, take_put out h.octets)
 
 -- one handling, and what is next
-module _ {w starts : List ℕ} {n : ℕ} {clock : List ℕ} {at : At} {cur waiting trace : List ℕ} {k : ℕ} where
-  pub turn_step : TurnReady w starts n clock at cur waiting trace k → StepReady w starts clock at trace k
+module _ {sw : Switches} {clock : List ℕ} {at : At} {cur waiting trace : List ℕ} {k : ℕ} where
+  pub turn_step : TurnReady sw clock at cur waiting trace k → StepReady sw clock at trace k
   turn_step ready =
       let sound = ready.sound.each at.switch ready.within in
       search
 
   module _ {a : Answer} {out out' beside beside' trace' : List ℕ}
-      (did : Stepped k (state_at w starts clock at cur k) out out' beside beside' trace trace' a) where
-    pub turn_onward : TurnReady w starts n clock at cur waiting trace k → OnwardReady w starts n a at out' beside' waiting
+      (did : Stepped k (state_at sw clock at cur k) out out' beside beside' trace trace' a) where
+    pub turn_onward : TurnReady sw clock at cur waiting trace k → OnwardReady sw a at out' beside' waiting
     turn_onward ready =
         let free : 0 < length (replies_by a out' beside') → Free waiting at.tail = λ z. ready.free (rw (replies_are did.both) at z) in
         search
 
-    pub turn_done : {waiting' cur' : List ℕ} {r : Onward} → Onwarded w starts n a at out' beside' waiting waiting' cur' r
-        → Turned w starts n clock at cur cur' waiting waiting' trace trace' k r
+    pub turn_done : {waiting' cur' : List ℕ} {r : Option At} → Onwarded sw a at out' beside' waiting waiting' cur' r
+        → Turned sw clock at cur cur' waiting waiting' trace trace' k r
     turn_done led =
         record {
           traced = did.traced;
           tail = led.tail;
           more = rw (replies_are did.both) at led.more;
           leads = λ q x.
-              rw (← next_is did.both (switches_in w starts n) (kind_by at.replied) q, ← replies_are did.both) (led.leads q x);
+              rw (← next_is did.both (all_of sw) (kind_by at.replied) q, ← replies_are did.both) (led.leads q x);
           same = led.same;
         }
 
 pub ruleset turn_laws = (rules, turn_step, turn_onward, turn_done)
 
 -- what the loop keeps
-pub record RunSoFar (w starts : List ℕ) (n first : ℕ) (clock frame waiting₀ trace₀ waiting trace cur : List ℕ) (at : At) (k : ℕ) : Type 0 where
-  pub ready : LoopReady w starts n first clock frame waiting₀ trace₀
+pub record RunSoFar (sw : Switches) (first : ℕ) (clock frame waiting₀ trace₀ waiting trace cur : List ℕ) (at : At) (k : ℕ) : Type 0 where
+  pub ready : LoopReady sw first clock frame waiting₀ trace₀
   pub done : List State
   pub nickname : ℕ
   pub queue : List Waiting
   pub long : length done ≡ k
   pub is : trace ≡ put trace₀ 0 (trace_octets done)
-  pub remains : done ++ run_from (4097 - k) (suc k) (switches_in w starts n) clock nickname (kind_by at.replied) (take at.size cur) queue
-      ≡ run_of w starts n first clock frame
-  pub holds : Holds w starts n waiting cur at nickname (kind_by at.replied) (take at.size cur) queue
+  pub remains : done ++ run_from (4097 - k) (suc k) (all_of sw) clock nickname (kind_by at.replied) (take at.size cur) queue
+      ≡ run_of sw first clock frame
+  pub holds : Holds sw waiting cur at nickname (kind_by at.replied) (take at.size cur) queue
   pub made : at.tail ≤ replies_in done
   pub most : k ≤ 4096
   pub same : length trace ≡ length trace₀
@@ -270,14 +214,14 @@ begun_so first c short long = record { is = refl; holds = copied_begins c (omega
 
 pub ruleset begin_laws = (rules, begun_so)
 
-pub run_begins : {w starts : List ℕ} {n first : ℕ} {clock frame waiting₀ trace₀ : List ℕ} → LoopReady w starts n first clock frame waiting₀ trace₀
-    → {cur : List ℕ} {at : At} → Begun first frame cur at → RunSoFar w starts n first clock frame waiting₀ trace₀ waiting₀ trace₀ cur at 0
-run_begins {w} {starts} {n} {first} {clock} {frame} {waiting₀} {trace₀} ready b =
+pub run_begins : {sw : Switches} {first : ℕ} {clock frame waiting₀ trace₀ : List ℕ} → LoopReady sw first clock frame waiting₀ trace₀
+    → {cur : List ℕ} {at : At} → Begun first frame cur at → RunSoFar sw first clock frame waiting₀ trace₀ waiting₀ trace₀ cur at 0
+run_begins {sw} {first} {clock} {frame} {waiting₀} {trace₀} ready b =
     rw b.is
     (record {
       ready = ready;
       done = [];
-      nickname = (settings_at w starts first).nickname;
+      nickname = (switch_at sw first).nickname;
       queue = [];
       long = refl;
       is = rw trace_none (sym (put_none trace₀ 0));
@@ -289,28 +233,28 @@ run_begins {w} {starts} {n} {first} {clock} {frame} {waiting₀} {trace₀} read
       same_waiting = refl;
     })
 
-module _ {w starts : List ℕ} {n first : ℕ} {clock frame waiting₀ trace₀ waiting trace cur : List ℕ} {at : At} {k : ℕ}
-    (l : RunSoFar w starts n first clock frame waiting₀ trace₀ waiting trace cur at k) where
+module _ {sw : Switches} {first : ℕ} {clock frame waiting₀ trace₀ waiting trace cur : List ℕ} {at : At} {k : ℕ}
+    (l : RunSoFar sw first clock frame waiting₀ trace₀ waiting trace cur at k) where
   abbrev whole : List State
-  whole = run_of w starts n first clock frame
+  whole = run_of sw first clock frame
 
   abbrev switches : List Settings
-  switches = switches_in w starts n
+  switches = all_of sw
 
   abbrev kind : Kind
   kind = kind_by at.replied
 
   abbrev state : State
-  state = state_at w starts clock at cur k
+  state = state_at sw clock at cur k
 
   abbrev h : Handled
-  h = handling (ways_of (settings_at w starts at.switch)) clock (take at.size cur)
+  h = handling (ways_of (switch_at sw at.switch)) clock (take at.size cur)
 
-  pub run_full : 4096 ≤ k → Ran whole trace₀ trace k
+  pub run_full : 4096 ≤ k → Ran whole trace₀ trace 4096
   run_full z =
       let left = run_from (4097 - k) (suc k) switches clock l.nickname kind (take at.size cur) l.queue in
-      let none : length left ≡ 0 = omega (arith, sym (length-append l.done left) ∙ ap length l.remains) in
-      rw (← l.remains, no_more left none, append-nil) (record { counted = sym l.long; traced = l.is })
+      let zero_is : length left ≡ 0 = omega (arith, sym (length-append l.done left) ∙ ap length l.remains) in
+      rw (← l.remains, no_more left zero_is, append-nil) (record { counted = omega (arith, l.long, l.most); traced = l.is })
 
   module _ (more : k < 4096) where
     -- the handling, and all after it
@@ -322,20 +266,20 @@ module _ {w starts : List ℕ} {n first : ℕ} {clock frame waiting₀ trace₀ 
     rest_is =
         let fuel : 4097 - k ≡ suc (4096 - k) = omega arith in
         rw (← run_step switches clock (4096 - k) (suc k) l.nickname kind (take at.size cur) l.queue
-        (settings_at w starts at.switch) l.holds.named) (rw fuel at l.remains)
+        (switch_at sw at.switch) l.holds.named) (rw fuel at l.remains)
 
     enough : k + 1 ≤ length whole
     enough = omega (arith, sym (length-append l.done (state ∷ later)) ∙ ap length rest_is)
 
-    pub turn_ready : TurnReady w starts n clock at cur waiting trace k
+    pub turn_ready : TurnReady sw clock at cur waiting trace k
     turn_ready =
         let replies = sym (replies_join l.done (state ∷ later)) ∙ ap replies_in rest_is in
-        let queue : Queue w starts n waiting at.head at.tail = record { queue = l.queue; held = l.holds.held } in
+        let queue : Queue sw waiting at.head at.tail = record { queue = l.queue; held = l.holds.held } in
         let free : 0 < length (replies_made h) → Free waiting at.tail = omega (arith, replies_on state later) in
         let entry_room : k * 8 + 8 ≤ length trace = omega (arith, enough) in
         search
 
-    module _ {waiting' trace' cur' : List ℕ} {r : Onward} (did : Turned w starts n clock at cur cur' waiting waiting' trace trace' k r) where
+    module _ {waiting' trace' cur' : List ℕ} {r : Option At} (did : Turned sw clock at cur cur' waiting waiting' trace trace' k r) where
       entered : trace' ≡ put trace₀ 0 (trace_octets (l.done ++ (state ∷ [])))
       entered =
           let long = length_trace l.done in
@@ -351,25 +295,25 @@ module _ {w starts : List ℕ} {n first : ℕ} {clock frame waiting₀ trace₀ 
       one_more : length (l.done ++ (state ∷ [])) ≡ k + 1
       one_more = rw length-append (omega arith)
 
-      turned : Onwards w starts n waiting' cur' did.tail r (next_after switches kind l.queue h)
+      turned : Onwards sw waiting' cur' did.tail r (next_after switches kind l.queue h)
       turned = did.leads l.queue l.holds.held
 
-      pub run_ends : r ≡ Ends → Ran whole trace₀ trace' (k + 1)
+      pub run_ends : r ≡ None → Ran whole trace₀ trace' (k + 1)
       unfolding later rest
       run_ends e =
           let last : next_after switches kind l.queue h ≡ over =
-          elim (next_after switches kind l.queue h) as (λ x. Onwards w starts n waiting' cur' did.tail Ends x → x ≡ over) [
+          elim (next_after switches kind l.queue h) as (λ x. Onwards sw waiting' cur' did.tail None x → x ≡ over) [
             | over ↦ λ o. refl
             | next n' kind' g q' ↦ λ o. absurd o
           ] (rw e at turned) in
           rw (← (rw last at rest_is)) (record { counted = sym one_more; traced = entered })
 
-      pub run_goes_on : {at' : At} → r ≡ To at' → RunSoFar w starts n first clock frame waiting₀ trace₀ waiting' trace' cur' at' (k + 1)
+      pub run_goes_on : {at' : At} → r ≡ Some at' → RunSoFar sw first clock frame waiting₀ trace₀ waiting' trace' cur' at' (k + 1)
       unfolding later rest
       run_goes_on {at'} e = go (next_after switches kind l.queue h) refl (rw e at turned)
         where
-          go : (x : Next) → next_after switches kind l.queue h ≡ x → Onwards w starts n waiting' cur' did.tail (To at') x
-              → RunSoFar w starts n first clock frame waiting₀ trace₀ waiting' trace' cur' at' (k + 1)
+          go : (x : Next) → next_after switches kind l.queue h ≡ x → Onwards sw waiting' cur' did.tail (Some at') x
+              → RunSoFar sw first clock frame waiting₀ trace₀ waiting' trace' cur' at' (k + 1)
           go over z o = absurd o
           go (next n' kind' g q') z o =
               let held = o.0 in

@@ -1,9 +1,9 @@
 -- The stores of a description's switches, one behind the other in a row of words: how the code looks through them, what one more store or field leaves,
 -- what they say, and what is found by nickname. By computation, and induction on the switches.
+use Rattle.std.specs.Prelude.{is_some, Option, Some, None}
 use mathlib.Core.Path.{◌≡◌, refl, sym, ap, subst, ◌∙◌, fun_ext}
 use mathlib.Core.List.{List, [], ◌++◌, append-nil, ◌∷◌}
 use mathlib.Core.Bool.{Bool, true, false, ◌||◌}
-use mathlib.Core.Option.{Option, none, some}
 use Prim.Native.Nat.{ℕ, zero, suc, ◌+◌, ◌-◌, ◌*◌, ◌/◌, ◌%◌, ◌≤◌, ◌<◌}
 use native.Mathlib.Omega.{arith}
 use native.Mathlib.Nat.{add-zero, lt_trans}
@@ -21,10 +21,10 @@ use Rattle.stores.specs.Store.{unless_withdrawn, Stands}
 use Rattle.stores.proofs.{LookupLaws.next_hop_lem, IndexLaws.good_whole}
 use Rattle.stores.proofs.ExtendLaws.{Ample, extended_stands, switch_stands, says, is_good, stands_too}
 use Rattle.campus.specs
-use specs.declared.switches.Named.TheVariants.{At, Unknown}
-use specs.Stores.{store_at, switches_in, number_in, end_of, Started, Sound, Kept, PartOpens, PartExtends, settings_in, settings_at, found_by}
-use specs.Stores.{span_of, Store, Stores, SoundAt}
-use specs.declared.switches.Named.{Named}
+use specs.Stores.{store_at, switches_in, number_in, end_of, Started, Sound, Kept, PartOpens, PartExtends, settings_in, settings_at}
+use specs.Stores.{span_of, Store, Stores, SoundAt, known_in}
+use specs.Switches.{IsSound}
+use specs.declared.switches.Switches.{Switches}
 
 -- looking for a nickname, from the latest back
 pub record Seeking (w starts : List ℕ) (n nickname i : ℕ) : Type 0 where
@@ -32,11 +32,11 @@ pub record Seeking (w starts : List ℕ) (n nickname i : ℕ) : Type 0 where
   pub same : number_in w starts i nickname ≡ number_in w starts n nickname
 
 module _ {w starts : List ℕ} {n nickname i : ℕ} (k : Seeking w starts n nickname i) where
-  pub seek_end : i ≤ 0 → Unknown ≡ number_in w starts n nickname
+  pub seek_end : i ≤ 0 → None ≡ number_in w starts n nickname
   unfolding number_in
   seek_end z =
-      let none : i ≡ 0 = omega arith in
-      rw none at k.same
+      let zero_is : i ≡ 0 = omega arith in
+      rw zero_is at k.same
 
   module _ (more : 0 < i) where
     one_less : i ≡ suc (i - 1)
@@ -45,7 +45,7 @@ module _ {w starts : List ℕ} {n nickname i : ℕ} (k : Seeking w starts n nick
     from_last : number_in w starts (suc (i - 1)) nickname ≡ number_in w starts n nickname
     from_last = rw one_less at k.same
 
-    pub seek_here : get_or w (get_or starts (i - 1) 0) 0 ≡ nickname → At (i - 1) ≡ number_in w starts n nickname
+    pub seek_here : get_or w (get_or starts (i - 1) 0) 0 ≡ nickname → Some (i - 1) ≡ number_in w starts n nickname
     unfolding number_in
     seek_here e = rw (eq-eqb _ _ e) at from_last
 
@@ -67,8 +67,8 @@ module _ {w starts : List ℕ} {n i : ℕ} (k : Editions w starts n i) where
   pub edition_end : i ≤ 0 → false ≡ some_edition2 (switches_in w starts n)
   unfolding some_edition2 switches_in
   edition_end z =
-      let none : i ≡ 0 = omega arith in
-      rw none at k.same
+      let zero_is : i ≡ 0 = omega arith in
+      rw zero_is at k.same
 
   module _ (more : 0 < i) where
     last_edition : (eqb (get_or w (get_or starts (i - 1) 0 + 2) 0 / 2 % 2) 1 || some_edition2 (switches_in w starts (i - 1)))
@@ -84,10 +84,14 @@ module _ {w starts : List ℕ} {n i : ℕ} (k : Editions w starts n i) where
     pub edition_on : (get_or w (get_or starts (i - 1) 0 + 2) 0 / 2 % 2 ≡ 1 → ⊥) → Editions w starts n (i - 1)
     edition_on h = record { within = omega arith; same = rw (ne_eqb _ _ h) at last_edition }
 
-    pub edition_within : Sound w starts n → get_or starts (i - 1) 0 + 2 < length w
-    edition_within s =
-        let x = s.each (i - 1) (omega arith) in
+    edition_within_by : ((j : ℕ) → j < n → SoundAt w starts j) → get_or starts (i - 1) 0 + 2 < length w
+    edition_within_by each =
+        let x = each (i - 1) (omega arith) in
         omega (arith, (good_whole (store_at w starts (i - 1)) x.good).long, length-drop (get_or starts (i - 1) 0) w)
+
+pub edition_within : {sw : Switches} {i : ℕ} → Editions sw.words.now sw.starts.now (length sw.starts.now) i → 0 < i → IsSound sw
+    → get_or sw.starts.now (i - 1) 0 + 2 < length sw.words.now
+edition_within k more s = edition_within_by k more s.each
 
 pub ruleset edition_2_laws = (rules, edition_end, edition_here, edition_on, edition_within, lt_trans)
 
@@ -123,8 +127,8 @@ module _ (w : List ℕ) (at : ℕ) where
 
   back : (u : List ℕ) → put_mid at (length w - at) w u ≡ take at w ++ u
   back u =
-      let none : post_of at (length w - at) w ≡ [] = drop_of_length-le (drop at w) {i = length w - at} (rw length-drop (omega arith)) in
-      rw (none, append-nil u)
+      let zero_is : post_of at (length w - at) w ≡ [] = drop_of_length-le (drop at w) {i = length w - at} (rw length-drop (omega arith)) in
+      rw (zero_is, append-nil u)
 
   module _ (v u : List ℕ) where
     pub part_opens : (r : Bool) → Opens (take (length w - at) (drop at w)) v r u → PartOpens w at v r (put_mid at (length w - at) w u)
@@ -184,6 +188,32 @@ module _ (w : List ℕ) (a : ℕ) (x : List ℕ) (h : a ≤ length w) where
     },
     stores_front starts starts' l (omega (arith, span_more T l)) (λ i b. kept i (omega arith)) s.1,
   )
+
+-- the first starts are those of the switches
+module _ (w starts : List ℕ) (n : ℕ) where
+  pub stores_starts : (l : List Settings) → length l ≤ n → Stores w starts l → Stores w (take n starts) l
+  stores_starts [] h s = tt
+  stores_starts (T ∷ l) h s = (
+    record { start = get_or-take n starts (length l) 0 (omega arith) ∙ s.0.start; stands = s.0.stands; valid = s.0.valid },
+    stores_starts l (omega arith) s.1,
+  )
+
+  number_starts : (x m : ℕ) → m ≤ n → number_in w (take n starts) m x ≡ number_in w starts m x
+  unfolding number_in
+  number_starts x zero h = refl
+  number_starts x (suc m) h = rw (get_or-take n starts m 0 (omega arith), number_starts x m (omega arith))
+
+  module _ (s : Started w starts n) where
+    pub started_front : Started w (take n starts) (length (take n starts))
+    started_front =
+        let long = length-take-le n starts s.long in
+        record { long = omega arith; within = λ i h. rw (get_or-take n starts i 0 (omega (arith, long))) (s.within i (omega (arith, long))) }
+
+    pub known_front : (x : ℕ) (found : Option ℕ) → found ≡ number_in w (take n starts) (length (take n starts)) x → (r : Bool) → r ≡ is_some found
+        → r ≡ known_in w starts n x
+    known_front x found e r is = is ∙ ap (λ (o : Option ℕ). is_some o) (e ∙ rw (length-take-le n starts s.long) (number_starts x n (omega arith)))
+
+pub ruleset nickname_known_laws = (rules, started_front, known_front)
 
 -- equal words hold equal stores
 pub stores_along : {w w' starts starts' : List ℕ} (l : List Settings) → w' ≡ w → starts' ≡ starts → Stores w starts l → Stores w' starts' l
@@ -279,9 +309,9 @@ module _ (w starts : List ℕ) where
 
 -- a switch found by its nickname is the latest that the words say
 module _ (w starts : List ℕ) (n x : ℕ) where
-  abbrev Lookup : Named → Option Settings → Type 0
-  Lookup Unknown o = o ≡ none
-  Lookup (At i) o = (i < n) × (o ≡ some (settings_at w starts i))
+  abbrev Lookup : Option ℕ → Option Settings → Type 0
+  Lookup None o = o ≡ None
+  Lookup (Some i) o = (i < n) × (o ≡ Some (settings_at w starts i))
 
   lookup_first : (m : ℕ) → m ≤ n → Lookup (number_in w starts m x) (switch_named (switches_in w starts m) x)
   unfolding number_in switch_named switches_in
@@ -293,22 +323,22 @@ module _ (w starts : List ℕ) (n x : ℕ) where
   lookup : Lookup (number_in w starts n x) (switch_named (switches_in w starts n) x)
   lookup = lookup_first n (omega arith)
 
-  lookup_known : (r : Named) (o : Option Settings) → Lookup r o → found_by r ≡ known o
-  lookup_known Unknown o t = rw t
-  lookup_known (At i) o t = rw t.1
+  lookup_known : (r : Option ℕ) (o : Option Settings) → Lookup r o → is_some r ≡ known o
+  lookup_known None o t = rw t
+  lookup_known (Some i) o t = rw t.1
 
-  module _ (found : Named) (is : found ≡ number_in w starts n x) where
-    pub named_none : found ≡ Unknown → switch_named (switches_in w starts n) x ≡ none
+  module _ (found : Option ℕ) (is : found ≡ number_in w starts n x) where
+    pub named_none : found ≡ None → switch_named (switches_in w starts n) x ≡ None
     named_none e = rw (← is, e) at lookup
 
-    pub named_some : (i : ℕ) → found ≡ At i → (i < n) × (switch_named (switches_in w starts n) x ≡ some (settings_at w starts i))
+    pub named_some : (i : ℕ) → found ≡ Some i → (i < n) × (switch_named (switches_in w starts n) x ≡ Some (settings_at w starts i))
     named_some i e = rw (← is, e) at lookup
 
 both_known : (o p : Option Settings) → Both o p → known o ≡ known p
-both_known none none b = refl
-both_known none (some T) b = absurd b
-both_known (some S) none b = absurd b
-both_known (some S) (some T) b = refl
+both_known None None b = refl
+both_known None (Some T) b = absurd b
+both_known (Some S) None b = absurd b
+both_known (Some S) (Some T) b = refl
 
 -- the first n
 module _ (w starts : List ℕ) (l : List Settings) (s : Stores w starts l) (n : ℕ) (count : length l ≡ n) where
@@ -318,7 +348,7 @@ module _ (w starts : List ℕ) (l : List Settings) (s : Stores w starts l) (n : 
   pub edition_same : some_edition2 l ≡ some_edition2 (switches_in w starts n)
   edition_same = rw (← count) (edition_alike w starts l s)
 
-  pub known_is : (x : ℕ) → found_by (number_in w starts n x) ≡ known (switch_named l x)
+  pub known_is : (x : ℕ) → is_some (number_in w starts n x) ≡ known (switch_named l x)
   known_is x =
       let named = switch_named (switches_in w starts n) x in
       lookup_known w starts n x (number_in w starts n x) named (lookup w starts n x) ∙ sym (both_known (switch_named l x) named (named_same x))

@@ -1,15 +1,14 @@
 -- The switches as the code holds them: stores one behind the other in a row of words, and where each starts.
-use Rattle.std.specs.Prelude.{ℕ, zero, suc, ◌+◌, ◌*◌, ◌/◌, ◌%◌, ◌≤◌, ◌<◌, ◌≡◌, List, [], ◌∷◌, ◌++◌, Bool, true, false, not, length, get_or, take, drop, leb, eqb, if◌then◌else◌}
-use Rattle.std.proofs.Math.Option.{Option, none}
+use Rattle.std.specs.Prelude.{ℕ, zero, suc, ◌+◌, ◌*◌, ◌/◌, ◌%◌, ◌≤◌, ◌<◌, ◌≡◌, List, [], ◌∷◌, ◌++◌, Bool, true, length, get_or, take, drop, leb, eqb, if◌then◌else◌, is_some, Option, Some, None, Result, Ok, Err}
 use Rattle.rules.specs.Fields.{field, length_good}
 use Rattle.rules.specs.Settings.{Settings, nickname_valid, ways_of}
 use Rattle.rules.specs.Campus.{Described, known, field_refusal, with_next, refused, accepted, described}
 use Rattle.stores.specs.Store.{nickname_in, count_in, hops_from, ways_in, store_good, Stands}
 use Rattle.stores.specs.Extend.{opens_in, with_switch, extending, extended}
 use Rattle.campus.specs.Places.{described_by}
-use Rattle.campus.specs.declared.switches.Named.{Named}
-use Rattle.campus.specs.declared.switches.Named.TheVariants.{At, Unknown}
-use Rattle.campus.specs.declared.reading.Reading.{Reading}
+use Rattle.rules.specs.declared.Refusal.{Refusal}
+use Rattle.rules.specs.Answer.{code_of}
+use Rattle.campus.specs.declared.refusals.Draft.{Draft}
 
 -- the words of switch i, and of those behind it
 abbrev pub store_at : List ℕ → List ℕ → ℕ → List ℕ
@@ -35,16 +34,12 @@ switches_in w starts zero = []
 switches_in w starts (suc n) = settings_at w starts n ∷ switches_in w starts n
 
 -- the latest of them that has a nickname
-unfoldable pub number_in : List ℕ → List ℕ → ℕ → ℕ → Named
-number_in w starts zero nickname = Unknown
-number_in w starts (suc n) nickname = if eqb (get_or w (get_or starts n 0) 0) nickname then At n else number_in w starts n nickname
-
-abbrev pub found_by : Named → Bool
-found_by Unknown = false
-found_by (At i) = true
+unfoldable pub number_in : List ℕ → List ℕ → ℕ → ℕ → Option ℕ
+number_in w starts zero nickname = None
+number_in w starts (suc n) nickname = if eqb (get_or w (get_or starts n 0) 0) nickname then Some n else number_in w starts n nickname
 
 abbrev pub known_in : List ℕ → List ℕ → ℕ → ℕ → Bool
-known_in w starts n nickname = found_by (number_in w starts n nickname)
+known_in w starts n nickname = is_some (number_in w starts n nickname)
 
 -- where the store of the latest of n switches ends
 unfoldable pub end_of : List ℕ → List ℕ → ℕ → ℕ
@@ -88,7 +83,7 @@ Stores w starts (S ∷ switches) = Store w starts switches S × Stores w starts 
 
 -- a description as far as it is read, before its entry field
 abbrev pub so_far : List Settings → Option (List ℕ) → Described
-so_far switches clock = record { switches = switches; clock = clock; entry = none; frame = [] }
+so_far switches clock = record { switches = switches; clock = clock; entry = None; frame = [] }
 
 -- the tag of a record, a strip flag or an edition, with a good length
 pub record OfSettings (tag size : ℕ) : Type 0 where
@@ -98,30 +93,39 @@ pub record OfSettings (tag size : ℕ) : Type 0 where
   pub no_entry : tag ≡ 5 → ⊥
 
 -- one more field: its code by the switches that the words stand for, and the words for these with it
-pub record Took (w starts : List ℕ) (n clock tag : ℕ) (v : List ℕ) (code : ℕ) (w' starts' : List ℕ) : Type 0 where
+pub record Took (w starts : List ℕ) (n : ℕ) (clock : Option ℕ) (tag : ℕ) (v : List ℕ) (code : ℕ) (w' starts' : List ℕ) : Type 0 where
   pub size : length w' ≡ length w
   pub starts_size : length starts' ≡ length starts
-  pub checked : (switches : List Settings) (c : Option (List ℕ)) → Stores w starts switches → length switches ≡ n → known c ≡ not (eqb clock 0)
+  pub checked : (switches : List Settings) (c : Option (List ℕ)) → Stores w starts switches → length switches ≡ n → known c ≡ is_some clock
       → code ≡ field_refusal (so_far switches c) (field tag v)
   pub stored : (switches : List Settings) (c : Option (List ℕ)) → Stores w starts switches → length switches ≡ n → code ≡ 0
       → Stores w' starts' (with_next (so_far switches c) (field tag v)).switches
+
+-- the same, of a description as far as it is read
+abbrev pub HasRoom : Draft → Type 0
+HasRoom d = Kept d.words.now d.starts d.count
+
+pub record Takes (d : Draft) (tag : ℕ) (v : List ℕ) (code : ℕ) (d' : Draft) : Type 0 where
+  pub took : Took d.words.now d.starts d.count d.clock tag v code d'.words.now d'.starts
+  pub count : d'.count ≡ d.count
+  pub clock : d'.clock ≡ d.clock
 
 -- words enough for a description: a field takes up at most 4 words for 11 octets, and 16 switches 2,112
 abbrev pub words_for : ℕ → ℕ
 words_for octets = if leb octets 5808 then 4 * octets / 11 + 6 else 2118
 
-pub record Accepts (s w starts : List ℕ) (n clock place : ℕ) : Type 0 where
+pub record Accepts (s w starts : List ℕ) (n : ℕ) (clock : Option ℕ) (place : ℕ) : Type 0 where
   pub switches : List Settings
   pub is : described s ≡ accepted (described_by s switches clock place)
   pub stores : Stores w starts switches
   pub count : length switches ≡ n
-  pub sixteen : length starts ≡ 16
+  pub few : n ≤ length starts
   pub span : span_of switches ≤ length w
   pub entry_in : place + 3 ≤ length s
 
-pub record ReadDone (s w starts : List ℕ) (r : Reading) : Type 0 where
-  pub refuses : (r.code ≡ 0 → ⊥) → refused r.code ≡ described s
-  pub accepts : r.code ≡ 0 → Accepts s w starts r.n r.clock r.place
+abbrev pub ReadDone : List ℕ → Draft → Result ℕ Refusal → Type 0
+ReadDone s d (Err r) = refused (code_of r) ≡ described s
+ReadDone s d (Ok entry) = Accepts s d.words.now d.starts d.count d.clock entry
 
 -- a switch whose store is good, and handles a frame as its settings do
 pub record SoundAt (w starts : List ℕ) (i : ℕ) : Type 0 where

@@ -11,7 +11,11 @@ mod switches;
 ghost use Rattle.std.specs.Prelude.{◌≤◌, length, ◌≡◌};
 ghost use Rattle.campus.specs.Stores.{words_for};
 ghost use Rattle.campus.specs.Steps.{needed_by};
-ghost use Rattle.campus.specs.Done.{CampusDone};
+ghost use Rattle.rules.specs.Answer.{code_by};
+ghost use Rattle.campus.specs.Done.{CampusDone, count_by};
+
+use refusals::Draft;
+use rules::Refusal;
 
 // Octets of the trace buffer: 80 entries for a campus of edition 1, 4,096 where a switch has edition 2.
 const TRACE_LEAST: usize = 640;
@@ -34,26 +38,50 @@ fn needed(two: bool) -> usize
 }
 
 // The run, with words lent for the stores of the switches: a field takes up at most 4 words for 11 octets.
-fn run_in(description: &[u8], words: &mut [u64], trace: &mut [u8]) -> Outcome
+fn run_in(description: &[u8], words: &mut [u64], trace: &mut [u8]) -> Result<u32, Refusal>
     requires { (words_for (length description.now) ≤ length words.old) × (640 ≤ length trace.old) }
-    ensures { CampusDone description.now trace.old trace.new result.code result.count }
+    ensures { CampusDone description.now trace.old trace.new (code_by result) (count_by result) }
 {
-    let mut starts = [0usize; 16];
-    let r = reading::read(description, words, &mut starts);
-    if r.code != 0 {
-        return Outcome {
-            code: r.code,
-            count: 0,
-        };
-    }
-    let two = switches::edition_2(words, &starts, r.n);
+    let mut draft = Draft {
+        words,
+        starts: [0; 16],
+        count: 0,
+        clock: None,
+    };
+    let entry = reading::read(description, &mut draft)?;
+    let switches = draft.switches();
+    let two = switches.has_edition_2();
     if trace.len() < needed(two) {
-        return Outcome { code: 49, count: 0 };
+        return Err(Refusal::TraceShort);
     }
-    let count = running::run(description, words, &starts, r, two, trace);
-    Outcome {
-        code: 0,
-        count: count,
+    let count = running::run(description, &switches, draft.clock, entry, two, trace);
+    Ok(count)
+}
+
+// The run, with N words of its own for the stores.
+fn run_with<const N: usize>(description: &[u8], trace: &mut [u8]) -> Result<u32, Refusal>
+    requires words { words_for (length description.now) ≤ N }
+    requires most { N ≤ 2118 }
+    requires room { 640 ≤ length trace.old }
+    ensures { CampusDone description.now trace.old trace.new (code_by result) (count_by result) }
+{
+    let mut words = [0u64; N];
+    run_in(description, &mut words, trace)
+}
+
+// The run, with as many words as the description may take.
+fn run_sized(description: &[u8], trace: &mut [u8]) -> Result<u32, Refusal>
+    ensures { CampusDone description.now trace.old trace.new (code_by result) (count_by result) }
+{
+    if trace.len() < TRACE_LEAST {
+        return Err(Refusal::TraceShort);
+    }
+    match description.len() {
+        0..=203 => run_with::<80>(description, trace),
+        204..=687 => run_with::<256>(description, trace),
+        688..=1391 => run_with::<512>(description, trace),
+        1392..=2799 => run_with::<1024>(description, trace),
+        _ => run_with::<2118>(description, trace),
     }
 }
 
@@ -61,25 +89,11 @@ fn run_in(description: &[u8], words: &mut [u64], trace: &mut [u8]) -> Outcome
 pub fn campus_run(description: &[u8], trace: &mut [u8]) -> Outcome
     ensures { CampusDone description.now trace.old trace.new result.code result.count }
 {
-    if trace.len() < TRACE_LEAST {
-        return Outcome { code: 49, count: 0 };
+    match run_sized(description, trace) {
+        Ok(count) => Outcome { code: 0, count },
+        Err(refusal) => Outcome {
+            code: refusal as u32,
+            count: 0,
+        },
     }
-    if description.len() <= 203 {
-        let mut few = [0u64; 80];
-        return run_in(description, &mut few, trace);
-    }
-    if description.len() <= 687 {
-        let mut few = [0u64; 256];
-        return run_in(description, &mut few, trace);
-    }
-    if description.len() <= 1391 {
-        let mut some = [0u64; 512];
-        return run_in(description, &mut some, trace);
-    }
-    if description.len() <= 2799 {
-        let mut some = [0u64; 1024];
-        return run_in(description, &mut some, trace);
-    }
-    let mut words = [0u64; 2118];
-    run_in(description, &mut words, trace)
 }

@@ -1,108 +1,74 @@
-// The description's fields, read once, each switch into its store: the code that refuses it, or what the run needs.
+// The description's fields, read once, each switch into its store: the refusal, or what the run needs.
 ghost use Rattle.std.specs.Prelude.{◌≡◌, ◌+◌, ◌≤◌, ◌<◌, length};
+ghost use Rattle.rules.specs.Answer.{code_by};
 ghost use Rattle.campus.specs.Places.{code_after, clocked_by, counted_by};
 ghost use Rattle.campus.specs.Stores.{words_for, ReadDone};
 
 use crate::refusals;
-use rules::FieldRead;
+use crate::refusals::Draft;
+use rules::{FieldRead, Refusal};
 
 // Octets of a description.
 const FILE_MOST: usize = 32768;
 
-// 0 with the number of switches, the place of the clock or 0, and the place of the entry field; or the code that refuses.
-#[derive(Clone, Copy)]
-pub struct Reading {
-    pub code: u32,
-    pub n: usize,
-    pub clock: usize,
-    pub place: usize,
-}
-
-fn refused(code: u32) -> Reading
-    ensures { result ≡ record { code = code; n = 0; clock = 0; place = 0 } }
-{
-    Reading {
-        code: code,
-        n: 0,
-        clock: 0,
-        place: 0,
-    }
-}
-
-// The code for what stands behind the entry field, 0 for nothing.
-fn code_after(s: &[u8], at: usize) -> u32
-    ensures { result ≡ code_after s.now at }
+// Nothing stands behind the entry field, or what is there refuses the description.
+#[tactic(auto, unfolding(crate::specs::Places::code_after))]
+fn end_at(s: &[u8], at: usize) -> Result<(), Refusal>
+    ensures { code_by result ≡ code_after s.now at }
 {
     if s.len() <= at {
-        return 0;
+        return Ok(());
     }
-    let FieldRead::Taken { tag, length, .. } = octets::field_at(s, at) else {
-        return 41;
+    let Some(FieldRead { tag, length, .. }) = octets::field_at(s, at) else {
+        return Err(Refusal::FieldCut);
     };
     if !refusals::length_good(tag, length) {
-        return 42;
+        return Err(Refusal::BadLength);
     }
-    43
-}
-
-// What the run needs once the entry field is read, if nothing stands behind it.
-fn entered(s: &[u8], n: usize, clock: usize, at: usize, next: usize) -> Reading
-    ensures { result ≡ record { code = code_after s.now next; n = n; clock = clock; place = at } }
-{
-    Reading {
-        code: code_after(s, next),
-        n: n,
-        clock: clock,
-        place: at,
-    }
+    Err(Refusal::OutOfPlace)
 }
 
 // The place of the clock once the field at a place is read.
-fn clocked(clock: usize, tag: u8, at: usize, next: usize) -> usize
+#[tactic(auto, unfolding(crate::specs::Places::clocked_by))]
+fn clocked(clock: Option<usize>, tag: u8, at: usize, next: usize) -> Option<usize>
     requires { at + 3 ≤ next }
     ensures { result ≡ clocked_by clock tag at }
 {
-    if tag != 4 {
-        return clock;
-    }
-    at + 3
+    if tag == 4 { Some(at + 3) } else { clock }
 }
 
 // The number of switches once a field is read.
-fn counted(n: usize, tag: u8) -> usize
-    requires { n ≤ 16 }
-    ensures { result ≡ counted_by n tag }
+#[tactic(auto, unfolding(crate::specs::Places::counted_by))]
+fn counted(count: usize, tag: u8) -> usize
+    requires { count ≤ 16 }
+    ensures { result ≡ counted_by count tag }
 {
-    if tag != 1 {
-        return n;
-    }
-    n + 1
+    if tag == 1 { count + 1 } else { count }
 }
 
-pub fn read(s: &[u8], w: &mut [u64], starts: &mut [usize]) -> Reading
-    requires { (length starts.old ≡ 16) × (words_for (length s.now) ≤ length w.old) }
-    ensures { ReadDone s.now w.new starts.new result }
+// Reads a description; the place of its entry field, if it is accepted.
+pub fn read(s: &[u8], draft: &mut Draft) -> Result<usize, Refusal>
+    requires words { words_for (length s.now) ≤ length draft.old.words.now }
+    requires count { draft.old.count ≡ 0 }
+    requires clock { draft.old.clock ≡ None }
+    ensures { ReadDone s.now draft.new result }
 {
     if FILE_MOST < s.len() {
-        return refused(40);
+        return Err(Refusal::FileLong);
     }
-    let mut n = 0;
-    let mut clock = 0;
     let mut at = 0;
     while at < s.len() {
-        let FieldRead::Taken { tag, next, .. } = octets::field_at(s, at) else {
-            return refused(41);
+        let Some(FieldRead { tag, next, .. }) = octets::field_at(s, at) else {
+            return Err(Refusal::FieldCut);
         };
-        let code = refusals::take(w, starts, n, clock, tag, &s[at + 3..next]);
-        if code != 0 {
-            return refused(code);
-        }
+        draft.take(tag, &s[at + 3..next])?;
         if tag == 5 {
-            return entered(s, n, clock, at, next);
+            end_at(s, next)?;
+            return Ok(at);
         }
-        clock = clocked(clock, tag, at, next);
-        n = counted(n, tag);
+        draft.clock = clocked(draft.clock, tag, at, next);
+        draft.count = counted(draft.count, tag);
         at = next;
     }
-    refused(43)
+    Err(Refusal::OutOfPlace)
 }

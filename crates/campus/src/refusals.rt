@@ -1,120 +1,134 @@
 // The tests of one field of a description, 42 to 48 in their order; a field that passes is taken into the store of its switch.
-ghost use Rattle.std.specs.Prelude.{◌≡◌, true, ◌<◌, length};
+ghost use Rattle.std.specs.Prelude.{◌≡◌, true, ◌<◌, ◌≤◌, length, take, Option};
 ghost use Rattle.rules.specs.Octets as O;
 ghost use Rattle.rules.specs.Fields as F;
-ghost use Rattle.campus.specs.Stores.{known_in, Started, Kept, OfSettings, Took};
+ghost use Rattle.rules.specs.Answer.{code_by};
+ghost use Rattle.campus.specs.Stores.{known_in, end_of, Started, HasRoom, OfSettings, Takes};
 ghost use Rattle.campus.specs.Places.{order_by};
 
 use crate::switches;
-use crate::switches::Named;
+use crate::switches::Switches;
+use rules::Refusal;
 
+#[tactic(auto, unfolding(rules::specs::Fields::length_good))]
 pub fn length_good(tag: u8, size: usize) -> bool
     ensures { result ≡ F.length_good tag size }
 {
-    if tag == 1 {
-        return size == 8;
+    match tag {
+        1 => size == 8,
+        2 => octets::hop_size(size),
+        3 | 6 => size == 1,
+        4 => size == 6,
+        5 => 2 <= size && size <= 2050,
+        _ => false,
     }
-    if tag == 2 {
-        return octets::hop_size(size);
-    }
-    if tag == 3 {
-        return size == 1;
-    }
-    if tag == 4 {
-        return size == 6;
-    }
-    if tag == 6 {
-        return size == 1;
-    }
-    if tag != 5 {
-        return false;
-    }
-    if size < 2 {
-        return false;
-    }
-    size <= 2050
 }
 
-fn order_good(n: usize, clock: usize, tag: u8) -> bool
+#[tactic(auto, unfolding(crate::specs::Places::order_by))]
+fn order_good(n: usize, clock: Option<usize>, tag: u8) -> bool
     ensures { result ≡ order_by n clock tag }
 {
-    if tag == 2 {
-        return n != 0;
+    match tag {
+        2 | 3 | 6 => n != 0,
+        4 => clock.is_none(),
+        _ => true,
     }
-    if tag == 3 {
-        return n != 0;
-    }
-    if tag == 6 {
-        return n != 0;
-    }
-    if tag == 4 {
-        return clock == 0;
-    }
-    true
 }
 
-// Whether one of the first n switches has the nickname at the start of `v`.
-fn nickname_known(w: &[u64], starts: &[usize], n: usize, v: &[u8]) -> bool
-    requires { Started w.now starts.now n }
-    ensures { result ≡ known_in w.now starts.now n (O.be16 v.now 0) }
-{
-    let Named::At(_) = switches::find(w, starts, n, octets::be16(v, 0)) else {
-        return false;
-    };
-    true
+// A description as far as it is read: the stores of its switches, one behind the other in a row of words, where each starts, how many they are, and the
+// place of the clock, if there is one.
+#[derive(Drop)]
+pub struct Draft<'a> {
+    pub words: &'a mut [u64],
+    pub starts: [usize; 16],
+    pub count: usize,
+    pub clock: Option<usize>,
 }
 
-// Tag 1. The words behind the last store are free, so that a switch refused for its nickname may stand there.
-fn open(w: &mut [u64], starts: &mut [usize], n: usize, clock: usize, v: &[u8]) -> u32
-    requires { Kept w.old starts.old n × (F.length_good 1 (length v.now) ≡ true) }
-    ensures { Took w.old starts.old n clock 1 v.now result w.new starts.new }
-{
-    let known = nickname_known(w, starts, n, v);
-    let end = switches::end_of(w, starts, n);
-    if !switches::open(w, end, v) {
-        return 44;
-    }
-    if known {
-        return 45;
-    }
-    if n == 16 {
-        return 46;
-    }
-    starts[n] = end;
-    0
-}
-
-// Tags 2, 3 and 6, of the latest switch.
-fn extend(w: &mut [u64], starts: &[usize], n: usize, clock: usize, tag: u8, v: &[u8]) -> u32
-    requires { Kept w.old starts.now n × (0 < n) × OfSettings tag (length v.now) }
-    ensures { Took w.old starts.now n clock tag v.now result w.new starts.now }
-{
-    let at = starts[n - 1];
-    switches::extend(w, at, tag, v)
-}
-
-// 42 to 48, or 0.
-pub fn take(w: &mut [u64], starts: &mut [usize], n: usize, clock: usize, tag: u8, v: &[u8]) -> u32
-    requires { Kept w.old starts.old n }
-    ensures { Took w.old starts.old n clock tag v.now result w.new starts.new }
-{
-    if !length_good(tag, v.len()) {
-        return 42;
-    }
-    if !order_good(n, clock, tag) {
-        return 43;
-    }
-    if tag == 1 {
-        return open(w, starts, n, clock, v);
-    }
-    if tag == 4 {
-        return 0;
-    }
-    if tag == 5 {
-        if !nickname_known(w, starts, n, v) {
-            return 48;
+impl Draft<'_> {
+    // The switches so far.
+    pub fn switches(&self) -> Switches<'_>
+        requires { self.now.count ≤ 16 }
+        ensures words { result.words.now ≡ self.now.words.now }
+        ensures starts { result.starts.now ≡ take self.now.count self.now.starts }
+    {
+        Switches {
+            words: self.words,
+            starts: &self.starts[..self.count],
         }
-        return 0;
     }
-    extend(w, starts, n, clock, tag, v)
+
+    // Whether one of the switches has the nickname at the start of `v`.
+    fn nickname_known(&self, v: &[u8]) -> bool
+        requires { Started self.now.words.now self.now.starts self.now.count }
+        ensures { result ≡ known_in self.now.words.now self.now.starts self.now.count (O.be16 v.now 0) }
+    {
+        self.switches().find(octets::be16(v, 0)).is_some()
+    }
+
+    // Where the store of the latest switch ends.
+    fn end(&self) -> usize
+        requires { HasRoom self.now }
+        ensures { result ≡ end_of self.now.words.now self.now.starts self.now.count }
+    {
+        if self.count == 0 {
+            return 0;
+        }
+        let last = self.starts[self.count - 1];
+        last + 4 + 2 * self.words[last + 3] as usize
+    }
+
+    // Tag 1. The words behind the last store are free, so that a switch refused for its nickname may stand there.
+    fn open(&mut self, v: &[u8]) -> Result<(), Refusal>
+        requires { HasRoom self.old × (F.length_good 1 (length v.now) ≡ true) }
+        ensures { Takes self.old 1 v.now (code_by result) self.new }
+    {
+        let known = self.nickname_known(v);
+        let end = self.end();
+        if !switches::open(self.words, end, v) {
+            return Err(Refusal::BadValue);
+        }
+        if known {
+            return Err(Refusal::NicknameMet);
+        }
+        if self.count == 16 {
+            return Err(Refusal::TooMany);
+        }
+        self.starts[self.count] = end;
+        Ok(())
+    }
+
+    // Tags 2, 3 and 6, of the latest switch.
+    fn extend(&mut self, tag: u8, v: &[u8]) -> Result<(), Refusal>
+        requires { HasRoom self.old × (0 < self.old.count) × OfSettings tag (length v.now) }
+        ensures { Takes self.old tag v.now (code_by result) self.new }
+    {
+        let at = self.starts[self.count - 1];
+        switches::extend(self.words, at, tag, v)
+    }
+
+    // 42 to 48, if it is refused.
+    pub fn take(&mut self, tag: u8, v: &[u8]) -> Result<(), Refusal>
+        requires { HasRoom self.old }
+        ensures { Takes self.old tag v.now (code_by result) self.new }
+    {
+        if !length_good(tag, v.len()) {
+            return Err(Refusal::BadLength);
+        }
+        if !order_good(self.count, self.clock, tag) {
+            return Err(Refusal::OutOfPlace);
+        }
+        match tag {
+            1 => self.open(v),
+            4 => Ok(()),
+            5 => {
+                if self.nickname_known(v) {
+                    Ok(())
+                } else {
+                    Err(Refusal::EntryUnknown)
+                }
+            }
+            _ => self.extend(tag, v),
+        }
+    }
 }

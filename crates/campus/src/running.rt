@@ -4,15 +4,18 @@ ghost use Rattle.rules.specs.Octets.{put};
 ghost use Rattle.rules.specs.Campus.{kind_octet, first_waiting, writes_reply, some_edition2};
 ghost use Rattle.handler.specs.Tasks.{Both};
 ghost use Rattle.campus.specs.Places as P;
-ghost use Rattle.campus.specs.Stores.{settings_at, switches_in, Sound, SoundAt};
-ghost use Rattle.campus.specs.Steps.{kind_by, entry_by, handled_by, state_at, AnsweredBy, StepReady, Stepped, RunReady, EntryReady, Ran, run_of, states_of};
+ghost use Rattle.campus.specs.Switches.{switch_at, all_of, IsSoundAt, IsSound};
+ghost use Rattle.campus.specs.Steps.{kind_by, entry_by, handled_by, state_at, StepReady, Stepped, RunReady, EntryReady, Ran, run_of, states_of};
 ghost use Rattle.campus.specs.Queue.{sent_to, slot_octets, Free, Queue, Waits, Leads, waiting_by, replies_by, onward_by, WaitReady, NextReady};
 ghost use Rattle.campus.specs.Queue.{OnwardReady, Onwarded, TurnReady, Turned, LoopReady, Begun};
 
-use crate::reading::Reading;
-use crate::switches::Named;
-use crate::{received, switches};
+use crate::received;
+use crate::switches::Switches;
 use handler::Answer;
+use rules::Number;
+
+// No run has more handlings.
+const HANDLINGS_MOST: usize = 4096;
 
 // What is handled next: at which switch, whether it is a reply, and how long it is; and the slots of the replies that wait, from head to tail.
 #[derive(Clone, Copy)]
@@ -24,23 +27,20 @@ struct At {
     tail: usize,
 }
 
-#[derive(Clone, Copy)]
-enum Onward {
-    To(At),
-    Ends,
+// The frame that is handled, what its handling writes, and the reply that it makes beside that. Lent: an array in a struct is made octet by octet.
+#[derive(Drop)]
+struct Frames<'a> {
+    current: &'a mut [u8; 2048],
+    out: &'a mut [u8; 2048],
+    beside: &'a mut [u8; 576],
 }
 
 // The octets from place to place, or none where these are out of order or past the end.
+#[tactic(auto, unfolding(crate::specs::Places::between))]
 fn between(s: &[u8], start: usize, end: usize) -> &[u8]
     ensures { result.now ≡ P.between s.now start end }
 {
-    if end < start {
-        return &s[..0];
-    }
-    if s.len() < end {
-        return &s[..0];
-    }
-    &s[start..end]
+    s.get(start..end).unwrap_or(&s[..0])
 }
 
 // The first octets.
@@ -51,31 +51,30 @@ fn front(s: &[u8], size: usize) -> &[u8]
     &s[..size]
 }
 
-// The clock's octets; place 0 is no clock.
-fn clock_of(s: &[u8], clock: usize) -> [u8; 6]
+// The clock's octets, 0 where there is no clock.
+fn clock_of(s: &[u8], clock: Option<usize>) -> [u8; 6]
     requires { length (P.clock_from s.now clock) ≡ 6 }
     ensures { result ≡ P.clock_from s.now clock }
 {
-    if clock == 0 {
-        return [0, 0, 0, 0, 0, 0];
-    }
     let mut c = [0u8; 6];
-    octets::copy(&mut c, 0, &s[clock..clock + 6]);
+    if let Some(place) = clock {
+        c.copy_from_slice(&s[place..place + 6]);
+    }
     c
 }
 
 fn kind_octet(replied: bool) -> u8
     ensures { result ≡ kind_octet (kind_by replied) }
 {
-    if replied { 1 } else { 0 }
+    u8::from(replied)
 }
 
 // Writes the entry of one handling.
 fn put_entry(trace: &mut [u8], at: usize, nickname: u16, replied: bool, number: u16, f: &[u8])
-    requires { (at + 8 ≤ length trace.old) × (number < 64) × AnsweredBy f.now number }
+    requires { (at + 8 ≤ length trace.old) × (number < 64) }
     ensures { trace.new ≡ put trace.old at (entry_by nickname (kind_by replied) number f.now) }
 {
-    let h = received::received(f, number);
+    let h = received::received(f);
     let e = [
         octets::high(nickname),
         octets::low(nickname),
@@ -89,19 +88,9 @@ fn put_entry(trace: &mut [u8], at: usize, nickname: u16, replied: bool, number: 
     octets::copy(trace, at, &e);
 }
 
-// The nickname of a switch.
-fn nickname_of(w: &[u64], starts: &[usize], i: usize) -> u16
-    requires { SoundAt w.now starts.now i }
-    ensures { result ≡ (settings_at w.now starts.now i).nickname }
-{
-    let at = starts[i];
-    w[at] as u16
-}
-
 // Entry k of the trace: a frame that switch i has handled.
 fn enter(
-    w: &[u64],
-    starts: &[usize],
+    switches: &Switches,
     i: usize,
     replied: bool,
     number: u16,
@@ -109,51 +98,46 @@ fn enter(
     trace: &mut [u8],
     k: usize,
 )
-    requires { SoundAt w.now starts.now i × (k * 8 + 8 ≤ length trace.old) × (k < 4096) × (number < 64) × AnsweredBy frame.now number }
+    requires { IsSoundAt switches.now i × (k * 8 + 8 ≤ length trace.old) × (k < 4096) × (number < 64) }
     ensures { trace.new ≡ put trace.old (k * 8)
-        (entry_by (settings_at w.now starts.now i).nickname (kind_by replied) number frame.now) }
+        (entry_by (switch_at switches.now i).nickname (kind_by replied) number frame.now) }
 {
-    let nickname = nickname_of(w, starts, i);
+    let nickname = switches.nickname_of(i);
     put_entry(trace, k * 8, nickname, replied, number, frame);
 }
 
 // The handling of a frame by a switch.
 fn handled(
-    w: &[u64],
-    starts: &[usize],
+    switches: &Switches,
     i: usize,
     clock: &[u8; 6],
     frame: &[u8],
     out: &mut [u8; 2048],
     beside: &mut [u8; 576],
 ) -> Answer
-    requires { SoundAt w.now starts.now i }
-    ensures { Both (handled_by (settings_at w.now starts.now i) clock.now 2048 576 frame.now) result
+    requires { IsSoundAt switches.now i }
+    ensures { Both (handled_by (switch_at switches.now i) clock.now 2048 576 frame.now) result
         out.old out.new beside.old beside.new }
 {
-    let at = starts[i];
-    handler::handle_prepared(frame, &w[at..], clock, out, beside)
+    handler::handle_prepared(frame, switches.store_of(i), clock, out, beside)
 }
 
-// One handling: the switch handles the frame in `cur`, writes to `out` and `beside`; entry k is put into the trace.
+// One handling: the switch handles the frame, writes what comes of it; entry k is put into the trace.
 fn step(
-    w: &[u64],
-    starts: &[usize],
+    switches: &Switches,
     clock: &[u8; 6],
     at: At,
-    cur: &[u8; 2048],
-    out: &mut [u8; 2048],
-    beside: &mut [u8; 576],
+    frames: &mut Frames,
     trace: &mut [u8],
     k: usize,
 ) -> Answer
-    requires { StepReady w.now starts.now clock.now at trace.old k }
-    ensures { Stepped k (state_at w.now starts.now clock.now at cur.now k)
-        out.old out.new beside.old beside.new trace.old trace.new result }
+    requires { StepReady switches.now clock.now at trace.old k }
+    ensures { Stepped k (state_at switches.now clock.now at frames.old.current.now k)
+        frames.old.out.now frames.new.out.now frames.old.beside.now frames.new.beside.now trace.old trace.new result }
 {
-    let frame = front(cur, at.size);
-    let a = handled(w, starts, at.switch, clock, frame, out, beside);
-    enter(w, starts, at.switch, at.replied, a.number, frame, trace, k);
+    let frame = front(frames.current, at.size);
+    let a = handled(switches, at.switch, clock, frame, frames.out, frames.beside);
+    enter(switches, at.switch, at.replied, a.number, frame, trace, k);
     a
 }
 
@@ -173,19 +157,17 @@ fn put_slot(waiting: &mut [u8], h: usize, i: usize, f: &[u8])
 
 // A reply to a switch of the campus waits in the slot behind the last; any other has left. Answers where the slots end then.
 fn put_waiting(
-    w: &[u64],
-    starts: &[usize; 16],
-    n: usize,
+    switches: &Switches,
     towards: u16,
     f: &[u8],
     waiting: &mut [u8],
     tail: usize,
 ) -> usize
-    requires { Sound w.now starts.now n × Free waiting.old tail × (length f.now ≤ 576) }
-    ensures { Waits w.now starts.now n waiting.old waiting.new tail result
+    requires { IsSound switches.now × Free waiting.old tail × (length f.now ≤ 576) }
+    ensures { Waits switches.now waiting.old waiting.new tail result
         (waiting_by towards f.now ∷ []) }
 {
-    let Named::At(i) = switches::find(w, starts, n, towards) else {
+    let Some(i) = switches.find(towards) else {
         return tail;
     };
     put_slot(waiting, tail, i, f);
@@ -196,83 +178,64 @@ fn put_waiting(
 fn writes_reply(number: u16) -> bool
     ensures { result ≡ writes_reply number }
 {
-    if number == 53 {
-        return true;
-    }
-    number == 54
+    number == Number::ErrorReply as u16 || number == Number::EchoReply as u16
 }
 
 // The reply that a handling made, if any: in `out` where that is one, else in `beside`.
-fn wait(
-    w: &[u64],
-    starts: &[usize; 16],
-    n: usize,
-    a: Answer,
-    out: &[u8; 2048],
-    beside: &[u8; 576],
-    waiting: &mut [u8],
-    tail: usize,
-) -> usize
-    requires { WaitReady w.now starts.now n a out.now beside.now waiting.old tail }
-    ensures { Waits w.now starts.now n waiting.old waiting.new tail result
-        (replies_by a out.now beside.now) }
+fn wait(switches: &Switches, a: Answer, frames: &Frames, waiting: &mut [u8], tail: usize) -> usize
+    requires { WaitReady switches.now a frames.now.out.now frames.now.beside.now waiting.old tail }
+    ensures { Waits switches.now waiting.old waiting.new tail result
+        (replies_by a frames.now.out.now frames.now.beside.now) }
 {
     if writes_reply(a.number) {
-        let f = front(out, a.written as usize);
-        return put_waiting(w, starts, n, a.neighbour, f, waiting, tail);
+        let f = front(frames.out, a.written as usize);
+        return put_waiting(switches, a.neighbour, f, waiting, tail);
     }
     if a.beside == 0 {
         return tail;
     }
-    let f = front(beside, a.beside as usize);
-    put_waiting(w, starts, n, a.beside_neighbour, f, waiting, tail)
-}
-
-fn wide(n: u8) -> usize
-    ensures { result ≡ n }
-{
-    n as usize
+    let f = front(frames.beside, a.beside as usize);
+    put_waiting(switches, a.beside_neighbour, f, waiting, tail)
 }
 
 // The reply that has waited longest, or nothing.
 fn first_waiting(
-    w: &[u64],
-    starts: &[usize; 16],
-    n: usize,
+    switches: &Switches,
     waiting: &[u8],
     head: usize,
     tail: usize,
     cur: &mut [u8; 2048],
-) -> Onward
-    requires { Queue w.now starts.now n waiting.now head tail }
-    ensures { Leads w.now starts.now n waiting.now head tail cur.new result first_waiting }
+) -> Option<At>
+    requires { Queue switches.now waiting.now head tail }
+    ensures { Leads switches.now waiting.now head tail cur.new result first_waiting }
 {
     if head == tail {
-        return Onward::Ends;
+        return None;
     }
     let from = head * 579;
     let slot = &waiting[from..];
-    let i = wide(slot[0]);
-    let size = octets::be16(slot, 1) as usize;
+    let i = usize::from(slot[0]);
+    let size = usize::from(octets::be16(slot, 1));
     octets::copy(cur, 0, &slot[3..3 + size]);
-    Onward::To(At {
+    Some(At {
         switch: i,
         replied: true,
-        size: size,
+        size,
         head: head + 1,
-        tail: tail,
+        tail,
     })
 }
 
 // Where a frame that is forwarded goes, if that is a switch of the campus.
-fn sent_to(w: &[u64], starts: &[usize], n: usize, a: Answer) -> Named
-    requires { Sound w.now starts.now n }
-    ensures { result ≡ sent_to w.now starts.now n a }
+#[tactic(auto, unfolding(crate::specs::Queue::sent_to))]
+fn sent_to(switches: &Switches, a: Answer) -> Option<usize>
+    requires { IsSound switches.now }
+    ensures { result ≡ sent_to switches.now a }
 {
-    if a.number != 50 {
-        return Named::Unknown;
+    if a.number != Number::Forwarded as u16 {
+        return None;
     }
-    switches::find(w, starts, n, a.neighbour)
+    switches.find(a.neighbour)
 }
 
 // A forwarded frame in its place for the next handling. Its first eight octets by themselves: so the Ethertype and the TRILL header, which that
@@ -287,74 +250,63 @@ fn copy_back(cur: &mut [u8; 2048], f: &[u8])
 
 // The frame that was forwarded, if it stays in the campus; else the reply that has waited longest.
 fn next_of(
-    w: &[u64],
-    starts: &[usize; 16],
-    n: usize,
+    switches: &Switches,
     a: Answer,
     at: At,
     tail: usize,
-    out: &[u8; 2048],
     waiting: &[u8],
-    cur: &mut [u8; 2048],
-) -> Onward
-    requires { NextReady w.now starts.now n a waiting.now at.head tail }
-    ensures { Leads w.now starts.now n waiting.now at.head tail cur.new result
-        (onward_by (switches_in w.now starts.now n) (kind_by at.replied) a out.now) }
+    frames: &mut Frames,
+) -> Option<At>
+    requires { NextReady switches.now a waiting.now at.head tail }
+    ensures { Leads switches.now waiting.now at.head tail frames.new.current.now result
+        (onward_by (all_of switches.now) (kind_by at.replied) a frames.old.out.now) }
 {
-    let Named::At(i) = sent_to(w, starts, n, a) else {
-        return first_waiting(w, starts, n, waiting, at.head, tail, cur);
+    let Some(i) = sent_to(switches, a) else {
+        return first_waiting(switches, waiting, at.head, tail, frames.current);
     };
     let size = a.written as usize;
-    copy_back(cur, front(out, size));
-    Onward::To(At {
+    copy_back(frames.current, front(frames.out, size));
+    Some(At {
         switch: i,
         replied: at.replied,
-        size: size,
+        size,
         head: at.head,
-        tail: tail,
+        tail,
     })
 }
 
 // What is next, once the reply that a handling made waits.
 fn go_on(
-    w: &[u64],
-    starts: &[usize; 16],
-    n: usize,
+    switches: &Switches,
     a: Answer,
     at: At,
-    out: &[u8; 2048],
-    beside: &[u8; 576],
+    frames: &mut Frames,
     waiting: &mut [u8],
-    cur: &mut [u8; 2048],
-) -> Onward
-    requires { OnwardReady w.now starts.now n a at out.now beside.now waiting.old }
-    ensures { Onwarded w.now starts.now n a at out.now beside.now
-        waiting.old waiting.new cur.new result }
+) -> Option<At>
+    requires { OnwardReady switches.now a at frames.old.out.now frames.old.beside.now waiting.old }
+    ensures { Onwarded switches.now a at frames.old.out.now frames.old.beside.now
+        waiting.old waiting.new frames.new.current.now result }
 {
-    let tail = wait(w, starts, n, a, out, beside, waiting, at.tail);
-    next_of(w, starts, n, a, at, tail, out, waiting, cur)
+    let tail = wait(switches, a, frames, waiting, at.tail);
+    next_of(switches, a, at, tail, waiting, frames)
 }
 
 // One handling, with its entry and its replies, and what is next.
 fn turn(
-    w: &[u64],
-    starts: &[usize; 16],
-    n: usize,
+    switches: &Switches,
     clock: &[u8; 6],
     at: At,
-    cur: &mut [u8; 2048],
-    out: &mut [u8; 2048],
-    beside: &mut [u8; 576],
+    frames: &mut Frames,
     waiting: &mut [u8],
     trace: &mut [u8],
     k: usize,
-) -> Onward
-    requires { TurnReady w.now starts.now n clock.now at cur.old waiting.old trace.old k }
-    ensures { Turned w.now starts.now n clock.now at cur.old cur.new
+) -> Option<At>
+    requires { TurnReady switches.now clock.now at frames.old.current.now waiting.old trace.old k }
+    ensures { Turned switches.now clock.now at frames.old.current.now frames.new.current.now
         waiting.old waiting.new trace.old trace.new k result }
 {
-    let a = step(w, starts, clock, at, cur, out, beside, trace, k);
-    go_on(w, starts, n, a, at, out, beside, waiting, cur)
+    let a = step(switches, clock, at, frames, trace, k);
+    go_on(switches, a, at, frames, waiting)
 }
 
 // The frame that enters, where it is handled first.
@@ -374,88 +326,77 @@ fn begin(cur: &mut [u8; 2048], first: usize, frame: &[u8]) -> At
 
 // The run from one switch on, at most 4,096 handlings; slots of 579 octets are lent for the replies that wait.
 fn run_from(
-    w: &[u64],
-    starts: &[usize; 16],
-    n: usize,
+    switches: &Switches,
     first: usize,
     clock: &[u8; 6],
     frame: &[u8],
     waiting: &mut [u8],
     trace: &mut [u8],
 ) -> u32
-    requires { LoopReady w.now starts.now n first clock.now frame.now waiting.old trace.old }
-    ensures { Ran (run_of w.now starts.now n first clock.now frame.now)
+    requires { LoopReady switches.now first clock.now frame.now waiting.old trace.old }
+    ensures { Ran (run_of switches.now first clock.now frame.now)
         trace.old trace.new result }
 {
-    let mut cur = [0u8; 2048];
+    let mut current = [0u8; 2048];
     let mut out = [0u8; 2048];
     let mut beside = [0u8; 576];
-    let mut at = begin(&mut cur, first, frame);
-    let mut k = 0;
-    while k < 4096 {
-        let r = turn(
-            w,
-            starts,
-            n,
-            clock,
-            at,
-            &mut cur,
-            &mut out,
-            &mut beside,
-            waiting,
-            trace,
-            k,
-        );
-        k += 1;
-        let Onward::To(next) = r else {
-            return k as u32;
+    let mut at = begin(&mut current, first, frame);
+    let mut frames = Frames {
+        current: &mut current,
+        out: &mut out,
+        beside: &mut beside,
+    };
+    for k in 0..HANDLINGS_MOST {
+        let r = turn(switches, clock, at, &mut frames, waiting, trace, k);
+        let Some(next) = r else {
+            return k as u32 + 1;
         };
         at = next;
     }
-    k as u32
+    HANDLINGS_MOST as u32
 }
 
 // In a campus without an edition 2 switch one reply arises at most, in any 63.
 fn run_at(
     s: &[u8],
-    w: &[u64],
-    starts: &[usize; 16],
-    read: Reading,
+    switches: &Switches,
+    clock: Option<usize>,
+    entry: usize,
     two: bool,
     first: usize,
     v: &[u8],
     trace: &mut [u8],
 ) -> u32
-    requires { EntryReady s.now w.now starts.now read.n read.clock read.place first v.now trace.old
-        × (two ≡ some_edition2 (switches_in w.now starts.now read.n)) }
+    requires { EntryReady s.now switches.now clock entry first v.now trace.old
+        × (two ≡ some_edition2 (all_of switches.now)) }
     ensures { Ran (states_of s.now) trace.old trace.new result }
 {
-    let clock = clock_of(s, read.clock);
+    let octets = clock_of(s, clock);
     let frame = between(v, 2, v.len());
     if two {
         let mut slots = [0u8; 36477];
-        return run_from(w, starts, read.n, first, &clock, frame, &mut slots, trace);
+        return run_from(switches, first, &octets, frame, &mut slots, trace);
     }
     let mut slot = [0u8; 579];
-    run_from(w, starts, read.n, first, &clock, frame, &mut slot, trace)
+    run_from(switches, first, &octets, frame, &mut slot, trace)
 }
 
 // The run of what was read.
 pub fn run(
     s: &[u8],
-    w: &[u64],
-    starts: &[usize; 16],
-    read: Reading,
+    switches: &Switches,
+    clock: Option<usize>,
+    entry: usize,
     two: bool,
     trace: &mut [u8],
 ) -> u32
-    requires { RunReady s.now w.now starts.now read.n read.clock read.place trace.old
-        × (two ≡ some_edition2 (switches_in w.now starts.now read.n)) }
+    requires { RunReady s.now switches.now clock entry trace.old
+        × (two ≡ some_edition2 (all_of switches.now)) }
     ensures { Ran (states_of s.now) trace.old trace.new result }
 {
-    let v = between(s, read.place + 3, s.len());
-    let Named::At(i) = switches::find(w, starts, read.n, octets::be16(v, 0)) else {
+    let v = between(s, entry + 3, s.len());
+    let Some(i) = switches.find(octets::be16(v, 0)) else {
         return 0;
     };
-    run_at(s, w, starts, read, two, i, v, trace)
+    run_at(s, switches, clock, entry, two, i, v, trace)
 }

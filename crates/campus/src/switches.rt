@@ -1,42 +1,61 @@
-// The switches of a description: a store for each, one behind the other in one row of words. `starts` says where each begins; what stands behind a
-// store is read as its hints, which any words may be.
+// The switches of a description: a store for each, one behind the other in one row of words; what stands behind a store is read as its hints, which
+// any words may be.
 ghost use Rattle.std.specs.Prelude.{◌≡◌, ◌+◌, ◌≤◌, ◌<◌, length};
 ghost use Rattle.rules.specs.Campus.{some_edition2};
-ghost use Rattle.campus.specs.Stores.{switches_in, number_in, end_of, Started, Sound, Kept, PartOpens, PartExtends};
+ghost use Rattle.rules.specs.Answer.{code_by};
+ghost use Rattle.campus.specs.Stores.{store_at, PartOpens, PartExtends};
+ghost use Rattle.campus.specs.Switches.{number_of, all_of, switch_at, IsStarted, IsSound, IsSoundAt};
 
-// The number of a switch, or no such switch.
+use rules::Refusal;
+
+// The words, and where the store of each switch starts in them.
 #[derive(Clone, Copy)]
-pub enum Named {
-    At(usize),
-    Unknown,
+pub struct Switches<'a> {
+    pub words: &'a [u64],
+    pub starts: &'a [usize],
 }
 
-// The latest of the first n switches that has this nickname.
-pub fn find(w: &[u64], starts: &[usize], n: usize, nickname: u16) -> Named
-    requires { Started w.now starts.now n }
-    ensures { result ≡ number_in w.now starts.now n nickname }
-{
-    let mut i = n;
-    while 0 < i {
-        i -= 1;
-        let at = starts[i];
-        if w[at] == nickname as u64 {
-            return Named::At(i);
+impl Switches<'_> {
+    // The latest that has this nickname.
+    pub fn find(&self, nickname: u16) -> Option<usize>
+        requires { IsStarted self.now }
+        ensures { result ≡ number_of self.now nickname }
+    {
+        for i in (0..self.starts.len()).rev() {
+            if self.words[self.starts[i]] == u64::from(nickname) {
+                return Some(i);
+            }
         }
+        None
     }
-    Named::Unknown
-}
 
-// Where the store of the latest of n switches ends.
-pub fn end_of(w: &[u64], starts: &[usize], n: usize) -> usize
-    requires { Kept w.now starts.now n }
-    ensures { result ≡ end_of w.now starts.now n }
-{
-    if n == 0 {
-        return 0;
+    // Whether one has edition 2.
+    pub fn has_edition_2(&self) -> bool
+        requires { IsSound self.now }
+        ensures { result ≡ some_edition2 (all_of self.now) }
+    {
+        for i in (0..self.starts.len()).rev() {
+            if self.words[self.starts[i] + 2] / 2 % 2 == 1 {
+                return true;
+            }
+        }
+        false
     }
-    let at = starts[n - 1];
-    at + 4 + 2 * w[at + 3] as usize
+
+    // The store of one, and what stands behind it.
+    pub fn store_of(&self, i: usize) -> &[u64]
+        requires { IsSoundAt self.now i }
+        ensures { result.now ≡ store_at self.now.words.now self.now.starts.now i }
+    {
+        &self.words[self.starts[i]..]
+    }
+
+    pub fn nickname_of(&self, i: usize) -> u16
+        requires { IsSoundAt self.now i }
+        ensures { result ≡ (switch_at self.now i).nickname }
+    {
+        self.words[self.starts[i]] as u16
+    }
 }
 
 pub fn open(w: &mut [u64], at: usize, v: &[u8]) -> bool
@@ -46,25 +65,9 @@ pub fn open(w: &mut [u64], at: usize, v: &[u8]) -> bool
     stores::store_open(&mut w[at..], v)
 }
 
-pub fn extend(w: &mut [u64], at: usize, tag: u8, v: &[u8]) -> u32
+pub fn extend(w: &mut [u64], at: usize, tag: u8, v: &[u8]) -> Result<(), Refusal>
     requires { at ≤ length w.old }
-    ensures { PartExtends w.old at tag v.now result w.new }
+    ensures { PartExtends w.old at tag v.now (code_by result) w.new }
 {
     stores::store_extend(&mut w[at..], tag, v)
-}
-
-// Whether one of the first n switches has edition 2.
-pub fn edition_2(w: &[u64], starts: &[usize], n: usize) -> bool
-    requires { Sound w.now starts.now n }
-    ensures { result ≡ some_edition2 (switches_in w.now starts.now n) }
-{
-    let mut i = n;
-    while 0 < i {
-        i -= 1;
-        let at = starts[i];
-        if w[at + 2] / 2 % 2 == 1 {
-            return true;
-        }
-    }
-    false
 }

@@ -1,5 +1,6 @@
 -- T-07: "one counter for each answer number, 64 bits, and a total"; what one call answers, writes and counts.
-use Rattle.std.specs.Prelude.{ℕ, ◌+◌, ◌≤◌, ◌<◌, ◌≡◌, List, [], ◌∷◌, Bool, false, ◌||◌, length, get_or, set, eqb, if◌then◌else◌}
+use Rattle.std.specs.Prelude.{ℕ, ◌+◌, ◌≤◌, ◌<◌, ◌≡◌, List, Bool, ◌||◌, length, get_or, set, eqb, if◌then◌else◌}
+use Rattle.std.specs.List.{list_any}
 use Rattle.rules.specs.Answer.{Handled, dropped}
 use Rattle.rules.specs.Handling.{handled}
 use Rattle.handler.specs.Tasks.{Both}
@@ -10,22 +11,13 @@ use Rattle.counters.specs.declared.Counters.{Counters}
 abbrev pub greatest : ℕ
 greatest = 18446744073709551615
 
-abbrev pub made : List ℕ → ℕ → Counters
-made counts total = record { by_answer = counts; total = total }
-
--- what 64 counters in memory are known to be
-pub record Words (counts : List ℕ) : Type 0 where
-  pub size : length counts ≡ 64
-  pub each : (i : ℕ) → get_or counts i 0 ≤ greatest
-
 -- a number above all of them
-pub record Above (counts : List ℕ) (total r : ℕ) : Type 0 where
-  pub over : total ≤ r
-  pub each : (i : ℕ) → i < 64 → get_or counts i 0 ≤ r
+pub record Above (c : Counters) (r : ℕ) : Type 0 where
+  pub over : c.total ≤ r
+  pub each : (i : ℕ) → i < 64 → get_or c.by_answer i 0 ≤ r
 
-unfoldable pub some_greatest : List ℕ → Bool
-some_greatest [] = false
-some_greatest (n ∷ ns) = eqb n greatest || some_greatest ns
+abbrev pub some_greatest : List ℕ → Bool
+some_greatest ns = list_any (λ n. eqb n greatest) ns
 
 -- "some counter or the total at its greatest value": any of the 64 counters, those of numbers never given too
 unfoldable pub full : Counters → Bool

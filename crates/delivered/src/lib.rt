@@ -9,11 +9,8 @@ ghost use Rattle.rules.specs.Handling.{part_of};
 pub fn part(frame: &[u8], start: usize, size: usize) -> &[u8]
     ensures { result.now ≡ part_of frame.now start size }
 {
-    if frame.len() < start {
-        return &frame[..0];
-    }
-    if frame.len() - start < size {
-        return &frame[..0];
-    }
-    &frame[start..start + size]
+    let Some(end) = start.checked_add(size) else {
+        return &[];
+    };
+    frame.get(start..end).unwrap_or(&[])
 }

@@ -1,5 +1,3 @@
-pub mod ExtensionLaws
-pub mod TreatmentLaws
 pub mod Walks
 pub mod Stages
 pub mod Refusals
@@ -12,3 +10,4 @@ pub mod StoreLaws
 pub mod WayOutLaws
 pub mod ScanLaws
 pub mod CallLaws
+pub mod TreatmentLaws

@@ -1,8 +1,12 @@
 -- What a frame comes to as the code finds it: received, its area read by the edition, its task, and the task carried out. By one law for each need.
+use Rattle.std.specs.Prelude.{None, Result, Ok, Err}
 use Rattle.handler.proofs
+use proofs.Stages.{nicknames_read}
 use proofs.StageLaws.{frame_near, by_hop, ready, inner_held, area_held, area_few, area_words}
 use Rattle.rules.specs as rules
 use rules.Handling.{transit, untagged, to_all_egress_rbridges, channel_message, alert_to, alert_of, decapsulated, routed, handled_with}
+use mir.Syntax.{w8}
+use mir.Val as Val
 use mathlib.Core.Path.{◌≡◌, refl, sym, ap, ◌∙◌}
 use mathlib.Core.List.{List}
 use mathlib.Core.Bool.{Bool, true, false, not, ◌&&◌, ◌||◌, cond}
@@ -14,13 +18,11 @@ use borrow.Author.Tests.{lt-leb, le-leb, not-true, not-false}
 use Rattle.rules.proofs as rule_laws
 use rule_laws.{TestLaws.by_test, TestLaws.apart, TestLaws.and_yes, TestLaws.and_no, OctetLaws.take_put, OptionLaws.area_number, FrameLaws.header_passed}
 use lib.Dec.{eqb}
-use lib.ListN.{length, length-drop}
+use lib.ListN.{length, length-drop, get_or}
 use rules.{Octets.be16, Octets.be32, Settings.Ways, Options.WellFormed, Options.draft_read, Channel.channel_read}
 use rules.Header.{inner_start, area_of, inner_of, read_frame, header_refusal, we_are_egress}
 use rules.Extension.{flags_word, critical_alert, non_critical_alert, flag_unsummarized, summary_bare, extension_read, extension_stops, area_read, area_stops}
-use rules.declared.{Header.Header, FrameRead.FrameRead, ChannelRead.ChannelRead, Alert.Alert}
-use rules.declared.FrameRead.TheVariants.{Trill, Unreadable}
-use rules.declared.Ruling.TheVariants.{Absent}
+use rules.declared.{Header.Header, ChannelRead.ChannelRead, Alert.Alert}
 use rules.declared.ChannelRead.TheVariants.{Fault, BadErr, ErrorHeard, BadEcho, EchoHeard, EchoRequest}
 use rules.declared.Alert.TheVariants.{NoAlert}
 use rule_laws.HandlingLaws.{inner_short, inner_untagged, inner_any, inner_delivered, inner_up, inner_channel, routed_faulty}
@@ -28,21 +30,22 @@ use rule_laws.HandlingLaws.{routed_stopped, routed_egress, routed_transit, handl
 use rule_laws.HandlingLaws.{beside_short, frame_long, frame_handled}
 use Rattle.octets.specs.Copy.{Wrote}
 use Rattle.handler.specs
-use specs.declared.answers.Refusal.{Refusal}
-use specs.declared.answers.Refusal.TheVariants.{Refused, Passed}
-use specs.Shapes.{refusal_by, area_read_of, sent_of, AreaWords, AreaKept, AllKept, Ready}
-use proofs.Refusals.{refused_is, passed_is}
+use rules.declared.Number.{Number}
+use rules.declared.Number.TheVariants as N
+use rules.declared.Number.TheVariants.{BadFlags, InnerShort, BadTag, NotToAllEgress, CriticalOption}
+use Rattle.rules.specs.Answer.{number_by}
+use Rattle.rules.proofs.NumberLaws.{number_some}
+use Rattle.rules.proofs.TriedLaws.{tried}
+use specs.Shapes.{area_read_of, sent_of, AreaWords, AreaKept, AllKept, Ready}
 use specs.declared.way.Own.{Own}
-use specs.declared.options.{Cursor.Cursor, AreaRead.AreaRead}
-use specs.declared.options.AreaRead.TheVariants.{Read, Faulty}
-use specs.declared.handling.{Local.Local, Task.Task, Received.Received}
+use specs.declared.frame.Frame.{Frame}
+use specs.declared.options.{Cursor.Cursor, AreaFault.AreaFault}
+use specs.declared.handling.{Local.Local, Task.Task}
 use specs.declared.handling.Local.TheVariants.{Dropped, Answered, Message}
-use specs.declared.handling.Task.TheVariants.{Stopped, Forward}
 use specs.Tasks.{area_read_by, PutAside, ReadBy, stops_by, alert_by, transit_at, wanted_by, asked_by, Answerable, Comes, Sized, Aside, RoutesRead, Routes}
 use specs.Tasks.{Arrives, Receives, Lent, Receiving}
 use Rattle.rules.specs.Options as O
 use Rattle.rules.specs.Answer as A
-use Rattle.handler.specs.declared.handling.Received.TheVariants as R
 
 -- the area by the edition, and as it is sent put aside
 aside_put : (sent kept kept' : List ℕ) (to : ℕ) → Wrote sent 0 to kept kept' → to ≤ 124 → length kept' ≡ 124 → PutAside sent kept' to
@@ -51,7 +54,7 @@ aside_put sent kept kept' to w few wide =
     record { wide = wide; few = few; stands = sym (rw (size, w.after) (take_put kept sent)) }
 
 module _ (rfc7179 strip : Bool) (area kept : List ℕ) where
-  pub read_draft : not rfc7179 ≡ true → (kept' : List ℕ) (r : AreaRead) → AreaKept strip area kept kept' r → ReadBy rfc7179 strip area kept' r
+  pub read_draft : not rfc7179 ≡ true → (kept' : List ℕ) (r : Result Cursor AreaFault) → AreaKept strip area kept kept' r → ReadBy rfc7179 strip area kept' r
   read_draft e kept' r x =
       rw (not-true rfc7179 e)
       (record {
@@ -61,11 +64,11 @@ module _ (rfc7179 strip : Bool) (area kept : List ℕ) where
 
   module _ (two : not rfc7179 ≡ false) (w : ℕ) (word : w ≡ be32 area 0) (b : Bool)
       (is : b ≡ (flag_unsummarized w || (eqb (length area) 4 && summary_bare w))) where
-    pub read_refused : b ≡ true → ReadBy rfc7179 strip area kept (Faulty 38 0)
+    pub read_refused : b ≡ true → ReadBy rfc7179 strip area kept (Err (record { number = BadFlags; place = 0 }))
     unfolding extension_read
     read_refused t = record { read = cc (not-false rfc7179 two); aside = λ c e. apart (cc e) }
 
-    pub read_extension : b ≡ false → (kept' : List ℕ) (r : AreaRead) → AllKept area kept kept' r → AreaWords area → ReadBy rfc7179 strip area kept' r
+    pub read_extension : b ≡ false → (kept' : List ℕ) (r : Result Cursor AreaFault) → AllKept area kept kept' r → AreaWords area → ReadBy rfc7179 strip area kept' r
     unfolding extension_read
     read_extension t kept' r x words =
         let passed : extension_read area ≡ WellFormed = cc in
@@ -79,12 +82,12 @@ module _ (rfc7179 strip : Bool) (area kept : List ℕ) where
 pub ruleset read_area_laws = (rules, read_draft, read_refused, read_extension)
 
 module _ (rfc7179 : Bool) (area : List ℕ) where
-  pub check_draft : not rfc7179 ≡ true → (r : AreaRead) → area_read_of r ≡ draft_read area → area_read_of r ≡ area_read_by rfc7179 area
+  pub check_draft : not rfc7179 ≡ true → (r : Result Cursor AreaFault) → area_read_of r ≡ draft_read area → area_read_of r ≡ area_read_by rfc7179 area
   check_draft e r is = rw (not-true rfc7179 e) is
 
   module _ (two : not rfc7179 ≡ false) (w : ℕ) (word : w ≡ be32 area 0) (b : Bool)
       (is : b ≡ (flag_unsummarized w || (eqb (length area) 4 && summary_bare w))) where
-    pub check_refused : b ≡ true → O.Faulty 38 0 ≡ area_read_by rfc7179 area
+    pub check_refused : b ≡ true → O.Faulty BadFlags 0 ≡ area_read_by rfc7179 area
     unfolding extension_read
     check_refused t = cc (not-false rfc7179 two)
 
@@ -153,48 +156,48 @@ pub ruleset alert_of_laws = (rules, alert_draft, alert_none, alert_other, alert_
 
 -- 22 to 24, 51 and 52
 module _ (f : List ℕ) (h : Header) (inner : List ℕ) (held : inner ≡ inner_of f h) where
-  pub egress_short : length inner < 18 → Comes f h (Dropped 22)
+  pub egress_short : length inner < 18 → Comes f h (Dropped InnerShort)
   egress_short a = record { same = λ S clock. inner_short S clock f h (rw held at a); ends = Prim.tt }
 
   -- delivered in whole
-  up : (n start size : ℕ) → Ready f h → start ≡ inner_start h → size ≡ length inner
-      → ((S : Ways) (clock : List ℕ) → decapsulated S clock f h ≡ A.delivered n (inner_start h) (length (inner_of f h))) → Comes f h (Answered n start size)
+  up : (n : Number) (start size : ℕ) → Ready f h → start ≡ inner_start h → size ≡ length inner
+      → ((S : Ways) (clock : List ℕ) → decapsulated S clock f h ≡ A.delivered (A.number_of n) (inner_start h) (length (inner_of f h))) → Comes f h (Answered n start size)
   up n start size is i z e =
       rw (z, held, i) (record { same = e; ends = (omega (arith, is.area_whole, is.short), omega (arith, length-drop (inner_start h) f, is.short)) })
 
   module _ (a : 18 ≤ length inner) (tag : Bool) (t : tag ≡ untagged inner) where
-    pub egress_untagged : tag ≡ true → Comes f h (Dropped 23)
+    pub egress_untagged : tag ≡ true → Comes f h (Dropped BadTag)
     egress_untagged b = record { same = λ S clock. inner_untagged S clock f h (rw held at a) (cc); ends = Prim.tt }
 
     module _ (b : tag ≡ false) (all : Bool) (m : all ≡ to_all_egress_rbridges inner) where
-      pub egress_any : not all ≡ true → h.egress ≡ 0xFFC0 → Comes f h (Dropped 24)
+      pub egress_any : not all ≡ true → h.egress ≡ 0xFFC0 → Comes f h (Dropped NotToAllEgress)
       egress_any n e = record { same = λ S clock. inner_any S clock f h (rw held at a) (cc) e (cc (not-true all n)); ends = Prim.tt }
 
       pub egress_delivered : not all ≡ true → (h.egress ≡ 0xFFC0 → ⊥) → Ready f h → (start size : ℕ) → start ≡ inner_start h → size ≡ length inner
-          → Comes f h (Answered 51 start size)
-      egress_delivered n e is start size i z = up 51 start size is i z (λ S clock. inner_delivered S clock f h (rw held at a) (cc) e (cc (not-true all n)))
+          → Comes f h (Answered N.Delivered start size)
+      egress_delivered n e is start size i z = up N.Delivered start size is i z (λ S clock. inner_delivered S clock f h (rw held at a) (cc) e (cc (not-true all n)))
 
       module _ (n : not all ≡ false) (word : ℕ) (w : word ≡ be16 inner 16) where
-        pub egress_up : word ≡ 0x22F4 → Ready f h → (start size : ℕ) → start ≡ inner_start h → size ≡ length inner → Comes f h (Answered 52 start size)
-        egress_up e is start size i z = up 52 start size is i z (λ S clock. inner_up S clock f h (rw held at a) (cc) (cc (not-false all n)) (cc))
+        pub egress_up : word ≡ 0x22F4 → Ready f h → (start size : ℕ) → start ≡ inner_start h → size ≡ length inner → Comes f h (Answered N.HandedUp start size)
+        egress_up e is start size i z = up N.HandedUp start size is i z (λ S clock. inner_up S clock f h (rw held at a) (cc) (cc (not-false all n)) (cc))
 
         pub egress_channel : (word ≡ 0x22F4 → ⊥) → Comes f h Message
         egress_channel e =
             record { same = λ S clock. inner_channel S clock f h (rw held at a) (cc) (cc (not-false all n)) (λ x. e (cc)); ends = Prim.tt }
 
-pub ruleset decapsulated_laws = (rules, ready, inner_held, egress_short, egress_untagged, egress_any, egress_delivered, egress_up, egress_channel)
+pub ruleset decapsulated_laws = (rules, egress_short, egress_untagged, egress_any, egress_delivered, egress_up, egress_channel)
 
 -- 30 to 35 or 38, and 20
-area_near : (rfc7179 : Bool) (area : List ℕ) (n p : ℕ) → area_read_by rfc7179 area ≡ O.Faulty n p → p ≤ length area
+area_near : (rfc7179 : Bool) (area : List ℕ) (n : Number) (p : ℕ) → area_read_by rfc7179 area ≡ O.Faulty n p → p ≤ length area
 unfolding extension_read
 area_near false area n p e = (area_number area n p e).near
 area_near true area n p e = extended (flag_unsummarized (flags_word area) || (eqb (length area) 4 && summary_bare (flags_word area))) e
   where
-    extended : (b : Bool) → cond b (O.Faulty 38 0) WellFormed ≡ O.Faulty n p → p ≤ length area
+    extended : (b : Bool) → cond b (O.Faulty BadFlags 0) WellFormed ≡ O.Faulty n p → p ≤ length area
     extended true x = let z : 0 ≡ p = cc x in omega (arith, z)
     extended false x = let z : 0 ≡ suc (length area) = cc x in omega arith
 
-pub read_well : (rfc7179 : Bool) (area : List ℕ) (read : AreaRead) → area_read_of read ≡ area_read_by rfc7179 area → (c : Cursor) → read ≡ Read c
+pub read_well : (rfc7179 : Bool) (area : List ℕ) (read : Result Cursor AreaFault) → area_read_of read ≡ area_read_by rfc7179 area → (c : Cursor) → read ≡ Ok c
     → area_read_by rfc7179 area ≡ WellFormed
 read_well rfc7179 area read is c e = sym is ∙ ap area_read_of e
 
@@ -202,40 +205,40 @@ pub area_made : {f : List ℕ} {h : Header} → Ready f h → (area : List ℕ) 
 area_made is area held = rw held (record { few = area_few is; whole = omega (arith, area_words is) })
 
 -- a fault, whatever our role
-module _ (rfc7179 : Bool) (f : List ℕ) (h : Header) (area : List ℕ) (held : area ≡ area_of f h) (read : AreaRead)
-    (a : area_read_of read ≡ area_read_by rfc7179 area) (n p : ℕ) (e : read ≡ Faulty n p) where
-  faulty : area_read_by rfc7179 area ≡ O.Faulty n p
+module _ (rfc7179 : Bool) (f : List ℕ) (h : Header) (area : List ℕ) (held : area ≡ area_of f h) (read : Result Cursor AreaFault)
+    (a : area_read_of read ≡ area_read_by rfc7179 area) (x : AreaFault) (e : read ≡ Err x) where
+  faulty : area_read_by rfc7179 area ≡ O.Faulty x.number x.place
   faulty = sym a ∙ ap area_read_of e
 
-  faulty_same : (S : Ways) (clock : List ℕ) → rfc7179 ≡ S.rfc7179 → routed S clock f h ≡ A.dropped_at n p
+  faulty_same : (S : Ways) (clock : List ℕ) → rfc7179 ≡ S.rfc7179 → routed S clock f h ≡ A.dropped_at (A.number_of x.number) x.place
   unfolding area_read
-  faulty_same S clock two = routed_faulty S clock f h n p (cc faulty)
+  faulty_same S clock two = routed_faulty S clock f h x.number x.place (cc faulty)
 
-  faulty_near : Ready f h → p ≤ 2048
-  faulty_near is = omega (arith, area_near rfc7179 area n p faulty, (area_made is area held).few)
+  faulty_near : Ready f h → x.place ≤ 2048
+  faulty_near is = omega (arith, area_near rfc7179 area x.number x.place faulty, (area_made is area held).few)
 
-  pub route_faulty : Ready f h → (strip : Bool) (kept : List ℕ) → Routes rfc7179 strip f h kept (Stopped n p)
-  route_faulty is strip kept = record { same = λ S clock away. faulty_same S clock; left = faulty_near is; aside = Prim.tt }
+  pub route_faulty : Ready f h → (strip : Bool) (kept : List ℕ) (q : Result Task AreaFault) → q ≡ Err x → Routes rfc7179 strip f h kept q
+  route_faulty is strip kept q z = rw z (record { same = λ S clock away. faulty_same S clock; left = faulty_near is; aside = Prim.tt })
 
-  pub arrives_faulty : Ready f h → Arrives rfc7179 f h (Answered n p 0)
+  pub arrives_faulty : Ready f h → Arrives rfc7179 f h (Answered x.number x.place 0)
   arrives_faulty is = record { same = λ S clock ours. faulty_same S clock; ends = (faulty_near is, omega arith) }
 
-module _ (rfc7179 strip : Bool) (f : List ℕ) (h : Header) (area kept : List ℕ) (held : area ≡ area_of f h) (read : AreaRead)
+module _ (rfc7179 strip : Bool) (f : List ℕ) (h : Header) (area kept : List ℕ) (held : area ≡ area_of f h) (read : Result Cursor AreaFault)
     (a : ReadBy rfc7179 strip area kept read) where
-  pub route_on : (c : Cursor) → read ≡ Read c → (t : Task) → RoutesRead rfc7179 c.to f h t → Routes rfc7179 strip f h kept t
+  pub route_on : (c : Cursor) → read ≡ Ok c → (t : Result Task AreaFault) → RoutesRead rfc7179 c.to f h t → Routes rfc7179 strip f h kept t
   route_on c e t x = record { same = x.same; left = x.left; aside = put_aside t x.sized }
     where
-      put_aside : (t : Task) → Sized c.to t → Aside rfc7179 strip f h kept t
-      put_aside (Stopped number place) k = Prim.tt
-      put_aside (Forward alert n) k = rw (k, ← held) (a.aside c e)
+      put_aside : (t : Result Task AreaFault) → Sized c.to t → Aside rfc7179 strip f h kept t
+      put_aside (Err x) k = Prim.tt
+      put_aside (Ok t) k = rw (k, ← held) (a.aside c e)
 
-pub ruleset route_laws = (rules, ready, area_held, area_made, route_faulty, read_well, route_on)
+pub ruleset route_laws = (rules, tried, area_made, route_faulty, read_well, route_on)
 
 -- once the area is read
 module _ (rfc7179 : Bool) (f : List ℕ) (h : Header) (area : List ℕ) (held : area ≡ area_of f h) (well : area_read_by rfc7179 area ≡ WellFormed)
     (stops : Bool) where
   module _ (size : ℕ) (b : stops ≡ stops_by rfc7179 false area) where
-    pub route_stopped : stops ≡ true → RoutesRead rfc7179 size f h (Stopped 20 0)
+    pub route_stopped : stops ≡ true → RoutesRead rfc7179 size f h (Err (record { number = CriticalOption; place = 0 }))
     unfolding area_read area_stops
     route_stopped x = record { same = λ S clock away two. routed_stopped S clock f h (cc) (cc); left = omega arith; sized = Prim.tt }
 
@@ -258,22 +261,22 @@ module _ (rfc7179 : Bool) (f : List ℕ) (h : Header) (area : List ℕ) (held : 
         to critical answered EchoHeard q = Prim.tt
         to critical answered EchoRequest q = elim answered as (λ k. Answerable f h (alert_to critical k EchoRequest)) [ true ↦ rw within at q | false ↦ Prim.tt ]
 
-    pub route_transit : stops ≡ false → Ready f h → (inner : List ℕ) → inner ≡ inner_of f h → (alert : Alert) → alert ≡ alert_by rfc7179 area inner
-        → RoutesRead rfc7179 size f h (Forward alert size)
+    pub route_transit : stops ≡ false → (inner : List ℕ) → inner ≡ inner_of f h → (alert : Alert) → alert ≡ alert_by rfc7179 area inner
+        → RoutesRead rfc7179 size f h (Ok (record { alert = alert; size = size }))
     unfolding area_read area_stops transit_at transit
-    route_transit x ready inner within alert is =
+    route_transit x inner within alert is =
         record {
           same = λ S clock away two.
               routed_transit S clock f h (cc) (cc) away
               ∙ by_hop (S.hop h.egress) (λ q. rw (transit, transit_at, q))
               (λ r q. rw (transit, transit_at, q, alert_same S two inner within ∙ sym is));
-          left = record { is_ready = ready; answerable = rw is (answers_request inner within) };
+          left = rw is (answers_request inner within);
           sized = refl;
         }
 
   -- a frame to us
   module _ (b : stops ≡ stops_by rfc7179 true area) where
-    pub arrives_stopped : stops ≡ true → Arrives rfc7179 f h (Dropped 20)
+    pub arrives_stopped : stops ≡ true → Arrives rfc7179 f h (Dropped CriticalOption)
     unfolding area_read area_stops
     arrives_stopped x = record { same = λ S clock ours two. routed_stopped S clock f h (cc) (cc); ends = Prim.tt }
 
@@ -282,71 +285,65 @@ module _ (rfc7179 : Bool) (f : List ℕ) (h : Header) (area : List ℕ) (held : 
     arrives_read x local d =
         record { same = λ S clock ours two. routed_egress S clock f h (cc) (cc) ours ∙ d.same S clock; ends = d.ends }
 
-pub ruleset route_read_laws = (rules, ready, inner_held, route_stopped, route_transit)
+pub ruleset route_read_laws = (rules, route_stopped, route_transit)
 
 pub ruleset arrived_laws = (rules, arrives_stopped, arrives_read)
 
 -- 12 to 18
-module _ (f : List ℕ) (h : Header) (is : read_frame f ≡ Trill h) (own : Own) where
-  module _ (refusal : Refusal) (is_refusal : refusal ≡ refusal_by (header_refusal (own.word / 65536) f h)) where
-    pub frame_refused : (n : ℕ) → refusal ≡ Refused n → Receives own f (R.Refused n)
-    frame_refused n e =
-        let x = refused_is (header_refusal (own.word / 65536) f h) (sym is_refusal ∙ e) in
-        record { same = λ S clock o. handling_refused S clock f h is (rw o.addressed at x.1) ∙ rw (rw o.addressed at x.0); got = Prim.tt }
+module _ (clock f : List ℕ) (h : Header) (is : read_frame f ≡ Ok h) (own : Own) where
+  module _ {B : Type 0} (checked : Result B Number) (its : number_by checked ≡ header_refusal (own.word / 65536) f h) where
+    pub frame_refused : (n : Number) → checked ≡ Err n → (q : Result Frame Number) → q ≡ Err n → Receives own clock f q
+    frame_refused n e q y =
+        let given : header_refusal (own.word / 65536) f h ≡ A.number_of n = sym its ∙ ap number_by e in
+        let some : header_refusal (own.word / 65536) f h ≡ 0 → ⊥ = λ z. number_some n (sym given ∙ z) in
+        rw y (record { same = λ S o. handling_refused S clock f h is (rw o.addressed at some) ∙ rw (rw o.addressed at given) })
 
-    pub frame_passed : refusal ≡ Passed → length f ≤ 2048 → Receives own f (R.Trill h)
-    frame_passed e short =
-        let z = passed_is (header_refusal (own.word / 65536) f h) (sym is_refusal ∙ e) in
-        let S : Ways = record { nickname = own.nickname; mac = own.word / 65536; strip = false; rfc7179 = false; hop = λ d. Absent } in
-        let p = header_passed S f h z in
-        record {
-          same = λ S clock o. handling_routed S clock f h is (rw o.addressed at z);
-          got = record { read = is; hops_left = p.hops_left; area_whole = p.area_whole; short = short };
-        }
+  module _ (given : 0 ≡ header_refusal (own.word / 65536) f h) where
+    pub frame_ready : length f ≤ 2048 → ((i : ℕ) → Val.Fits w8 (get_or f i 0)) → Ready f h
+    frame_ready short small =
+        let S : Ways = record { nickname = own.nickname; mac = own.word / 65536; strip = false; rfc7179 = false; hop = λ d. None } in
+        let p = header_passed S f h (sym given) in
+        record { read = is; hops_left = p.hops_left; area_whole = p.area_whole; short = short; nicknames = nicknames_read f h is small }
 
-pub ruleset passed_laws = (rules, frame_near, frame_refused, frame_passed)
+    pub frame_passed : (frame : Frame) → frame.octets.now ≡ f → frame.header ≡ h → frame.time.now ≡ clock
+        → Receives own clock f (Ok frame)
+    frame_passed frame e k t = record { same = λ S o. handling_routed S clock f h is (rw o.addressed at (sym given)) ∙ rw (e, k, t) }
 
 -- 10 and 11
-module _ (f : List ℕ) (read : FrameRead) (is : read ≡ read_frame f) (own : Own) where
-  pub frame_unread : (n : ℕ) → read ≡ Unreadable n → Receives own f (R.Refused n)
-  frame_unread n e = record { same = λ S clock o. handling_unread S clock f n (sym is ∙ e); got = Prim.tt }
+module _ (clock f : List ℕ) (read : Result Header Number) (is : read ≡ read_frame f) (own : Own) where
+  pub frame_unread : (n : Number) → read ≡ Err n → (q : Result Frame Number) → q ≡ Err n → Receives own clock f q
+  frame_unread n e q y = rw y (record { same = λ S o. handling_unread S clock f n (sym is ∙ e) })
 
-  pub frame_trill : (h : Header) → read ≡ Trill h → read_frame f ≡ Trill h
+  pub frame_trill : (h : Header) → read ≡ Ok h → read_frame f ≡ Ok h
   frame_trill h e = sym is ∙ e
 
-pub ruleset read_laws = (rules, frame_unread, frame_trill)
+pub ruleset read_laws = (rules, tried, frame_near, frame_unread, frame_trill, frame_refused, frame_ready, frame_passed)
 
 -- 1, 2, 37 and 3
 module _ (own : Own) (clock f : List ℕ) (room beside_room : ℕ) where
-  pub received_dropped : (n : ℕ) → ((S : Ways) → handled_with S clock room beside_room f ≡ A.dropped n) → Receiving own clock f room beside_room (R.Refused n)
-  received_dropped n w = record { same = λ S o. w S; got = Prim.tt; lent = Prim.tt }
+  pub received_dropped : (n : Number) → ((S : Ways) → handled_with S clock room beside_room f ≡ A.dropped (A.number_of n)) → Receiving own clock f room beside_room (Err n)
+  received_dropped n w = record { same = λ S o. w S; lent = Prim.tt }
 
-  pub received_read : (r : Received) → Receives own f r → length clock ≡ 6 → 2048 ≤ room → 576 ≤ beside_room → length f ≤ 2048
+  pub received_read : (r : Result Frame Number) (time : List ℕ) → Receives own time f r → time ≡ clock → length clock ≡ 6 → 2048 ≤ room → 576 ≤ beside_room → length f ≤ 2048
       → Receiving own clock f room beside_room r
-  received_read r d a b c short = record { same = λ S o. frame_handled S clock room beside_room f a b c short ∙ d.same S clock o; got = d.got; lent = lends r }
+  received_read r time d t a b c short = record { same = λ S o. frame_handled S clock room beside_room f a b c short ∙ (rw t at d.same S o); lent = lends r }
     where
-      lends : (r : Received) → Lent clock room beside_room r
-      lends (R.Refused n) = Prim.tt
-      lends (R.Trill h) = (a, b, c)
+      lends : (r : Result Frame Number) → Lent room beside_room r
+      lends (Err n) = Prim.tt
+      lends (Ok frame) = (b, c)
 
 pub ruleset receive_laws = (rules, received_dropped, clock_bad, room_short, beside_short, frame_long, received_read)
 
 -- what a frame that was received has with it
-module _ {own : Own} {clock f : List ℕ} {room beside_room : ℕ} {received : Received} (x : Receiving own clock f room beside_room received) {h : Header}
-    (e : received ≡ R.Trill h) where
-  pub lent_ready : Ready f h
-  lent_ready = rw e at x.got
-
-  pub lent_clock : length clock ≡ 6
-  lent_clock = (rw e at x.lent).0
-
+module _ {own : Own} {clock f : List ℕ} {room beside_room : ℕ} {received : Result Frame Number} (x : Receiving own clock f room beside_room received) {frame : Frame}
+    (e : received ≡ Ok frame) where
   pub lent_room : 2048 ≤ room
-  lent_room = (rw e at x.lent).1
+  lent_room = (rw e at x.lent).0
 
   pub lent_beside : 576 ≤ beside_room
-  lent_beside = (rw e at x.lent).2
+  lent_beside = (rw e at x.lent).1
 
-pub ruleset received_lent = (lent_ready, lent_clock, lent_room, lent_beside)
+pub ruleset received_lent = (lent_room, lent_beside)
 
 -- the destination
 module _ (nickname : ℕ) (h : Header) (egress : Bool) (e : egress ≡ we_are_egress nickname h) where
@@ -356,8 +353,9 @@ module _ (nickname : ℕ) (h : Header) (egress : Bool) (e : egress ≡ we_are_eg
   pub wanted_on : egress ≡ false → h.egress ≡ wanted_by nickname h
   wanted_on t = rw (← e, t)
 
-pub asked_so : (nickname : ℕ) (received : Received) (h : Header) → received ≡ R.Trill h → (d : ℕ) → d ≡ wanted_by nickname h → d ≡ asked_by nickname received
-asked_so nickname received h e d is = rw e is
+pub asked_so : (nickname : ℕ) (received : Result Frame Number) (frame : Frame) → received ≡ Ok frame → (d : ℕ) → d ≡ wanted_by nickname frame.header
+    → d ≡ asked_by nickname received
+asked_so nickname received frame e d is = rw e is
 
 pub ruleset wanted_laws = (rules, wanted_back, wanted_on)
 

@@ -1,13 +1,12 @@
 -- What is forwarded and what is replied as the code writes it: what is ready gives what each call asks, and each way out is the answer and the
 -- buffer that the rules define. One law for each need, over what the calls before it ensure, for `search` to cite.
+use Rattle.std.specs.Prelude.{Option, Some, None, Ok}
 use Rattle.rules.specs as rules
 use rules.Header.{read_frame, op_length, inner_start, area_of, inner_of}
-use rules.declared.FrameRead.TheVariants.{Trill}
-use rules.declared.{NextHop.NextHop, Header.Header, Ruling.Ruling}
-use rules.declared.Ruling.TheVariants.{Found, Absent}
+use rules.declared.{NextHop.NextHop, Header.Header}
 use Rattle.octets.specs.Copy.{Wrote}
 use Rattle.octets.proofs.Ends.{joined}
-use Rattle.handler.proofs.Stages.{lent_rest, link_sized, rest_long}
+use Rattle.handler.proofs.Stages.{lent_rest, link_sized, rest_long, cited_all, cited_most}
 use mathlib.Core.Path.{◌≡◌, ◌∙◌, refl, sym}
 use mathlib.Core.List.{List, ◌++◌, []}
 use Prim.Native.Nat.{ℕ, ◌+◌, ◌≤◌, ◌-◌, ◌*◌, ◌<◌}
@@ -24,7 +23,7 @@ use rule_laws.OctetLaws.{put_none, length_part}
 use Rattle.handler.specs
 use specs.declared.way.{Own.Own, Lookup.Lookup}
 use specs.declared.answers.Answer.{Answer}
-use specs.Shapes.{Owns, Sends, reply_octets, Replied, answer_of, wrote_by, link_size, rest_with, ways_by, Fits, Ready, Done}
+use specs.Shapes.{Owns, Sends, reply_octets, Replied, answer_of, wrote_by, link_size, rest_with, ways_by, Ready, Done}
 use mathlib.Core.Bool.{Bool, true, false, not, ◌&&◌}
 use lib.Seq.{drop-drop}
 use rules.Handling.{forwarded, forwarded_rest, onward, faulted, echoed}
@@ -33,7 +32,7 @@ use rule_laws.HandlingLaws.{onward_long, onward_sent, faulted_silent, faulted_no
 use Rattle.rules.specs.Answer as A
 
 -- a frame that was read
-module _ (f : List ℕ) (h : Header) (is : read_frame f ≡ Trill h) where
+module _ (f : List ℕ) (h : Header) (is : read_frame f ≡ Ok h) where
   pub frame_near : h.place ≤ 18
   frame_near = omega (arith, (frame_read f h is).its_place, link_length_lem f)
 
@@ -45,21 +44,26 @@ module _ (f : List ℕ) (h : Header) (is : read_frame f ≡ Trill h) where
 
 pub ruleset ready = (frame_near, frame_from, frame_place)
 
+pub ruleset cited_laws = (rules, ready, cited_all, cited_most)
+
 -- the parts of a frame that the code holds
 module _ (f : List ℕ) (h : Header) (start : ℕ) (i : start ≡ inner_start h) where
   pub inner_held : take (length f - start) (drop start f) ≡ inner_of f h
   inner_held = rw i (lent_rest f (inner_start h))
 
-  pub body_held : take (length f - (start + 22)) (drop (start + 22) f) ≡ body_of (inner_of f h)
-  body_held = rw i (lent_rest f (inner_start h + 22) ∙ sym (drop-drop 22 (inner_start h) f))
-
-  pub body_within : 18 ≤ length (body_of (inner_of f h)) → start + 22 ≤ length f
-  body_within b = let n : length (body_of (inner_of f h)) ≡ length f - inner_start h - 22 = simp length-drop in omega arith
-
   pub area_held : take (start - (h.place + 6)) (drop (h.place + 6) f) ≡ area_of f h
   area_held = let n : start - (h.place + 6) ≡ 4 * op_length h.word = omega arith in rw n
 
--- and how long they are
+pub ruleset frame_laws = (rules, ready, inner_held, area_held)
+
+-- the body of a message in it, and how long it is
+module _ (f : List ℕ) (h : Header) (inner : List ℕ) (held : inner ≡ inner_of f h) where
+  pub body_held : take (length inner - 22) (drop 22 inner) ≡ body_of (inner_of f h)
+  body_held = rw held (lent_rest (inner_of f h) 22)
+
+  pub body_within : 18 ≤ length (body_of (inner_of f h)) → 22 ≤ length inner
+  body_within b = rw held (omega (arith, length-drop 22 (inner_of f h)))
+
 pub held_least : (k : ℕ) (lent whole : List ℕ) → k ≤ length whole → lent ≡ whole → k ≤ length lent
 held_least k lent whole h held = rw held h
 
@@ -80,12 +84,12 @@ module _ {a : A.Handled} {r : Answer} {out : List ℕ} where
   done_wrote number via n e w is = rw e (record { answer = is ∙ rw (w.ends, zero-add); after = w.after; alone = refl })
 
 -- by a next hop
-pub by_hop : {X : Type 0} (R : Ruling) → (R ≡ Absent → X) → ((r : NextHop) → R ≡ Found r → X) → X
-by_hop Absent lost found = lost refl
-by_hop (Found r) lost found = found r refl
+pub by_hop : {X : Type 0} (R : Option NextHop) → (R ≡ None → X) → ((r : NextHop) → R ≡ Some r → X) → X
+by_hop None lost found = lost refl
+by_hop (Some r) lost found = found r refl
 
 -- the next hop back
-abbrev back : Ways → Header → Ruling
+abbrev back : Ways → Header → Option NextHop
 back S h = return_path S h.ingress
 
 pub link_room : (r : NextHop) (out : List ℕ) → 18 ≤ length out → link_size r.vlan ≤ length out
@@ -122,17 +126,10 @@ module _ (S : Ways) (r : NextHop) (f : List ℕ) (h : Header) (out area : List �
       pub onward_done : (a : Answer) → a ≡ wrote_by 50 end r.neighbour → Done (onward S r f h [] 0) a out out2
       onward_done a = done_wrote 50 r.neighbour end (onward_sent S f h r [] 0 (omega (arith, forwards_long))) (rw forwards at (joined linked w))
 
-    pub onward_fits : Ready f h → length area ≤ 124 → length out1 ≡ length out → 2048 ≤ length out → Fits area f h out1 at
-    onward_fits ready few same roomy =
-        record {
-          read = ready.read;
-          area_whole = ready.area_whole;
-          hops_left = ready.hops_left;
-          area_short = few;
-          room = omega (arith, length_link S r);
-        }
+    pub onward_fits : length out1 ≡ length out → 2048 ≤ length out → at + length (rest_with area f h) ≤ length out1
+    onward_fits same roomy = omega (arith, length_link S r)
 
-pub ruleset onward_laws = (rules, ready, link_room, room_18, onward_over, onward_short, onward_done, onward_fits)
+pub ruleset onward_laws = (rules, link_room, room_18, onward_over, onward_short, onward_done, onward_fits)
 
 -- how long it is
 module _ {f : List ℕ} {h : Header} (ready : Ready f h) where
@@ -145,22 +142,28 @@ module _ {f : List ℕ} {h : Header} (ready : Ready f h) where
   pub whole_long : length f - h.place ≡ length (rest_with (area_of f h) f h)
   whole_long = omega (arith, rest_long f h (area_of f h), area_words)
 
+  pub whole_least : h.place ≤ length f
+  whole_least = frame_place f h ready.read
+
   pub whole_add : (r : NextHop) (k : ℕ) → k ≡ link_size r.vlan → k + (length f - h.place) < 18446744073709551616
   whole_add r k e = omega (arith, link_sized r.vlan)
 
-pub ruleset send_whole_laws = (onward_laws, area_few, whole_long, whole_add)
+pub ruleset send_whole_laws = (onward_laws, whole_least, whole_long, whole_add)
 
 -- with another area
-pub with_long : (f : List ℕ) (h : Header) (area : List ℕ) (inner : ℕ) → inner ≡ inner_start h
-    → 6 + length area + (length f - inner) ≡ length (rest_with area f h)
-with_long f h area inner start = omega (arith, rest_long f h area)
+module _ (f : List ℕ) (h : Header) (area inner : List ℕ) (held : inner ≡ inner_of f h) where
+  pub with_long : 6 + length area + length inner ≡ length (rest_with area f h)
+  with_long = rw held (omega (arith, rest_long f h area, length-drop (inner_start h) f))
 
-module _ {f : List ℕ} {h : Header} (is : Ready f h) {S : Ways} {area : List ℕ} (few : Sends S f h area) (inner : ℕ) where
-  pub with_size : 6 + length area + (length f - inner) < 18446744073709551616
-  with_size = omega (arith, few.few)
+  module _ (is : Ready f h) (S : Ways) (few : Sends S f h area) where
+    long : length inner ≤ 2048
+    long = rw held (omega (arith, is.short, length-drop (inner_start h) f))
 
-  pub with_sum : (r : NextHop) (k : ℕ) → k ≡ link_size r.vlan → k + (6 + length area + (length f - inner)) < 18446744073709551616
-  with_sum r k e = omega (arith, link_sized r.vlan, few.few)
+    pub with_size : 6 + length area + length inner < 18446744073709551616
+    with_size = omega (arith, few.few, long)
+
+    pub with_sum : (r : NextHop) (k : ℕ) → k ≡ link_size r.vlan → k + (6 + length area + length inner) < 18446744073709551616
+    with_sum r k e = omega (arith, link_sized r.vlan, few.few, long)
 
 pub ruleset send_with_laws = (onward_laws, sends_area, sends_few, with_long, with_size, with_sum)
 
@@ -182,15 +185,15 @@ module _ (S : Ways) (f : List ℕ) (h : Header) (code : ℕ) (inner : List ℕ) 
   pub fault_quiet : a ≡ answer_of (A.dropped 25) → quiet ≡ true → Done (faulted S f h code) a out out
   fault_quiet is t = done_dropped 25 (faulted_silent S f h code (cc)) is
 
-  module _ (t : quiet ≡ false) (R : Ruling) (asks : R ≡ back S h) where
-    pub fault_lost : a ≡ answer_of (A.dropped 25) → R ≡ Absent → Done (faulted S f h code) a out out
+  module _ (t : quiet ≡ false) (R : Option NextHop) (asks : R ≡ back S h) where
+    pub fault_lost : a ≡ answer_of (A.dropped 25) → R ≡ None → Done (faulted S f h code) a out out
     fault_lost is e = done_dropped 25 (faulted_none S f h code (cc) (cc)) is
 
-    pub fault_sent : (hop : NextHop) → R ≡ Found hop → (n : ℕ) (out1 : List ℕ) → Replied (error_reply S hop f h code) n out out1
+    pub fault_sent : (hop : NextHop) → R ≡ Some hop → (n : ℕ) (out1 : List ℕ) → Replied (error_reply S hop f h code) n out out1
         → a ≡ wrote_by 53 n hop.neighbour → Done (faulted S f h code) a out out1
     fault_sent hop e n out1 p = done_wrote 53 hop.neighbour n (faulted_over S f h code (cc) hop (cc)) p.wrote
 
-pub ruleset error_answer_laws = (rules, ready, inner_held, reply_short, fault_quiet, fault_lost, fault_sent)
+pub ruleset error_answer_laws = (rules, reply_short, fault_quiet, fault_lost, fault_sent)
 
 -- 28 and 54
 module _ (S : Ways) (f : List ℕ) (h : Header) (clock body : List ℕ) (held : body ≡ body_of (inner_of f h)) (mode : ℕ) (m : mode ≡ octet body 4)
@@ -198,15 +201,15 @@ module _ (S : Ways) (f : List ℕ) (h : Header) (clock body : List ℕ) (held : 
   pub echo_other : a ≡ answer_of (A.dropped 28) → (mode ≡ 2 → ⊥) → Done (echoed S clock f h) a out out
   echo_other is o = done_dropped 28 (echoed_mode S f h clock (λ e. o (rw held at m ∙ e))) is
 
-  module _ (o : mode ≡ 2) (R : Ruling) (asks : R ≡ back S h) where
-    pub echo_lost : a ≡ answer_of (A.dropped 28) → R ≡ Absent → Done (echoed S clock f h) a out out
+  module _ (o : mode ≡ 2) (R : Option NextHop) (asks : R ≡ back S h) where
+    pub echo_lost : a ≡ answer_of (A.dropped 28) → R ≡ None → Done (echoed S clock f h) a out out
     echo_lost is e = done_dropped 28 (echoed_none S f h clock (cc) (cc)) is
 
-    pub echo_sent : (hop : NextHop) → R ≡ Found hop → (n : ℕ) (out1 : List ℕ) → Replied (echo_reply S hop h clock body) n out out1
+    pub echo_sent : (hop : NextHop) → R ≡ Some hop → (n : ℕ) (out1 : List ℕ) → Replied (echo_reply S hop h clock body) n out out1
         → a ≡ wrote_by 54 n hop.neighbour → Done (echoed S clock f h) a out out1
     echo_sent hop e n out1 p = done_wrote 54 hop.neighbour n (echoed_over S f h clock (cc) hop (cc)) (rw held at p.wrote)
 
-pub ruleset echo_answer_laws = (rules, ready, body_held, body_within, held_least, held_most, reply_short, echo_other, echo_lost, echo_sent)
+pub ruleset echo_answer_laws = (rules, body_held, body_within, held_least, held_most, reply_short, echo_other, echo_lost, echo_sent)
 
 -- the two replies towards a next hop: what is written behind the link header makes one write
 module _ (S : Ways) (r : NextHop) (out : List ℕ) (roomy : 576 ≤ length out) where

@@ -1,6 +1,6 @@
 -- A buffer written in stages: what fits is written, and writes to places side by side are one write. So a link header, a forwarded frame behind
 -- it (its header and the rest in one, or another area before the inner frame), and the two replies. By laws of parts and of `put`.
-use Rattle.std.specs.Prelude.{if◌then◌else◌}
+use Rattle.std.specs.Prelude.{if◌then◌else◌, Ok}
 use Rattle.rules.specs as rules
 use rules.{Settings.Ways, Channel.echo_body, Channel.ethertype_channel, Channel.all_egress_rbridges}
 use rules.Link.{outer_tag, link, ethertype_tag, ethertype_trill}
@@ -22,11 +22,11 @@ use Rattle.rules.proofs.FrameLaws.{frame_read, link_length_lem}
 use mir.Syntax.{w8}
 use mir.Val as Val
 use Rattle.handler.specs
-use specs.Shapes.{link_size, Fits, sent_by, header_sent, rest_with, reply_octets, ways_by}
+use specs.Shapes.{link_size, Ready, sent_by, header_sent, rest_with, reply_octets, ways_by}
 use Rattle.octets.specs.Words.{octets64}
 use Rattle.octets.specs.Copy.{Wrote, fitting}
 use Rattle.octets.proofs.Ends.{copied, wrote_long, joined, copied_on}
-use rules.declared.{NextHop.NextHop, Header.Header, FrameRead.TheVariants.Trill}
+use rules.declared.{NextHop.NextHop, Header.Header}
 use specs.declared.way.{Own.Own, Lookup.Lookup}
 
 -- what is lent from a place on is what is left from there on
@@ -130,9 +130,9 @@ module _ (f : List ℕ) (h : Header) (area : List ℕ) where
       length-append (head ++ area) (inner_of f h) ∙ rw (length-append head area, length-drop (inner_start h) f)
 
 -- its header: the nicknames go on as they were received
-module _ (f : List ℕ) (h : Header) (read : read_frame f ≡ Trill h) (small : (i : ℕ) → Val.Fits w8 (get_or f i 0)) where
-  nicknames : octets16 h.egress ++ octets16 h.ingress ≡ part f (h.place + 2) 4
-  nicknames =
+module _ (f : List ℕ) (h : Header) (read : read_frame f ≡ Ok h) (small : (i : ℕ) → Val.Fits w8 (get_or f i 0)) where
+  pub nicknames_read : octets16 h.egress ++ octets16 h.ingress ≡ part f (h.place + 2) 4
+  nicknames_read =
       let is = frame_read f h read in
       let from = h.place + 2 in
       let next : h.place + 4 ≡ from + 2 = omega arith in
@@ -141,17 +141,21 @@ module _ (f : List ℕ) (h : Header) (read : read_frame f ≡ Trill h) (small : 
       let both : part f from 4 ≡ part f from 2 ++ part f (from + 2) 2 = take-add 2 2 (drop from f) ∙ rw drop-drop in
       ap (λ (x : List ℕ). x ++ octets16 h.ingress) one ∙ ap (λ (x : List ℕ). part f from 2 ++ x) two ∙ sym both
 
+module _ (f : List ℕ) (h : Header) (is : Ready f h) where
   rest_is : (area : List ℕ) → rest_with area f h ≡ header_sent f h (length area / 4) ++ area ++ inner_of f h
   unfolding rest_with
   rest_is area =
       let word = octets16 (sent_by h.word (length area / 4)) in
       ap (λ (x : List ℕ). x ++ area ++ inner_of f h)
-      (append_assoc word (octets16 h.egress) (octets16 h.ingress) ∙ ap (λ (x : List ℕ). word ++ x) nicknames)
+      (append_assoc word (octets16 h.egress) (octets16 h.ingress) ∙ ap (λ (x : List ℕ). word ++ x) is.nicknames)
 
-module _ (f : List ℕ) (h : Header) (whole : h.place + 6 ≤ length f) where
+module _ {f : List ℕ} {h : Header} (is : Ready f h) where
+  pub whole : h.place + 6 ≤ length f
+  whole = (frame_read f h is.read).whole
+
   header_long : (words : ℕ) → length (header_sent f h words) ≡ 6
   header_long words =
-      length-append (octets16 (sent_by h.word words)) (part f (h.place + 2) 4) ∙ rw (length_part f (h.place + 2) 4 (omega arith))
+      length-append (octets16 (sent_by h.word words)) (part f (h.place + 2) 4) ∙ rw (length_part f (h.place + 2) 4 (omega (arith, whole)))
 
   pub header_written : (words n : ℕ) (octets d d1 d2 : List ℕ) (at here end : ℕ) → n ≡ sent_by h.word words → octets ≡ octets16 n → at + 6 ≤ length d
       → Wrote (fitting d at octets) at here d d1
@@ -160,25 +164,25 @@ module _ (f : List ℕ) (h : Header) (whole : h.place + 6 ≤ length f) where
   header_written words n octets d d1 d2 at here end en eo room p q =
       let size : h.place + 2 + 4 - (h.place + 2) ≡ 4 = omega arith in
       let held : take (h.place + 2 + 4 - (h.place + 2)) (drop (h.place + 2) f) ≡ part f (h.place + 2) 4 = rw size in
-      copied_on (copied p (rw en at eo) (omega arith)) q held (omega (arith, length_part f (h.place + 2) 4 (omega arith)))
+      copied_on (copied p (rw en at eo) (omega arith)) q held (omega (arith, length_part f (h.place + 2) 4 (omega (arith, whole))))
 
 -- another area than the one received, then the inner frame
-module _ (area f : List ℕ) (h : Header) (d : List ℕ) (at : ℕ) (fits : Fits area f h d at) (small : (i : ℕ) → Val.Fits w8 (get_or f i 0)) where
-  pub with_written : (d1 d2 d3 : List ℕ) (here there inner words end : ℕ) → words ≡ length area / 4 → inner ≡ inner_start h
+module _ (area f : List ℕ) (h : Header) (d : List ℕ) (at : ℕ) (is : Ready f h) (room : at + length (rest_with area f h) ≤ length d) where
+  pub with_written : (d1 d2 d3 inner : List ℕ) (here there words end : ℕ) → words ≡ length area / 4 → inner ≡ inner_of f h
       → Wrote (header_sent f h words) at here d d1 → Wrote (fitting d1 here area) here there d1 d2
-      → Wrote (fitting d2 there (take (length f - inner) (drop inner f))) there end d2 d3 → Wrote (rest_with area f h) at end d d3
-  with_written d1 d2 d3 here there inner words end ew ei p q r =
+      → Wrote (fitting d2 there inner) there end d2 d3 → Wrote (rest_with area f h) at end d d3
+  with_written d1 d2 d3 inner here there words end ew ei p q r =
       let long = rest_long f h area in
-      let six = header_long f h (frame_read f h fits.read).whole (length area / 4) in
+      let six = header_long is (length area / 4) in
       let head = header_sent f h (length area / 4) in
-      let two = copied_on (rw ew at p) q refl (omega (arith, fits.room, long, six)) in
-      rw (rest_is f h fits.read small area)
-      (copied_on two r (lent_rest f inner ∙ rw ei) (omega (arith, fits.room, long, six, length-drop (inner_start h) f, length-append head area)))
+      let two = copied_on (rw ew at p) q refl (omega (arith, room, long, six)) in
+      rw (rest_is f h is area)
+      (copied_on two r ei (omega (arith, room, long, six, length-drop (inner_start h) f, length-append head area)))
 
 -- all behind the first word as it was received
-module _ (f : List ℕ) (h : Header) (d : List ℕ) (at : ℕ) (fits : Fits (area_of f h) f h d at) (small : (i : ℕ) → Val.Fits w8 (get_or f i 0)) where
+module _ (f : List ℕ) (h : Header) (d : List ℕ) (at : ℕ) (is : Ready f h) (room : at + length (rest_with (area_of f h) f h) ≤ length d) where
   area_long : length (area_of f h) ≡ 4 * op_length h.word
-  area_long = length_part f (h.place + 6) (4 * op_length h.word) fits.area_whole
+  area_long = length_part f (h.place + 6) (4 * op_length h.word) is.area_whole
 
   pub whole_written : (octets d1 d2 : List ℕ) (here words n end : ℕ) → words ≡ op_length h.word → n ≡ sent_by h.word words → octets ≡ octets16 n
       → Wrote (fitting d at octets) at here d d1
@@ -191,23 +195,16 @@ module _ (f : List ℕ) (h : Header) (d : List ℕ) (at : ℕ) (fits : Fits (are
       let next : h.place + 2 + 4 ≡ h.place + 6 = omega arith in
       let behind : four ++ (area ++ inner_of f h) ≡ drop (h.place + 2) f =
       rw (drop_part f (h.place + 6) (4 * op_length h.word)) (rw next at (drop_part f (h.place + 2) 4)) in
-      let first : Wrote word at here d d1 = copied p (rw (en, quarter) at eo) (omega (arith, fits.room, rest_long f h area)) in
-      rw (rest_is f h fits.read small area, append_assoc (word ++ four) area (inner_of f h), append_assoc word four (area ++ inner_of f h), behind)
-      (copied_on first q (lent_rest f (h.place + 2)) (omega (arith, fits.room, length-drop (h.place + 2) f, rest_long f h area, area_long)))
+      let first : Wrote word at here d d1 = copied p (rw (en, quarter) at eo) (omega (arith, room, rest_long f h area)) in
+      rw (rest_is f h is area, append_assoc (word ++ four) area (inner_of f h), append_assoc word four (area ++ inner_of f h), behind)
+      (copied_on first q (lent_rest f (h.place + 2)) (omega (arith, room, length-drop (h.place + 2) f, rest_long f h area, area_long)))
 
-module _ {area f : List ℕ} {h : Header} {d : List ℕ} {at : ℕ} (fits : Fits area f h d at) where
-  pub fits_near : h.place ≤ 18
-  fits_near = omega (arith, (frame_read f h fits.read).its_place, link_length_lem f)
+pub header_room : (area f : List ℕ) (h : Header) (d : List ℕ) (at : ℕ) → at + length (rest_with area f h) ≤ length d → at + 6 ≤ length d
+header_room area f h d at room = omega (arith, rest_long f h area)
 
-  pub fits_whole : h.place + 6 ≤ length f
-  fits_whole = (frame_read f h fits.read).whole
+pub ruleset forward_laws = (rules, whole, header_room, with_written, whole_written)
 
-  pub fits_header : at + 6 ≤ length d
-  fits_header = omega (arith, fits.room, rest_long f h area)
-
-pub ruleset forward_laws = (rules, fits_near, fits_whole, fits_header, with_written, whole_written)
-
-pub ruleset header_laws = (rules, header_written)
+pub ruleset header_laws = (rules, whole, header_written)
 
 module _ (own : Own) (ingress number code : ℕ) where
   abbrev reply : List ℕ
@@ -247,6 +244,11 @@ module _ (own : Own) (ingress number code : ℕ) where
 
 pub ruleset write_head_laws = (rules, head_room, reply_written)
 
+-- the head with the ERR value of a fault
+pub error_at : (own : Own) (ingress protocol code err : ℕ) → err ≡ code → (at end : ℕ) (d d1 : List ℕ)
+    → Wrote (reply_octets own ingress protocol err) at end d d1 → Wrote (reply_octets own ingress protocol code) at end d d1
+error_at own ingress protocol code err e at end d d1 w = rw e at w
+
 pub error_head : (at : ℕ) (d : List ℕ) → at + 156 ≤ length d → at + 28 ≤ length d
 error_head at d h = omega arith
 
@@ -261,30 +263,15 @@ module _ (f : List ℕ) (n : ℕ) where
   pub cited_most : take (n + 128 - n) (drop n f) ≡ take 128 (drop n f)
   cited_most = let e : n + 128 - n ≡ 128 = omega arith in rw e
 
-pub ruleset cited_laws = (rules, cited_all, cited_most)
-
-pub ruleset write_error_laws = (rules, error_head, error_written)
+pub ruleset write_error_laws = (rules, error_at, error_head, error_written)
 
 pub ruleset write_echo_laws = (rules, echo_head, echo_fits, echo_written)
-
--- six octets one by one
-six_is : (s : List ℕ) → length s ≡ 6 → (get_or s 0 0 ∷ get_or s 1 0 ∷ get_or s 2 0 ∷ get_or s 3 0 ∷ get_or s 4 0 ∷ get_or s 5 0 ∷ []) ≡ s
-six_is s n =
-    sym (drop-cons s 0 0 (omega arith)
-    ∙ rw (
-      drop-cons s 1 0 (omega arith),
-      drop-cons s 2 0 (omega arith),
-      drop-cons s 3 0 (omega arith),
-      drop-cons s 4 0 (omega arith),
-      drop-cons s 5 0 (omega arith),
-      drop_of_length-le s {i = 6} (omega arith),
-    ))
 
 -- an echo body, answered: written in whole, then two of its parts over it
 module _ (body clock : List ℕ) (long : 18 ≤ length body) (six : length clock ≡ 6) (at end here there a o : ℕ) (d d1 d2 d3 : List ℕ)
     (room : at + length body ≤ length d) where
   pub body_written : Wrote (fitting d at body) at end d d1 → Wrote (fitting d1 at (a ∷ [])) at here d1 d2
-      → Wrote (fitting d2 (at + 12) (get_or clock 0 0 ∷ get_or clock 1 0 ∷ get_or clock 2 0 ∷ get_or clock 3 0 ∷ get_or clock 4 0 ∷ get_or clock 5 0 ∷ []))
+      → Wrote (fitting d2 (at + 12) clock)
       (at + 12) there d2 d3 → a ≡ 64 + o % 16 → o ≡ octet body 0 → Wrote (echo_body body clock) at end d d3
   unfolding echo_body
   body_written p q r ea eo =
@@ -292,7 +279,7 @@ module _ (body clock : List ℕ) (long : 18 ≤ length body) (six : length clock
       let kept = wrote_long whole (omega (arith, whole.ends)) in
       let first = copied q refl (omega (arith, kept)) in
       let same = wrote_long first (omega (arith, first.ends, kept)) in
-      let timed : Wrote clock (at + 12) there d2 d3 = copied r (six_is clock six) (omega (arith, same, kept)) in
+      let timed : Wrote clock (at + 12) there d2 d3 = copied r refl (omega (arith, same, kept)) in
       let is : a ≡ 64 + octet body 0 % 16 = rw eo at ea in
       let eleven = part body 1 11 in
       let one = length_part body 1 11 (omega arith) in

@@ -1,4 +1,5 @@
 -- A task carried out: the answer without what is replied to an alert, the reply to one, and both together as the rules have them. By one law for each need.
+use Rattle.std.specs.Prelude.{Option, Some, None, Result, Ok, Err}
 use Rattle.rules.specs as rules
 use rules.Handling.{forwarded_rest, forwarded, onward, faulted, echoed, routed, transit, alerted, alert_of, channelled}
 use rules.{Settings.Ways, Options.WellFormed, Options.draft_stops, Link.link}
@@ -19,42 +20,41 @@ use borrow.Author.Tests.{not-true, not-false}
 use lib.Dec.{ltb, eqb}
 use lib.Seq.{length-take-le, drop-append-le}
 use lib.ListN.{length, length-append, length-take, length-drop, take, drop, take-append-drop, get_or, get_or-eq_default}
-use rules.declared.{NextHop.NextHop, Header.Header, Ruling.Ruling, Alert.Alert, ChannelRead.ChannelRead}
-use rules.declared.Ruling.TheVariants.{Found, Absent}
+use rules.declared.{NextHop.NextHop, Header.Header, Alert.Alert, ChannelRead.ChannelRead}
 use rules.declared.Alert.TheVariants.{NoAlert, AlertFault, AlertErr, AlertRequest}
 use rules.declared.ChannelRead.TheVariants.{Fault, BadErr, ErrorHeard, BadEcho, EchoHeard, EchoRequest}
 use Rattle.rules.proofs.{TestLaws.by_test, OctetLaws.put_none, OctetLaws.put_front}
 use Rattle.rules.proofs.HandlingLaws.{echo_ranged, channel_echo, routed_egress, routed_transit}
 use Rattle.handler.specs
-use specs.declared.answers.{Refusal.Refusal, Answer.Answer}
-use specs.declared.answers.Refusal.TheVariants.{Refused, Passed}
+use specs.declared.answers.Answer.{Answer}
+use specs.declared.options.AreaFault.{AreaFault}
+use rules.declared.{Number.Number, ChannelFault.ChannelFault}
 use specs.declared.way.{Own.Own, Lookup.Lookup}
 use specs.declared.handling.{Local.Local, Task.Task}
 use specs.declared.handling.Local.TheVariants.{Dropped, Answered, Message}
-use specs.declared.handling.Task.TheVariants.{Stopped, Forward}
 use specs.Tasks.{PutAside, alert_refusal, alert_quiet, transit_quiet, transit_at, messaged, local_at, asks_back, Answerable}
-use specs.Tasks.{Forwardable, Ends, Comes, Routes, Arrives, Replies, RepliesBy, Both}
+use specs.Tasks.{Ends, Comes, Routes, Arrives, Replies, Both}
 use specs.Shapes.{sent_of, answer_of, wrote_by, beside_by, Owns, Sends, only_for, ways_by, Ready, Done}
 use Rattle.rules.specs.Answer as A
 
 -- 21, the alert's 25 and 26, and 50
-module _ (T : Ways) (f : List ℕ) (h : Header) (alert : Alert) (out : List ℕ) (R : Ruling) (asks : R ≡ T.hop h.egress) where
-  pub transit_lost : (a : Answer) → a ≡ answer_of (A.dropped 21) → R ≡ Absent → Done (transit_quiet T f h alert) a out out
+module _ (T : Ways) (f : List ℕ) (h : Header) (alert : Alert) (out : List ℕ) (R : Option NextHop) (asks : R ≡ T.hop h.egress) where
+  pub transit_lost : (a : Answer) → a ≡ answer_of (A.dropped 21) → R ≡ None → Done (transit_quiet T f h alert) a out out
   unfolding transit_quiet
   transit_lost a is e = done_dropped 21 (cc) is
 
-  module _ (r : NextHop) (found : R ≡ Found r) (x : Refusal) (refuses : x ≡ alert_refusal alert) (a : Answer) where
-    pub transit_refused : (n : ℕ) → x ≡ Refused n → a ≡ answer_of (A.dropped n) → Done (transit_quiet T f h alert) a out out
+  module _ (r : NextHop) (found : R ≡ Some r) (x : Result (Unit {0}) Number) (refuses : x ≡ alert_refusal alert) (a : Answer) where
+    pub transit_refused : (n : Number) → x ≡ Err n → a ≡ answer_of (A.dropped (A.number_of n)) → Done (transit_quiet T f h alert) a out out
     unfolding transit_quiet
-    transit_refused n e is = done_dropped n (rw (transit_quiet, sym asks ∙ found, ← refuses, e)) is
+    transit_refused n e is = done_dropped (A.number_of n) (rw (transit_quiet, sym asks ∙ found, ← refuses, e)) is
 
-    pub transit_sent : x ≡ Passed → (out1 : List ℕ) → Done (onward T r f h [] 0) a out out1 → Done (transit_quiet T f h alert) a out out1
+    pub transit_sent : {passed : Unit {0}} → x ≡ Ok passed → (out1 : List ℕ) → Done (onward T r f h [] 0) a out out1 → Done (transit_quiet T f h alert) a out out1
     unfolding transit_quiet
     transit_sent e out1 d = rw (transit_quiet, sym asks ∙ found, ← refuses, e) d
 
-pub plain_forwarded : (T : Ways) (f : List ℕ) (h : Header) (R : Ruling) → R ≡ T.hop h.egress → (r : NextHop) → R ≡ Found r
+pub plain_forwarded : (T : Ways) (f : List ℕ) (h : Header) (R : Option NextHop) → R ≡ T.hop h.egress → (r : NextHop) → R ≡ Some r
     → (a : Answer) (out out1 : List ℕ) → Done (onward T r f h [] 0) a out out1 → Done (transit_quiet T f h NoAlert) a out out1
-plain_forwarded T f h R asks r found a out out1 = transit_sent T f h NoAlert out R asks r found Passed refl a refl out1
+plain_forwarded T f h R asks r found a out out1 = transit_sent T f h NoAlert out R asks r found (Ok Prim.tt) refl a refl out1
 
 pub ruleset transit_laws = (rules, transit_lost, transit_refused, transit_sent)
 
@@ -63,9 +63,9 @@ pub ruleset forward_laws = (rules, plain_sent, transit_lost, plain_forwarded)
 -- what a channel message comes to, by what it is found to be
 module _ (S : Ways) (clock f : List ℕ) (h : Header) (inner : List ℕ) (held : inner ≡ inner_of f h) (read : ChannelRead) (is : read ≡ channel_read inner)
     (r : Answer) (out : List ℕ) where
-  pub message_fault : (code : ℕ) → read ≡ Fault code → (out1 : List ℕ) → Done (faulted S f h code) r out out1 → Done (messaged S clock f h) r out out1
+  pub message_fault : (x : ChannelFault) → read ≡ Fault x → (out1 : List ℕ) → Done (faulted S f h (A.err_of x)) r out out1 → Done (messaged S clock f h) r out out1
   unfolding channelled
-  message_fault code e out1 d = let found : channel_read (inner_of f h) ≡ Fault code = cc in rw found d
+  message_fault x e out1 d = let found : channel_read (inner_of f h) ≡ Fault x = cc in rw found d
 
   pub message_request : read ≡ EchoRequest → (out1 : List ℕ) → Done (echoed S clock f h) r out out1 → Done (messaged S clock f h) r out out1
   unfolding channelled
@@ -104,8 +104,6 @@ module _ (f : List ℕ) (h : Header) (inner : List ℕ) (held : inner ≡ inner_
 
 pub ruleset message_laws = (
   rules,
-  ready,
-  inner_held,
   message_fault,
   message_request,
   message_err,
@@ -118,26 +116,51 @@ pub ruleset message_laws = (
 
 -- what is not forwarded
 module _ (S : Ways) (clock f : List ℕ) (h : Header) (local : Local) (r : Answer) (out : List ℕ) where
-  pub local_dropped : (n : ℕ) → local ≡ Dropped n → r ≡ answer_of (A.dropped n) → Done (local_at S clock f h local) r out out
-  local_dropped n e is = rw e (done_dropped n refl is)
+  pub local_dropped : (n : Number) → local ≡ Dropped n → r ≡ answer_of (A.dropped (A.number_of n)) → Done (local_at S clock f h local) r out out
+  local_dropped n e is = rw e (done_dropped (A.number_of n) refl is)
 
-  pub local_answered : (n start size : ℕ) → local ≡ Answered n start size → r ≡ answer_of (A.delivered n start size) → Done (local_at S clock f h local) r out out
-  local_answered n start size e is = rw e (done_unwritten n start size refl is)
+  pub local_answered : (n : Number) (start size : ℕ) → local ≡ Answered n start size → r ≡ answer_of (A.delivered (A.number_of n) start size) → Done (local_at S clock f h local) r out out
+  local_answered n start size e is = rw e (done_unwritten (A.number_of n) start size refl is)
 
   pub local_message : local ≡ Message → (out1 : List ℕ) → Done (messaged S clock f h) r out out1 → Done (local_at S clock f h local) r out out1
   local_message e out1 d = rw e d
 
 module _ {local : Local} (x : Ends local) where
-  pub ends_start : (n start size : ℕ) → local ≡ Answered n start size → start ≤ 2048
+  pub ends_start : (n : Number) (start size : ℕ) → local ≡ Answered n start size → start ≤ 2048
   ends_start n start size e = (rw e at x).0
 
-  pub ends_size : (n start size : ℕ) → local ≡ Answered n start size → size ≤ 2048
+  pub ends_size : (n : Number) (start size : ℕ) → local ≡ Answered n start size → size ≤ 2048
   ends_size n start size e = (rw e at x).1
+
+-- a message is answered by a number, what was written and its neighbour
+abbrev Bare : A.Handled → Type 0
+Bare a = answer_of a ≡ wrote_by a.number (length a.octets) a.via
+
+message_bare : (S : Ways) (clock f : List ℕ) (h : Header) (c : ChannelRead) → Bare (channelled S clock f h c)
+unfolding channelled faulted echoed
+message_bare S clock f h (Fault code) =
+    by_test (silenced (A.err_of code) (inner_of f h)) (λ t. rw t refl) (λ t. by_hop (return_path S h.ingress) (λ q. rw (t, q) refl) (λ r q. rw (t, q) refl))
+message_bare S clock f h BadErr = refl
+message_bare S clock f h ErrorHeard = refl
+message_bare S clock f h BadEcho = refl
+message_bare S clock f h EchoHeard = refl
+message_bare S clock f h EchoRequest =
+    by_test (not (eqb (reply_mode (body_of (inner_of f h))) 2)) (λ t. rw t refl)
+    (λ t. by_hop (return_path S h.ingress) (λ q. rw (t, q) refl) (λ r q. rw (t, q) refl))
+
+pub reply_copied : (S : Ways) (clock f : List ℕ) (h : Header) (r a : Answer) → r ≡ wrote_by a.number a.written a.neighbour → (out out1 : List ℕ)
+    → Done (messaged S clock f h) a out out1 → Done (messaged S clock f h) r out out1
+reply_copied S clock f h r a made out out1 d =
+    record {
+      answer = made ∙ rw d.answer (sym (message_bare S clock f h (channel_read (inner_of f h))));
+      after = d.after;
+      alone = d.alone;
+    }
 
 pub room_576 : (out : List ℕ) → 2048 ≤ length out → 576 ≤ length out
 room_576 out h = omega arith
 
-pub ruleset local_laws = (rules, local_dropped, local_answered, local_message, ends_start, ends_size, room_576)
+pub ruleset local_laws = (rules, reply_copied, local_dropped, local_answered, local_message, ends_start, ends_size, room_576)
 
 -- with nothing beside it
 pub both_of : {a : A.Handled} {r : Answer} {out out1 : List ℕ} (beside : List ℕ) → Done a r out out1 → Both a r out out1 beside beside
@@ -219,15 +242,13 @@ arrives_plain rfc7179 f h n is z local x =
       ends = x.ends;
     }
 
-pub ruleset at_egress_laws = (rules, ready, area_held, area_made, read_well, arrives_plain, arrives_faulty)
+pub ruleset at_egress_laws = (rules, area_made, read_well, arrives_plain, arrives_faulty)
 
 pub comes_ends : {f : List ℕ} {h : Header} {local : Local} → Comes f h local → Ends local
 comes_ends x = x.ends
 
 pub owns_named : {own : Own} {S : Ways} → Owns own S → own.nickname ≡ S.nickname
 owns_named x = x.named
-
-pub ruleset plain_in_laws = (rules, comes_ends, owns_named, plain_egress, plain_transit, quiet_lookup)
 
 -- a frame in transit without what is replied to an alert, and with it: by the next hop
 module _ (S : Ways) (clock f : List ℕ) (h : Header) (P : A.Handled → A.Handled → Type 0) where
@@ -269,12 +290,12 @@ module _ (S : Ways) (clock f : List ℕ) (h : Header) where
 pub asks_so : (alert : Alert) (asks : Bool) → asks ≡ asks_back alert → not asks ≡ false → asks_back alert ≡ true
 asks_so alert asks is n = sym is ∙ not-false asks n
 
-pub forwardable_ready : {f : List ℕ} {h : Header} {alert : Alert} → Forwardable f h alert → Ready f h
-forwardable_ready x = x.is_ready
+pub ruleset carry_laws = (rules, sends_lookup, quiet_lookup, transit_replied)
 
-pub ruleset transit_in_laws = (rules, sends_lookup, quiet_lookup)
-
-pub ruleset forward_in_laws = (rules, forwardable_ready, transit_replied)
+-- by the same switch asked for another destination
+pub messaged_same : (S T : Ways) → T ≡ S → (clock f : List ℕ) (h : Header) (r : Answer) (out out1 : List ℕ) → Done (messaged T clock f h) r out out1
+    → Done (messaged S clock f h) r out out1
+messaged_same S T e clock f h r out out1 d = rw e at d
 
 -- the reply to an alert: an error in place of 25, or an echo reply beside 50
 module _ (S : Ways) (clock f : List ℕ) (h : Header) where
@@ -323,55 +344,31 @@ module _ (S : Ways) (clock f : List ℕ) (h : Header) where
         let echo = rw x at p in
         record { answer = rw (d.answer, echo.answer); after = d.after; after_beside = echo.after })
 
-    module _ (alert : Alert) (asks : asks_back alert ≡ true) (x : Forwardable f h alert) where
+    module _ (alert : Alert) (asks : asks_back alert ≡ true) (x : Answerable f h alert) where
       pub replies_fault : a.number ≡ 25 → (r : Answer) (out1 : List ℕ) → Done (messaged S clock f h) r out out1
           → Replies S clock f h alert a r out out1 beside beside
-      replies_fault e r out1 p = record { over = fault_so alert e r out1 p asks x.answerable }
+      replies_fault e r out1 p = record { over = fault_so alert e r out1 p asks x }
 
       module _ (k : a.number ≡ 25 → ⊥) where
         pub replies_none : (a.number ≡ 50 → ⊥) → Replies S clock f h alert a a out out beside beside
-        replies_none n = record { over = none_so alert k n asks x.answerable }
+        replies_none n = record { over = none_so alert k n asks x }
 
         pub replies_beside : a.number ≡ 50 → (b : Answer) (beside1 : List ℕ) → Done (messaged S clock f h) b beside beside1 → (r : Answer) → r ≡ beside_by a b
             → Replies S clock f h alert a r out out beside beside1
-        replies_beside e b beside1 p r is = rw is (record { over = beside_so alert e b beside1 p asks x.answerable })
+        replies_beside e b beside1 p r is = rw is (record { over = beside_so alert e b beside1 p asks x })
 
-pub ruleset reply_in_laws = (rules, asks_so, replies_quiet)
-
-pub ruleset answer_in_laws = (rules, forwardable_ready, room_576, replies_fault, replies_none, replies_beside)
-
--- the same by what is looked up for the ingress
-module _ (B : Ways) (clock f : List ℕ) (h : Header) (a : Answer) (out beside : List ℕ) (alert : Alert) (asks : asks_back alert ≡ true)
-    (x : Forwardable f h alert) where
-  pub answers_fault : a.number ≡ 25 → (r : Answer) (out1 : List ℕ) → Done (messaged B clock f h) r out out1
-      → RepliesBy B clock f h alert a r out out1 beside beside
-  answers_fault e r out1 p = record { at_switch = λ S same. replies_fault S clock f h a out beside alert asks x e r out1 (rw same p) }
-
-  module _ (k : a.number ≡ 25 → ⊥) where
-    pub answers_none : (a.number ≡ 50 → ⊥) → RepliesBy B clock f h alert a a out out beside beside
-    answers_none n = record { at_switch = λ S same. replies_none S clock f h a out beside alert asks x k n }
-
-    pub answers_beside : a.number ≡ 50 → (b : Answer) (beside1 : List ℕ) → Done (messaged B clock f h) b beside beside1 → (r : Answer) → r ≡ beside_by a b
-        → RepliesBy B clock f h alert a r out out beside beside1
-    answers_beside e b beside1 p r is =
-        record { at_switch = λ S same. replies_beside S clock f h a out beside alert asks x k e b beside1 (rw same p) r is }
-
-pub ruleset answer_by_laws = (rules, forwardable_ready, room_576, answers_fault, answers_none, answers_beside)
-
-pub finds : (S : Ways) (d : ℕ) (own : Own) (strip rfc7179 : Bool) (hop : Ruling) → Owns own S → strip ≡ S.strip → rfc7179 ≡ S.rfc7179 → hop ≡ S.hop d
-    → ways_by (record { own = own; strip = strip; rfc7179 = rfc7179; hop = hop }) ≡ only_for d S
-finds S d own strip rfc7179 hop o s t p = rw (o.named, o.addressed, s, t, p)
+pub ruleset reply_laws = (rules, messaged_same, asks_so, replies_quiet, room_576, replies_fault, replies_none, replies_beside)
 
 -- a frame in transit with an area, by its task
-module _ (S : Ways) (clock f : List ℕ) (h : Header) {rfc7179 strip : Bool} {kept : List ℕ} {task : Task} (x : Routes rfc7179 strip f h kept task)
+module _ (S : Ways) (clock f : List ℕ) (h : Header) {rfc7179 strip : Bool} {kept : List ℕ} {task : Result Task AreaFault} (x : Routes rfc7179 strip f h kept task)
     (away : we_are_egress S.nickname h ≡ false) (two : rfc7179 ≡ S.rfc7179) (r : Answer) (out beside : List ℕ) where
-  pub task_stopped : (number place : ℕ) → task ≡ Stopped number place → r ≡ answer_of (A.dropped_at number place)
+  pub task_stopped : (e : AreaFault) → task ≡ Err e → r ≡ answer_of (A.dropped_at (A.number_of e.number) e.place)
       → Both (routed S clock f h) r out out beside beside
-  task_stopped number place e is = rw (x.same S clock away two, e) (both_of beside (done_unwritten number place 0 refl is))
+  task_stopped e z is = rw (x.same S clock away two, z) (both_of beside (done_unwritten (A.number_of e.number) e.place 0 refl is))
 
-  pub task_forward : (alert : Alert) (size : ℕ) → task ≡ Forward alert size → (out1 beside1 : List ℕ)
-      → Both (transit_at S clock f h alert) r out out1 beside beside1 → Both (routed S clock f h) r out out1 beside beside1
-  task_forward alert size e out1 beside1 d = rw (x.same S clock away two, e) d
+  pub task_forward : (t : Task) → task ≡ Ok t → (out1 beside1 : List ℕ)
+      → Both (transit_at S clock f h t.alert) r out out1 beside beside1 → Both (routed S clock f h) r out out1 beside beside1
+  task_forward t e out1 beside1 d = rw (x.same S clock away two, e) d
 
 -- and one to us
 pub task_arrived : (S : Ways) (clock f : List ℕ) (h : Header) {rfc7179 : Bool} {local : Local} → Arrives rfc7179 f h local → rfc7179 ≡ S.rfc7179
@@ -383,34 +380,42 @@ task_arrived S clock f h x two nickname named egress e t r out out1 beside d =
 pub arrives_ends : {rfc7179 : Bool} {f : List ℕ} {h : Header} {local : Local} → Arrives rfc7179 f h local → Ends local
 arrives_ends x = x.ends
 
-module _ {rfc7179 strip : Bool} {f : List ℕ} {h : Header} {kept : List ℕ} {task : Task} (x : Routes rfc7179 strip f h kept task) where
-  pub left_stopped : (number place : ℕ) → task ≡ Stopped number place → place ≤ 2048
-  left_stopped number place e = rw e at x.left
+module _ {rfc7179 strip : Bool} {f : List ℕ} {h : Header} {kept : List ℕ} {task : Result Task AreaFault} (x : Routes rfc7179 strip f h kept task) where
+  pub left_stopped : (e : AreaFault) → task ≡ Err e → e.place ≤ 2048
+  left_stopped y e = rw e at x.left
 
-  module _ (alert : Alert) (size : ℕ) (e : task ≡ Forward alert size) where
-    pub left_onward : Forwardable f h alert
+  module _ (t : Task) (e : task ≡ Ok t) where
+    pub left_onward : Answerable f h t.alert
     left_onward = rw e at x.left
 
-    put_aside : PutAside (sent_of (strip && not rfc7179) (area_of f h)) kept size
+    put_aside : PutAside (sent_of (strip && not rfc7179) (area_of f h)) kept t.size
     put_aside = rw e at x.aside
 
-    pub aside_within : size ≤ length kept
+    pub aside_within : t.size ≤ length kept
     aside_within = omega (arith, put_aside.few, put_aside.wide)
 
-    pub aside_count : size ≡ length (take size kept)
-    aside_count = sym (length-take-le size kept aside_within)
+    pub aside_count : t.size ≡ length (take t.size kept)
+    aside_count = sym (length-take-le t.size kept aside_within)
 
-    pub aside_sent : (S : Ways) → strip ≡ S.strip → rfc7179 ≡ S.rfc7179 → Sends S f h (take size kept)
+    pub aside_sent : (S : Ways) → strip ≡ S.strip → rfc7179 ≡ S.rfc7179 → Sends S f h (take t.size kept)
     unfolding area_sent
     aside_sent S s two =
-        record { goes = rw (← s, ← two) put_aside.stands; few = omega (arith, length-take size kept, put_aside.few) }
+        record { goes = rw (← s, ← two) put_aside.stands; few = omega (arith, length-take t.size kept, put_aside.few) }
 
-pub ruleset task_laws =
-    (rules, owns_named, task_arrived, arrives_ends, task_stopped, task_forward, left_stopped, left_onward, aside_within, aside_count, aside_sent)
+pub ruleset route_laws = (rules, task_stopped, task_forward, left_stopped, left_onward, aside_within, aside_count, aside_sent)
 
-pub both_plain : (S : Ways) (clock f : List ℕ) (h : Header) (r : Answer) (out out1 beside : List ℕ) → Done (routed S clock f h) r out out1
-    → Both (routed S clock f h) r out out1 beside beside
-both_plain S clock f h r out out1 beside d = both_of beside d
+pub away_so : (S : Ways) (h : Header) (own : Own) → Owns own S → (egress : Bool) → egress ≡ we_are_egress own.nickname h → egress ≡ false
+    → we_are_egress S.nickname h ≡ false
+away_so S h own x egress e f = rw (← x.named) (sym e ∙ f)
+
+pub plain_done : (S : Ways) (clock f : List ℕ) (h : Header) (own : Own) → Owns own S → (egress : Bool) → egress ≡ we_are_egress own.nickname h → egress ≡ false
+    → (n : ℕ) → n ≡ op_length h.word → n ≡ 0 → (t : Lookup) → ways_by t ≡ only_for h.egress S → (r : Answer) (out out1 beside : List ℕ)
+    → Done (transit_quiet (ways_by t) f h NoAlert) r out out1 → Both (routed S clock f h) r out out1 beside beside
+plain_done S clock f h own o egress e q n is z t said r out out1 beside d =
+    both_of beside
+    (plain_transit S clock f h (sym is ∙ z) own.nickname o.named egress e r out out1 q (quiet_lookup S f h t r out out1 said NoAlert d))
+
+pub ruleset handle_at_laws = (rules, owns_named, task_arrived, arrives_ends, away_so, plain_done)
 
 -- what is written at the start of a buffer, by way of its first octets
 pub front_count : (out : List ℕ) → 576 ≤ length out → 576 ≡ length (take 576 out)
@@ -436,45 +441,4 @@ front_done a r out out1 d same =
       alone = d.alone;
     }
 
--- a message is answered by a number, what was written and its neighbour
-abbrev Bare : A.Handled → Type 0
-Bare a = answer_of a ≡ wrote_by a.number (length a.octets) a.via
-
-message_bare : (S : Ways) (clock f : List ℕ) (h : Header) (c : ChannelRead) → Bare (channelled S clock f h c)
-unfolding channelled faulted echoed
-message_bare S clock f h (Fault code) =
-    by_test (silenced code (inner_of f h)) (λ t. rw t refl) (λ t. by_hop (return_path S h.ingress) (λ q. rw (t, q) refl) (λ r q. rw (t, q) refl))
-message_bare S clock f h BadErr = refl
-message_bare S clock f h ErrorHeard = refl
-message_bare S clock f h BadEcho = refl
-message_bare S clock f h EchoHeard = refl
-message_bare S clock f h EchoRequest =
-    by_test (not (eqb (reply_mode (body_of (inner_of f h))) 2)) (λ t. rw t refl)
-    (λ t. by_hop (return_path S h.ingress) (λ q. rw (t, q) refl) (λ r q. rw (t, q) refl))
-
--- what is lent in a copy, or lent on
-pub lent_clock : (clock clock' : List ℕ) → clock' ≡ clock → length clock ≡ 6 → length clock' ≡ 6
-lent_clock clock clock' e long = rw e long
-
-module _ (f f' : List ℕ) (lent : f' ≡ f) (h x : Header) (same : x ≡ h) where
-  pub copy_ready : Ready f h → Ready f' x
-  copy_ready is = rw (lent, same) is
-
-  module _ (r a : Answer) (made : r ≡ a) (S S' : Ways) (ways : S' ≡ S) (clock clock' : List ℕ) (timed : clock' ≡ clock) (out out1 : List ℕ) where
-    pub copy_both : (beside beside1 : List ℕ) → Both (routed S' clock' f' x) a out out1 beside beside1 → Both (routed S clock f h) r out out1 beside beside1
-    copy_both beside beside1 d = rw (made, ← same, ← lent, ← ways, ← timed) d
-
-  pub copy_done : (r a : Answer) → r ≡ wrote_by a.number a.written a.neighbour → (S S' : Ways) → S' ≡ S → (clock clock' : List ℕ) → clock' ≡ clock
-      → (out out1 : List ℕ) → Done (messaged S' clock' f' x) a out out1 → Done (messaged S clock f h) r out out1
-  copy_done r a made S S' ways clock clock' timed out out1 d =
-      rw (← same, ← lent, ← ways, ← timed)
-      (record {
-        answer = made ∙ rw d.answer (sym (message_bare S' clock' f' x (channel_read (inner_of f' x))));
-        after = d.after;
-        alone = d.alone;
-      })
-
-pub copy_owns : (own x : Own) → x ≡ own → (S S' : Ways) → S' ≡ S → Owns own S → Owns x S'
-copy_owns own x same S S' ways o = rw (same, ways) o
-
-pub ruleset copies = (lent_clock, copy_ready, copy_both, copy_done, copy_owns)
+pub ruleset back_laws = (rules, back_message, front_count, front_room, front_done)

@@ -1,9 +1,9 @@
 -- The ranks met, the filter that stands for them, and what the loop over the settings fields keeps, from the first field to the verdict: the records
 -- read so far and the ranks met agree, and the rest of the fields decides as the whole does. By induction on the ranks, by cases on tests, and by one
 -- law of fields and of settings for each step.
+use Rattle.std.specs.Prelude.{Option, Some, None}
 use mathlib.Core.Path.{◌≡◌, refl, sym, ◌∙◌}
 use mathlib.Core.List.{List, [], ◌∷◌, ◌++◌, append_assoc}
-use mathlib.Core.Option.{Option}
 use mathlib.Core.Bool.{Bool, true, false, not, ◌&&◌, ◌||◌, or_assoc, true≢false, false≢true}
 use Prim.Native.Nat.{ℕ, suc, ◌+◌, ◌*◌, ◌<◌, ◌≤◌, ◌-◌}
 use native.Mathlib.Omega.{arith}
@@ -25,33 +25,32 @@ use specs.Ranks.{rank_of, mix_of, slot_by, mark_by, marked_by, covers_by, rank_m
 use specs.Ranks.{Kept, hop_taken, field_taken, Taking, Verdict}
 use rule_laws.FieldLaws.{field_read, fields_at_end, fields_at_cut, fields_at_on}
 use rules.declared.{NextHop.NextHop, FieldRead.FieldRead}
-use rules.declared.FieldRead.TheVariants.{Taken, Cut}
 use rule_laws.{SettingsLaws.from_on, SettingsLaws.from_bad, Taken.taken}
 use rule_laws.FirstLaws.{continues_cut, first, settings_open}
 
 -- the ranks among the fields from a place on, by the field there
 module _ (s : List ℕ) (at : ℕ) where
-  ranks_none : at < length s → field_at s at ≡ Cut → ranks_in (fields_at s at) ≡ []
+  ranks_none : at < length s → field_at s at ≡ None → ranks_in (fields_at s at) ≡ []
   unfolding ranks_in
   ranks_none h c = rw (fields_at_cut s at h c)
 
-  module _ (tag size next : ℕ) (t : field_at s at ≡ Taken tag size next) where
+  module _ (u : FieldRead) (t : field_at s at ≡ Some u) where
     abbrev value : List ℕ
-    value = part s (at + 3) (next - (at + 3))
+    value = part s (at + 3) (u.next - (at + 3))
 
-    pub fields_next : fields_at s at ≡ field tag value ∷ fields_at s next
+    pub fields_next : fields_at s at ≡ field u.tag value ∷ fields_at s u.next
     fields_next =
-        let i = field_read s at tag size next t in
-        let the_size : next - (at + 3) ≡ size = omega (arith, i) in
-        rw the_size (fields_at_on s at tag size next (omega (arith, i)) t)
+        let i = field_read s at u t in
+        let the_size : u.next - (at + 3) ≡ u.length = omega (arith, i) in
+        rw the_size (fields_at_on s at u (omega (arith, i)) t)
 
-    ranks_hop : tag ≡ 2 → ranks_in (fields_at s at) ≡ rank_of (hop_of value) ∷ ranks_in (fields_at s next)
+    ranks_hop : u.tag ≡ 2 → ranks_in (fields_at s at) ≡ rank_of (hop_of value) ∷ ranks_in (fields_at s u.next)
     unfolding ranks_in
     ranks_hop two = rw (fields_next, two)
 
-    ranks_flag : (tag ≡ 2 → ⊥) → ranks_in (fields_at s at) ≡ ranks_in (fields_at s next)
+    ranks_flag : (u.tag ≡ 2 → ⊥) → ranks_in (fields_at s at) ≡ ranks_in (fields_at s u.next)
     unfolding ranks_in
-    ranks_flag other = rw (fields_next, ne_eqb tag 2 other)
+    ranks_flag other = rw (fields_next, ne_eqb u.tag 2 other)
 
 -- the look at the first n records: whether the rank is among those left is whether it is met
 pub record Looking (s : List ℕ) (from n rank left at : ℕ) : Type 0 where
@@ -63,31 +62,31 @@ look_begins s from n rank = record { same = refl }
 module _ (s : List ℕ) (from n rank left at : ℕ) (l : Looking s from n rank left at) where
   pub look_done : left ≡ 0 → false ≡ rank_met rank (ranks_met s from n)
   unfolding rank_met
-  look_done none = rw none at l.same
+  look_done z = rw z at l.same
 
   pub look_end : length s ≤ at → false ≡ rank_met rank (ranks_met s from n)
   unfolding rank_met ranks_in
   look_end h = rw (fields_at_end s at h, take-nil) at l.same
 
-  module _ (read : FieldRead) (q : read ≡ field_at s at) where
-    pub look_cut : at < length s → read ≡ Cut → false ≡ rank_met rank (ranks_met s from n)
+  module _ (read : Option FieldRead) (q : read ≡ field_at s at) where
+    pub look_cut : at < length s → read ≡ None → false ≡ rank_met rank (ranks_met s from n)
     unfolding rank_met
     look_cut h c = rw (ranks_none s at h (sym q ∙ c), take-nil) at l.same
 
-    module _ (tag size next : ℕ) (t : read ≡ Taken tag size next) where
-      pub look_past : (tag ≡ 2 → ⊥) → Looking s from n rank left next
-      look_past other = record { same = rw (ranks_flag s at tag size next (sym q ∙ t) other) at l.same }
+    module _ (u : FieldRead) (t : read ≡ Some u) where
+      pub look_past : (u.tag ≡ 2 → ⊥) → Looking s from n rank left u.next
+      look_past other = record { same = rw (ranks_flag s at u (sym q ∙ t) other) at l.same }
 
-      module _ (two : tag ≡ 2) (some : left ≡ 0 → ⊥) (k : ℕ) (is : k ≡ rank_of (hop_of (part s (at + 3) (next - (at + 3))))) where
-        split : (fewer : ℕ) → left ≡ suc fewer → (eqb k rank || rank_met rank (take fewer (ranks_in (fields_at s next)))) ≡ rank_met rank (ranks_met s from n)
+      module _ (two : u.tag ≡ 2) (more : left ≡ 0 → ⊥) (k : ℕ) (is : k ≡ rank_of (hop_of (part s (at + 3) (u.next - (at + 3))))) where
+        split : (fewer : ℕ) → left ≡ suc fewer → (eqb k rank || rank_met rank (take fewer (ranks_in (fields_at s u.next)))) ≡ rank_met rank (ranks_met s from n)
         unfolding rank_met
-        split fewer more = rw is (rw (ranks_hop s at tag size next (sym q ∙ t) two, more) at l.same)
+        split fewer more = rw is (rw (ranks_hop s at u (sym q ∙ t) two, more) at l.same)
 
         pub look_found : k ≡ rank → true ≡ rank_met rank (ranks_met s from n)
-        look_found e = rw (eq-eqb k rank e) at (split (left - 1) (omega (arith, some)))
+        look_found e = rw (eq-eqb k rank e) at (split (left - 1) (omega (arith, more)))
 
-        pub look_on : (k ≡ rank → ⊥) → (fewer : ℕ) → fewer ≡ left - 1 → Looking s from n rank fewer next
-        look_on e fewer less = record { same = rw (ne_eqb k rank e) at (split fewer (omega (arith, some))) }
+        pub look_on : (k ≡ rank → ⊥) → (fewer : ℕ) → fewer ≡ left - 1 → Looking s from n rank fewer u.next
+        look_on e fewer less = record { same = rw (ne_eqb k rank e) at (split fewer (omega (arith, more))) }
 
 pub ruleset met_laws = (rules, taken, look_begins, look_done, look_end, look_cut, look_past, look_found, look_on)
 
@@ -287,48 +286,48 @@ module _ {s : List ℕ} {from : ℕ} {seen : List ℕ} {n at : ℕ} (j : Validat
   unfolding settings_from
   ends h T e = let w = j.rest T e in rw (← w.decides, fields_at_end s at h)
 
-  module _ (h : at < length s) {read : FieldRead} (q : read ≡ field_at s at) where
-    pub cut_off : read ≡ Cut → Verdict s from false
+  module _ (h : at < length s) {read : Option FieldRead} (q : read ≡ field_at s at) where
+    pub cut_off : read ≡ None → Verdict s from false
     cut_off c T e =
         let w = j.rest T e in
         rw (← w.decides, fields_at_cut s at h (sym q ∙ c), from_bad w.read cut [] (continues_cut w.read))
 
-    module _ {tag size next : ℕ} (taken : read ≡ Taken tag size next) where
+    module _ {u : FieldRead} (taken : read ≡ Some u) where
       abbrev v : List ℕ
-      v = part s (at + 3) (next - (at + 3))
+      v = part s (at + 3) (u.next - (at + 3))
 
-      pub on : fields_at s at ≡ field tag v ∷ fields_at s next
-      on = fields_next s at tag size next (sym q ∙ taken)
+      pub on : fields_at s at ≡ field u.tag v ∷ fields_at s u.next
+      on = fields_next s at u (sym q ∙ taken)
 
-      validated_so : (T : Settings) (e : T.hops ≡ []) {b : Bool} → field_taken met n tag v ≡ b → continues (j.rest T e).read (field tag v) ≡ b
-      validated_so T e g = continues_taken (j.rest T e).read v met n tag j.many (j.rest T e).agree ∙ g
+      validated_so : (T : Settings) (e : T.hops ≡ []) {b : Bool} → field_taken met n u.tag v ≡ b → continues (j.rest T e).read (field u.tag v) ≡ b
+      validated_so T e g = continues_taken (j.rest T e).read v met n u.tag j.many (j.rest T e).agree ∙ g
 
-      pub stops : field_taken met n tag v ≡ false → Verdict s from false
+      pub stops : field_taken met n u.tag v ≡ false → Verdict s from false
       stops g T e =
           let w = j.rest T e in
-          rw (← w.decides, on, from_bad w.read (field tag v) (fields_at s next) (validated_so T e g))
+          rw (← w.decides, on, from_bad w.read (field u.tag v) (fields_at s u.next) (validated_so T e g))
 
-      rest_on : field_taken met n tag v ≡ true → (T : Settings) → T.hops ≡ [] → Rest s (settings_from T (fields_at s from)) (ranks_with met tag v) next
+      rest_on : field_taken met n u.tag v ≡ true → (T : Settings) → T.hops ≡ [] → Rest s (settings_from T (fields_at s from)) (ranks_with met u.tag v) u.next
       rest_on g T e =
           let w = j.rest T e in
           record {
-            read = with_field w.read (field tag v);
-            decides = rw (← from_on w.read (field tag v) (fields_at s next) (validated_so T e g), ← on) w.decides;
-            agree = agree_with w.read tag v met w.agree;
+            read = with_field w.read (field u.tag v);
+            decides = rw (← from_on w.read (field u.tag v) (fields_at s u.next) (validated_so T e g), ← on) w.decides;
+            agree = agree_with w.read u.tag v met w.agree;
           }
 
       -- a record
-      module _ (two : tag ≡ 2) where
+      module _ (two : u.tag ≡ 2) where
         pub hop_stops : hop_taken met n (length v) (hop_of v) ≡ false → Verdict s from false
         unfolding field_taken
         hop_stops g = stops (rw two g)
 
-        pub hop_on : {seen' : List ℕ} → hop_taken met n (length v) (hop_of v) ≡ true → Kept (with_rank met (hop_of v)) seen' → Validating s from seen' (n + 1) next
+        pub hop_on : {seen' : List ℕ} → hop_taken met n (length v) (hop_of v) ≡ true → Kept (with_rank met (hop_of v)) seen' → Validating s from seen' (n + 1) u.next
         unfolding field_taken ranks_with hop_taken
         hop_on g k =
             let ranks = ranks_in (fields_at s from) in
-            let rest = ranks_in (fields_at s next) in
-            let parts : ranks ≡ met ++ (rank_of (hop_of v) ∷ rest) = rw (ranks_hop s at tag size next (sym q ∙ taken) two) at j.split in
+            let rest = ranks_in (fields_at s u.next) in
+            let parts : ranks ≡ met ++ (rank_of (hop_of v) ∷ rest) = rw (ranks_hop s at u (sym q ∙ taken) two) at j.split in
             let more = grown ranks met rest (rank_of (hop_of v)) n parts j.many in
             record {
               kept = rw more k;
@@ -339,26 +338,26 @@ module _ {s : List ℕ} {from : ℕ} {seen : List ℕ} {n at : ℕ} (j : Validat
             }
 
       -- a flag
-      module _ (other : tag ≡ 2 → ⊥) {code : ℕ} (is : code ≡ flag_by tag v) where
+      module _ (other : u.tag ≡ 2 → ⊥) {code : ℕ} (is : code ≡ flag_by u.tag v) where
         pub flag_stops : (code ≡ 0 → ⊥) → Verdict s from false
         unfolding field_taken
-        flag_stops z = stops (rw (ne_eqb tag 2 other, ← is) (ne_eqb code 0 z))
+        flag_stops z = stops (rw (ne_eqb u.tag 2 other, ← is) (ne_eqb code 0 z))
 
-        pub flag_on : code ≡ 0 → Validating s from seen n next
+        pub flag_on : code ≡ 0 → Validating s from seen n u.next
         unfolding field_taken ranks_with
         flag_on z =
             record {
               kept = j.kept;
               few = j.few;
               many = j.many;
-              split = rw (ranks_flag s at tag size next (sym q ∙ taken) other) at j.split;
-              rest = rw (ne_eqb tag 2 other) at (rest_on (rw (ne_eqb tag 2 other, ← is) (eq-eqb code 0 z)));
+              split = rw (ranks_flag s at u (sym q ∙ taken) other) at j.split;
+              rest = rw (ne_eqb u.tag 2 other) at (rest_on (rw (ne_eqb u.tag 2 other, ← is) (eq-eqb code 0 z)));
             }
 
 -- the first field
-module _ (s : List ℕ) {tag size next : ℕ} (e : field_at s 0 ≡ Taken tag size next) where
-  pub settings_so : (r : Bool) → opens (field tag (part s 3 (next - 3))) ≡ true → Verdict s next r → r ≡ known (settings_of s)
+module _ (s : List ℕ) {u : FieldRead} (e : field_at s 0 ≡ Some u) where
+  pub settings_so : (r : Bool) → opens (field u.tag (part s 3 (u.next - 3))) ≡ true → Verdict s u.next r → r ≡ known (settings_of s)
   unfolding opened
   settings_so r o d =
-      let f = field tag (part s 3 (next - 3)) in
-      rw (settings_open s f (fields_at s next) (first s e) o) (d (opened f) refl)
+      let f = field u.tag (part s 3 (u.next - 3)) in
+      rw (settings_open s f (fields_at s u.next) (first s e) o) (d (opened f) refl)

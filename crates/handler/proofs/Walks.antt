@@ -1,5 +1,5 @@
 -- One option by its ways out; a walk: what was met and written so far, with what is found from here on, is what is found in all; the area by its summary.
-use Rattle.std.specs.Prelude.{if◌then◌else◌}
+use Rattle.std.specs.Prelude.{if◌then◌else◌, Result, Ok, Err}
 use mathlib.Core.Path.{◌≡◌, refl, sym, ap, ◌∙◌}
 use mathlib.Core.List.{List, [], ◌∷◌, ◌++◌, append_assoc, append-nil}
 use mathlib.Core.Bool.{Bool, true, false, not, ◌&&◌, ◌||◌}
@@ -11,7 +11,7 @@ use lib.ListN.{length, take, drop, get_or, replicate, take-append-drop, drop_of_
 use lib.Seq.{drop-cons, take_all, length-take-le}
 use Rattle.rules.specs as rules
 use rules.Octets.{be16, part, put}
-use rules.Options.{Taken, Fault, TlvOption, Options, options, fault, key_of, length_of, option_size, option_first, option_at, options_from, options_of}
+use rules.Options.{Taken, TlvOption, Options, options, fault, key_of, length_of, option_size, option_first, option_at, options_from, options_of}
 use rules.Options.{some_key, ie, hop_by_hop_critical, ingress_to_egress_critical, chbh, cite, summarized, draft_read, draft_stops}
 use rules.Options.{strippable, octets_of}
 use Rattle.rules.proofs.TestLaws.{by_test, and_left, and_no, and_yes, or_no, or_assoc, apart}
@@ -21,37 +21,12 @@ use Rattle.rules.proofs.OptionLaws.{options_on, walk_laid, kept_nothing, kept_no
 use Rattle.octets.specs.Copy.{Wrote, fitting}
 use Rattle.octets.proofs.Ends.{wrote_none, wrote_long, parts, copied, joined}
 use Rattle.handler.specs
-use specs.declared.options.{Cursor.Cursor, AreaRead.AreaRead}
-use specs.declared.options.AreaRead.TheVariants.{Read, Faulty}
+use specs.declared.options.{Cursor.Cursor, AreaFault.AreaFault}
+use rules.declared.Number.{Number}
+use rules.declared.Number.TheVariants.{ReservedLength, OptionCut, KeyBelow, KeyEqual, ChbhMissing, CiteMissing}
 use specs.Shapes.{AreaWords, CursorIn, WholeOption, cursor_by, read_by, sent_of, options_sent, ended, found_by, walk_of}
 use specs.Shapes.{AreaWalked, OptionsChecked, summarized_by, area_read_of, AreaKept, AllKept}
-use specs.Treatment.{entry_in, Treats, transit_discards, egress_discards, stripped_by}
 use Rattle.rules.specs.Options as O
-
--- a critical option of one kind is none of the other
-egress_alone : (h e : Bool) → (h ≡ true → e ≡ false) → ((h || e) && not h) ≡ e
-egress_alone false e x = and_yes e
-egress_alone true e x = sym (x refl)
-
-critical_kinds : (key : ℕ) → hop_by_hop_critical key ≡ true → ingress_to_egress_critical key ≡ false
-critical_kinds key e = let i = eqb-true (ie key) 0 (search and_left) in rw (ne_eqb (ie key) 1 (omega arith))
-
--- what the table says of an option
-module _ {c : Cursor} {key n : ℕ} (b : WholeOption c key n) (table : List ℕ) (t : Treats table) (strip : Bool)
-    (size : ℕ) (sized : size ≡ option_size n) (entry : ℕ) (found : entry ≡ entry_in table key) where
-  pub behind_is : (gone : Bool) → gone ≡ (strip && stripped_by entry key n) → (to : ℕ) → to ≡ (if gone then c.to else c.to + size)
-      → (transit : Bool) → transit ≡ transit_discards entry → (hop : Bool) → hop ≡ (c.hop || transit)
-      → (alone : Bool) → alone ≡ (egress_discards entry && not (transit_discards entry)) → (egress : Bool) → egress ≡ (c.egress || alone)
-      → record { at = c.at + size; to = to; floor = key + 1; hop = hop; egress = egress } ≡ cursor_by strip c key n (c.at + option_size n)
-  behind_is gone g to e transit tr hop h alone a egress eg =
-      cc (
-        t.strip key n b.its_key,
-        t.transit key b.its_key,
-        t.egress key b.its_key,
-        egress_alone (hop_by_hop_critical key) (ingress_to_egress_critical key) (critical_kinds key),
-      )
-
-pub ruleset behind_laws = (rules, behind_is)
 
 -- one option, by its ways out
 module _ {area : List ℕ} {c : Cursor} (o : CursorIn area c) (more : c.at < length area) where
@@ -72,10 +47,10 @@ module _ {area : List ℕ} {c : Cursor} (o : CursorIn area c) (more : c.at < len
     taken : c.at + option_size (length_of (be16 area c.at)) ≡ c.at + size
     taken = rw (long, ← sized)
 
-    pub at_reserved : 119 ≤ n → Faulty 30 c.at ≡ read_by strip c found
+    pub at_reserved : 119 ≤ n → Err (record { number = ReservedLength; place = c.at }) ≡ read_by strip c found
     at_reserved h = ap (read_by strip c) (option_reserved area c.floor c.at (rw long h))
 
-    pub at_past : n < 119 → length area - c.at < size → Faulty 31 c.at ≡ read_by strip c found
+    pub at_past : n < 119 → length area - c.at < size → Err (record { number = OptionCut; place = c.at }) ≡ read_by strip c found
     at_past h p = ap (read_by strip c) (option_past area c.floor c.at (rw long h) (rw taken (omega arith)))
 
     module _ (p : size ≤ length area - c.at) (key : ℕ) (its_key : key ≡ key_of w) where
@@ -88,16 +63,16 @@ module _ {area : List ℕ} {c : Cursor} (o : CursorIn area c) (more : c.at < len
       keyed : key_of (be16 area c.at) ≡ key
       keyed = rw (here, its_key)
 
-      pub at_below : key + 1 < c.floor → Faulty 32 c.at ≡ read_by strip c found
+      pub at_below : key + 1 < c.floor → Err (record { number = KeyBelow; place = c.at }) ≡ read_by strip c found
       at_below k = ap (read_by strip c) (option_below area c.floor c.at small fits (rw keyed k))
 
-      pub at_equal : key + 1 ≤ c.floor → c.floor ≤ key + 1 → Faulty 33 c.at ≡ read_by strip c found
+      pub at_equal : key + 1 ≤ c.floor → c.floor ≤ key + 1 → Err (record { number = KeyEqual; place = c.at }) ≡ read_by strip c found
       at_equal k l = ap (read_by strip c) (option_equal area c.floor c.at small fits (rw keyed (omega arith)))
 
       pub at_whole : WholeOption c key n
       at_whole = record { its_key = omega (arith, its_key); short = omega arith; inside = omega arith; fewer = o.fewer }
 
-      pub at_read : c.floor < key + 1 → (d : Cursor) → d ≡ cursor_by strip c key n (c.at + option_size n) → Read d ≡ read_by strip c found
+      pub at_read : c.floor < key + 1 → (d : Cursor) → d ≡ cursor_by strip c key n (c.at + option_size n) → Ok d ≡ read_by strip c found
       at_read k d is = cc (option_taken area c.floor c.at small fits (rw keyed (omega arith)), keyed, long)
 
 pub ruleset option_at_laws = (rules, option_there, at_reserved, at_past, at_below, at_equal, at_whole, at_read)
@@ -174,15 +149,15 @@ walk_begin strip area kept words h =
     }
 
 -- by what is read, of one option and of all
-by_read : {X : Type 0} (o : O.OptionRead) → ((m q : ℕ) → o ≡ Fault m q → X) → ((key size next : ℕ) → o ≡ Taken key size next → X) → X
-by_read (Fault m q) bad good = bad m q refl
+by_read : {X : Type 0} (o : O.OptionRead) → ((m : Number) (q : ℕ) → o ≡ O.Fault m q → X) → ((key size next : ℕ) → o ≡ Taken key size next → X) → X
+by_read (O.Fault m q) bad good = bad m q refl
 by_read (Taken key size next) bad good = good key size next refl
 
-by_options : {X : Type 0} (o : Options) → ((m q : ℕ) → o ≡ fault m q → X) → ((os : List TlvOption) → o ≡ options os → X) → X
+by_options : {X : Type 0} (o : Options) → ((m : Number) (q : ℕ) → o ≡ fault m q → X) → ((os : List TlvOption) → o ≡ options os → X) → X
 by_options (fault m q) bad good = bad m q refl
 by_options (options os) bad good = good os refl
 
-read_same : {c d : Cursor} → Read c ≡ Read d → c ≡ d
+read_same : {c d : Cursor} → ◌≡◌ {A = Result Cursor AreaFault} (Ok c) (Ok d) → c ≡ d
 read_same e = cc
 
 -- what is known of the next place
@@ -201,7 +176,7 @@ module _ {strip : Bool} {area kept₀ kept : List ℕ} {c : Cursor} (w : Walking
   wide : length kept ≡ 124
   wide = wrote_long w.wrote (omega arith) ∙ entry
 
-  pub walk_end : length area ≤ c.at → AreaWalked strip area kept₀ kept (Read c)
+  pub walk_end : length area ≤ c.at → AreaWalked strip area kept₀ kept (Ok c)
   walk_end h =
       record {
         written = w.written;
@@ -211,9 +186,9 @@ module _ {strip : Bool} {area kept₀ kept : List ℕ} {c : Cursor} (w : Walking
         wide = wide;
       }
 
-  module _ (h : c.at < length area) (read : AreaRead) (r : read ≡ read_by strip c (option_at area c.floor c.at)) where
-    pub walk_stop : (number place : ℕ) → read ≡ Faulty number place → AreaWalked strip area kept₀ kept read
-    walk_stop number place e =
+  module _ (h : c.at < length area) (read : Result Cursor AreaFault) (r : read ≡ read_by strip c (option_at area c.floor c.at)) where
+    pub walk_stop : (x : AreaFault) → read ≡ Err x → AreaWalked strip area kept₀ kept read
+    walk_stop x e =
         record {
           written = [];
           found =
@@ -225,7 +200,7 @@ module _ {strip : Bool} {area kept₀ kept : List ℕ} {c : Cursor} (w : Walking
           wide = wide;
         }
 
-    module _ (d : Cursor) (e : read ≡ Read d) where
+    module _ (d : Cursor) (e : read ≡ Ok d) where
       next : Next strip area kept₀ kept c d
       next =
           by_read (option_at area c.floor c.at)
@@ -297,14 +272,14 @@ check_begin area words h =
     record { kept₀ = kept; kept = kept; entry = refl; walking = walk_begin false area kept words h }
 
 module _ {area : List ℕ} {c : Cursor} (w : Checking area c) where
-  pub check_end : length area ≤ c.at → OptionsChecked area (Read c)
+  pub check_end : length area ≤ c.at → OptionsChecked area (Ok c)
   check_end h = let x = walk_end w.walking w.entry h in record { written = x.written; found = x.found }
 
-  module _ (h : c.at < length area) (read : AreaRead) (r : read ≡ read_by false c (option_at area c.floor c.at)) where
-    pub check_stop : (number place : ℕ) → read ≡ Faulty number place → OptionsChecked area read
-    check_stop number place e = let x = walk_stop w.walking w.entry h read r number place e in record { written = x.written; found = x.found }
+  module _ (h : c.at < length area) (read : Result Cursor AreaFault) (r : read ≡ read_by false c (option_at area c.floor c.at)) where
+    pub check_stop : (x : AreaFault) → read ≡ Err x → OptionsChecked area read
+    check_stop x e = let y = walk_stop w.walking w.entry h read r x e in record { written = y.written; found = y.found }
 
-    module _ (d : Cursor) (e : read ≡ Read d) where
+    module _ (d : Cursor) (e : read ≡ Ok d) where
       pub check_less : length area - d.at < length area - c.at
       check_less = walk_less w.walking w.entry h read r d e
 
@@ -315,36 +290,21 @@ module _ {area : List ℕ} {c : Cursor} (w : Checking area c) where
 
 pub ruleset check_options_laws = (rules, check_begin, check_end, check_stop, check_less, check_on)
 
--- 34 and 35, by the two summary tests
-module _ (area : List ℕ) (read : AreaRead) (c : Cursor) (e : read ≡ Read c) {there lacks : Bool} (s : there ≡ chbh area)
-    (m : lacks ≡ (c.hop && not there)) where
-  pub summed_hop : lacks ≡ true → Faulty 34 0 ≡ summarized_by area read
-  summed_hop t = cc
-
-  module _ (t : lacks ≡ false) {there2 lacks2 : Bool} (s2 : there2 ≡ cite area) (m2 : lacks2 ≡ (c.egress && not there2)) where
-    pub summed_egress : lacks2 ≡ true → Faulty 35 0 ≡ summarized_by area read
-    summed_egress t2 = cc
-
-    pub summed_whole : lacks2 ≡ false → Read c ≡ summarized_by area read
-    summed_whole t2 = cc
-
-pub ruleset summarized_laws = (rules, summed_hop, summed_egress, summed_whole)
-
 -- what is read after them was read before, and is what the rules say of the options
-summed_read : (area : List ℕ) (read : AreaRead) (c : Cursor) → summarized_by area read ≡ Read c → read ≡ Read c
-summed_read area (Faulty m q) c e = e
-summed_read area (Read d) c e =
+summed_read : (area : List ℕ) (read : Result Cursor AreaFault) (c : Cursor) → summarized_by area read ≡ Ok c → read ≡ Ok c
+summed_read area (Err x) c e = e
+summed_read area (Ok d) c e =
     by_test (d.hop && not (chbh area))
     (λ t. apart cc)
     (λ t. by_test (d.egress && not (cite area)) (λ u. apart cc) (λ u. cc))
 
-summed_is : (strip : Bool) (area written : List ℕ) (read : AreaRead) (o : Options) → found_by written read ≡ walk_of strip false false [] o
+summed_is : (strip : Bool) (area written : List ℕ) (read : Result Cursor AreaFault) (o : Options) → found_by written read ≡ walk_of strip false false [] o
     → area_read_of (summarized_by area read) ≡ summarized area o
 unfolding summarized
-summed_is strip area written (Faulty m q) (fault n p) e = cc
-summed_is strip area written (Faulty m q) (options os) e = apart cc
-summed_is strip area written (Read c) (fault n p) e = apart cc
-summed_is strip area written (Read c) (options os) e =
+summed_is strip area written (Err x) (fault n p) e = cc
+summed_is strip area written (Err x) (options os) e = apart cc
+summed_is strip area written (Ok c) (fault n p) e = apart cc
+summed_is strip area written (Ok c) (options os) e =
     by_test (c.hop && not (chbh area))
     (λ t. cc)
     (λ t. by_test (c.egress && not (cite area)) (λ u. cc) (λ u. cc))
@@ -358,7 +318,7 @@ module _ (strip : Bool) (area : List ℕ) (h : length area ≤ 4) where
   short_sent : sent_of strip area ≡ area
   short_sent = by_test strip (λ e. rw e (stripped_word area h)) (λ e. rw e)
 
-  pub short_kept : (kept kept' : List ℕ) (r : AreaRead) → AllKept area kept kept' r → AreaKept strip area kept kept' r
+  pub short_kept : (kept kept' : List ℕ) (r : Result Cursor AreaFault) → AllKept area kept kept' r → AreaKept strip area kept kept' r
   short_kept kept kept' r x =
       record {
         read = x.read ∙ area_short area h;
@@ -369,7 +329,7 @@ module _ (strip : Bool) (area : List ℕ) (h : length area ≤ 4) where
 
 -- all of an area
 pub all_kept : (area kept kept' : List ℕ) → kept' ≡ put kept 0 area → AreaWords area → length kept ≡ 124
-    → AllKept area kept kept' (Read (record { at = 4; to = length area; floor = 0; hop = false; egress = false }))
+    → AllKept area kept kept' (Ok (record { at = 4; to = length area; floor = 0; hop = false; egress = false }))
 all_kept area kept kept' is words wide =
     record {
       read = refl;
@@ -379,18 +339,18 @@ all_kept area kept kept' is words wide =
 
 pub ruleset keep_all_laws = (rules, all_kept)
 
-pub area_checked : (area : List ℕ) (read r : AreaRead) → OptionsChecked area read → r ≡ summarized_by area read → area_read_of r ≡ draft_read area
+pub area_checked : (area : List ℕ) (read r : Result Cursor AreaFault) → OptionsChecked area read → r ≡ summarized_by area read → area_read_of r ≡ draft_read area
 unfolding draft_read
 area_checked area read r x is = rw is (summed_is false area x.written read (options_of area) x.found)
 
 pub ruleset check_area_laws = (rules, area_short, area_checked)
 
 -- all of an area without a fault is kept
-module _ (area : List ℕ) (read : AreaRead) (is : area_read_of read ≡ draft_read area) where
-  pub checked_fault : (number place : ℕ) → read ≡ Faulty number place → (kept : List ℕ) → AreaKept false area kept kept read
-  checked_fault number place e kept = record { read = is; wrote = λ c f. apart cc; few = λ c f. apart cc; wide = λ c f. apart cc }
+module _ (area : List ℕ) (read : Result Cursor AreaFault) (is : area_read_of read ≡ draft_read area) where
+  pub checked_fault : (x : AreaFault) → read ≡ Err x → (kept : List ℕ) → AreaKept false area kept kept read
+  checked_fault x e kept = record { read = is; wrote = λ c f. apart cc; few = λ c f. apart cc; wide = λ c f. apart cc }
 
-  pub checked_kept : (c : Cursor) → read ≡ Read c → AreaWords area → (kept kept' : List ℕ) (r : AreaRead) → AllKept area kept kept' r
+  pub checked_kept : (c : Cursor) → read ≡ Ok c → AreaWords area → (kept kept' : List ℕ) (r : Result Cursor AreaFault) → AllKept area kept kept' r
       → AreaKept false area kept kept' r
   checked_kept c e words kept kept' r x =
       record {
@@ -420,7 +380,7 @@ module _ (strip : Bool) (area : List ℕ) (h : 4 < length area) where
   pub word_wide : (kept kept1 : List ℕ) → kept1 ≡ put kept 0 (take 4 area) → length kept ≡ 124 → length kept1 ≡ 124
   word_wide kept kept1 first wide = rw first (length_put kept 0 (take 4 area) (omega (arith, word_long)) ∙ wide)
 
-  pub area_kept : (kept kept1 kept2 : List ℕ) (read r : AreaRead) → AreaWalked strip area kept1 kept2 read → kept1 ≡ put kept 0 (take 4 area)
+  pub area_kept : (kept kept1 kept2 : List ℕ) (read r : Result Cursor AreaFault) → AreaWalked strip area kept1 kept2 read → kept1 ≡ put kept 0 (take 4 area)
       → r ≡ summarized_by area read → AreaKept strip area kept kept2 r
   unfolding draft_read
   area_kept kept kept1 kept2 read r w first is =
@@ -439,7 +399,7 @@ module _ (strip : Bool) (area : List ℕ) (h : 4 < length area) where
       }
 
 -- by the strip flag
-module _ (strip : Bool) (area kept kept' : List ℕ) (r : AreaRead) where
+module _ (strip : Bool) (area kept kept' : List ℕ) (r : Result Cursor AreaFault) where
   pub kept_plain : not strip ≡ true → AreaKept false area kept kept' r → AreaKept strip area kept kept' r
   kept_plain n x = rw (not-true strip n) x
 
@@ -447,23 +407,6 @@ module _ (strip : Bool) (area kept kept' : List ℕ) (r : AreaRead) where
   kept_stripped n x = rw (not-false strip n) x
 
 pub ruleset read_area_laws = (rules, kept_plain, kept_stripped, short_kept, word_long, word_lent, word_wide, area_kept)
-
--- 20, as the code finds it
-module _ (egress : Bool) (area : List ℕ) (b : Bool) (is : b ≡ chbh area) where
-  pub stops_hop : b ≡ true → true ≡ draft_stops egress area
-  unfolding draft_stops
-  stops_hop t = cc
-
-  module _ (f : b ≡ false) where
-    pub stops_egress : egress ≡ true → (c : Bool) → c ≡ cite area → c ≡ draft_stops egress area
-    unfolding draft_stops
-    stops_egress t c its = cc (and_yes c)
-
-    pub stops_none : egress ≡ false → false ≡ draft_stops egress area
-    unfolding draft_stops
-    stops_none t = cc (and_no (cite area))
-
-pub ruleset area_stops_laws = (rules, stops_hop, stops_egress, stops_none)
 
 -- a word
 word_is : (s : List ℕ) → length s ≡ 4 → (get_or s 0 0 ∷ get_or s 1 0 ∷ get_or s 2 0 ∷ get_or s 3 0 ∷ []) ≡ s

@@ -1,5 +1,6 @@
 -- The way out that a caller asks for (T-11): by what is looked up of one destination, by settings octets, and by a store. By cases of the record
 -- that rules.
+use Rattle.std.specs.Prelude.{Some, None}
 use mathlib.Core.Path.{◌≡◌, refl, sym, ◌∙◌}
 use mathlib.Core.List.{List}
 use mathlib.Core.Bool.{Bool, true, false, not}
@@ -11,18 +12,16 @@ use borrow.Author.Tests.{lt-ltb, le-ltb, not-true, not-false}
 use lib.ListN.{length}
 use Rattle.rules.specs as rules
 use rules.{Link.link, WayOut.way_out_by, WayOut.way_out}
-use rules.Settings.{Ways, ways_of, settings_read}
+use rules.{Settings.Ways, Settings.settings_of, Campus.known}
 use rules.declared.NextHop.{NextHop}
-use rules.declared.Ruling.TheVariants.{Found, Absent}
 use Rattle.rules.proofs.{OctetLaws.put_none, FrameLaws.length_link, FrameLaws.link_most}
 use Rattle.octets.specs.Copy.{Wrote}
 use Rattle.handler.specs
-use specs.declared.validation.Validated.{Validated}
-use specs.declared.way.{Own.Own, Lookup.Lookup, WayOut.WayOut}
-use specs.{Shapes.link_size, Shapes.ways_by, Shapes.only_for, Shapes.Owns, Shapes.WayDone, Ranks.lookup_by, Ranks.ValidatedBy}
+use specs.declared.way.{Lookup.Lookup, WayOut.WayOut}
+use specs.{Shapes.link_size, Shapes.switch_at, Shapes.ways_by, Shapes.only_for, Shapes.WayDone}
 use Rattle.stores.specs.Store.{store_good, ways_in, way_out_in, Whole}
 use Rattle.stores.proofs.IndexLaws.{good_whole}
-use Rattle.handler.proofs.CallLaws.{settings_none, settings_some, validated_lookup}
+use Rattle.handler.proofs.CallLaws.{settings_none, settings_some, found_laws}
 use Rattle.rules.specs.WayOut as W
 
 -- T-11, by what is looked up of one destination
@@ -30,11 +29,11 @@ module _ (t : Lookup) (out : List ℕ) where
   abbrev asked : W.WayOut
   asked = way_out_by (ways_by t) 0 (length out)
 
-  pub out_none : (r : WayOut) → r ≡ record { number = 21; length = 0 } → t.hop ≡ Absent → WayDone asked r out out
+  pub out_none : (r : WayOut) → r ≡ record { number = 21; length = 0 } → t.hop ≡ None → WayDone asked r out out
   unfolding way_out_by
   out_none r is e = rw (way_out_by, e) (record { answer = is; after = sym (put_none out 0) })
 
-  module _ (q : NextHop) (e : t.hop ≡ Found q) (n : ℕ) (size : n ≡ link_size q.vlan) where
+  module _ (q : NextHop) (e : t.hop ≡ Some q) (n : ℕ) (size : n ≡ link_size q.vlan) where
     long : length (link (ways_by t) q) ≡ n
     long = length_link (ways_by t) q ∙ sym size
 
@@ -57,21 +56,21 @@ one_asked : (S : Ways) (d room : ℕ) → way_out_by (only_for d S) 0 room ≡ w
 unfolding way_out_by link
 one_asked S d room = refl
 
-module _ (t : Lookup) (d : ℕ) (S : Ways) (said : ways_by t ≡ only_for d S) (out : List ℕ) (r : WayOut) (out' : List ℕ) where
-  lookup_way : WayDone (way_out_by (ways_by t) 0 (length out)) r out out' → WayDone (way_out_by S d (length out)) r out out'
-  lookup_way w = rw (said, one_asked S d (length out)) at w
+pub way_asked : (t : Lookup) (d : ℕ) (S : Ways) → ways_by t ≡ only_for d S → (out : List ℕ) (r : WayOut) (out' : List ℕ)
+    → WayDone (way_out_by (ways_by t) 0 (length out)) r out out' → WayDone (way_out_by S d (length out)) r out out'
+way_asked t d S said out r out' w = rw (said, one_asked S d (length out)) at w
 
-module _ (settings : List ℕ) (d : ℕ) (out : List ℕ) (j : Validated) (is : ValidatedBy settings d j) (r : WayOut) where
-  pub settings_no_way : not j.good ≡ true → r ≡ record { number = 1; length = 0 } → WayDone (way_out settings d (length out)) r out out
-  unfolding way_out
-  settings_no_way n e = rw (way_out, settings_none settings d j is n) (record { answer = e; after = sym (put_none out 0) })
+pub ruleset way_out_at_laws = (rules, way_asked)
 
-  pub settings_way : not j.good ≡ false → (own : Own) → Owns own (ways_of (settings_read settings)) → (t : Lookup) → t ≡ lookup_by own j
-      → (out' : List ℕ) → WayDone (way_out_by (ways_by t) 0 (length out)) r out out' → WayDone (way_out settings d (length out)) r out out'
+module _ (settings : List ℕ) (d : ℕ) (out : List ℕ) (r : WayOut) where
+  pub settings_no_way : known (settings_of settings) ≡ false → r ≡ record { number = 1; length = 0 } → WayDone (way_out settings d (length out)) r out out
   unfolding way_out
-  settings_way n own o t e out' w =
-      let said = validated_lookup settings d j is own o t e (sym is.validated ∙ not-false j.good n) in
-      rw (way_out, settings_some settings d j is n) (lookup_way t d (ways_of (settings_read settings)) said out r out' w)
+  settings_no_way k e = rw (way_out, settings_none settings k) (record { answer = e; after = sym (put_none out 0) })
+
+  pub settings_way : known (settings_of settings) ≡ true → (out' : List ℕ) → WayDone (way_out_by (switch_at settings) d (length out)) r out out'
+      → WayDone (way_out settings d (length out)) r out out'
+  unfolding way_out
+  settings_way k out' w = rw (way_out, settings_some settings k) w
 
 pub store_whole : (store : List ℕ) {ok : Bool} → ok ≡ store_good store → not ok ≡ false → Whole store
 store_whole store {ok} is n = good_whole store (sym is ∙ not-false ok n)
@@ -81,11 +80,11 @@ module _ (store : List ℕ) (d : ℕ) (out : List ℕ) {ok : Bool} (is : ok ≡ 
   unfolding way_out_in
   store_no_way n e = rw (← is, not-true ok n) (record { answer = e; after = sym (put_none out 0) })
 
-  pub store_way : not ok ≡ false → (t : Lookup) (out' : List ℕ) → WayDone (way_out_by (ways_by t) 0 (length out)) r out out'
-      → ways_by t ≡ only_for d (ways_in store) → WayDone (way_out_in store d (length out)) r out out'
+  pub store_way : not ok ≡ false → (out' : List ℕ) → WayDone (way_out_by (ways_in store) d (length out)) r out out'
+      → WayDone (way_out_in store d (length out)) r out out'
   unfolding way_out_in
-  store_way n t out' w said = rw (← is, not-false ok n) (lookup_way t d (ways_in store) said out r out' w)
+  store_way n out' w = rw (← is, not-false ok n) w
 
-pub ruleset trill_way_out_laws = (rules, settings_no_way, settings_way)
+pub ruleset settings_way_laws = (found_laws, settings_no_way, settings_way)
 
 pub ruleset way_out_prepared_laws = (rules, store_whole, store_no_way, store_way)

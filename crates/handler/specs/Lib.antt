@@ -3,4 +3,3 @@ pub mod Shapes
 pub mod Tasks
 pub mod Ranks
 pub mod Treatment
-pub mod Calls

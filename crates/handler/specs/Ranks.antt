@@ -1,16 +1,13 @@
 -- The ranks of the records met so far, and the filter that stands for them: how settings are validated in one pass.
-use Rattle.std.specs.Prelude.{ℕ, ◌+◌, ◌*◌, ◌/◌, ◌%◌, ◌≡◌, List, [], ◌∷◌, ◌++◌, Bool, true, false, not, ◌&&◌, ◌||◌, length, get_or, take, ltb, eqb, if◌then◌else◌}
+use Rattle.std.specs.Prelude.{Option, Some, None, ℕ, ◌+◌, ◌*◌, ◌/◌, ◌%◌, ◌≡◌, List, [], ◌∷◌, ◌++◌, Bool, true, false, not, ◌&&◌, ◌||◌, length, get_or, take, ltb, eqb, if◌then◌else◌}
 use Rattle.rules.specs.Fields.{Field, field, cut, fields_at, hop_size}
-use Rattle.rules.specs.Settings.{Settings, hop_good, hop_of, hops_most, settings_from, settings_of, settings_read, ways_of}
+use Rattle.rules.specs.Settings.{Settings, Ways, hop_good, hop_of, hops_most, settings_from, settings_of}
 use Rattle.rules.specs.Campus.{known}
 use Rattle.rules.specs.declared.NextHop.{NextHop}
-use Rattle.rules.specs.declared.Ruling.TheVariants.{Absent}
 use Rattle.octets.specs.Flags.{flag_by}
 use Rattle.handler.specs.declared.validation.Scan.{Scan}
 use Rattle.handler.specs.declared.validation.Validated.{Validated}
-use Rattle.handler.specs.declared.way.Own.{Own}
-use Rattle.handler.specs.declared.way.Lookup.{Lookup}
-use Rattle.handler.specs.Shapes.{ruled_by, no_flags, flagged_by, FoldedFrom, Owns, ways_by, only_for}
+use Rattle.handler.specs.Shapes.{switch_at, ruled_by, no_flags, flagged_by, FoldedFrom}
 
 -- destination above serial: two records of one destination with equal serials have one rank
 abbrev pub rank_of : NextHop → ℕ
@@ -75,16 +72,26 @@ abbrev pub Verdict : List ℕ → ℕ → Bool → Type 0
 Verdict s from r = (T : Settings) → T.hops ≡ [] → r ≡ known (settings_from T (fields_at s from))
 
 -- one pass over the fields from a place on: the verdict, and what the fields say if they are good
-pub record Scanned (s : List ℕ) (from d : ℕ) (r : Scan) : Type 0 where
-  pub verdict : Verdict s from r.good
-  pub ruled : r.good ≡ true → FoldedFrom (ruled_by d) Absent s from r.best
-  pub flagged : r.good ≡ true → FoldedFrom flagged_by no_flags s from r.flags
+pub record ScanFinds (s : List ℕ) (from d : ℕ) (x : Scan) : Type 0 where
+  pub verdict : Verdict s from true
+  pub ruled : FoldedFrom (ruled_by d) None s from x.best
+  pub flagged : FoldedFrom flagged_by no_flags s from x.flags
 
--- with our own nickname and MAC, what a handling looks up
-abbrev pub lookup_by : Own → Validated → Lookup
-lookup_by own r = record { own = own; strip = r.strip; rfc7179 = r.rfc7179; hop = r.hop }
+abbrev pub Scanned : List ℕ → ℕ → ℕ → Option Scan → Type 0
+Scanned s from d None = Verdict s from false
+Scanned s from d (Some x) = ScanFinds s from d x
+
+-- what settings say of one destination
+pub record Says (S : Ways) (d : ℕ) (found : Validated) : Type 0 where
+  pub strips : found.strip ≡ S.strip
+  pub edition : found.rfc7179 ≡ S.rfc7179
+  pub leads : found.hop ≡ S.hop d
 
 -- settings octets validated, and what they say of one destination if they are good
-pub record ValidatedBy (s : List ℕ) (d : ℕ) (r : Validated) : Type 0 where
-  pub validated : r.good ≡ known (settings_of s)
-  pub finds : r.good ≡ true → (own : Own) → Owns own (ways_of (settings_read s)) → ways_by (lookup_by own r) ≡ only_for d (ways_of (settings_read s))
+pub record Validates (s : List ℕ) (d : ℕ) (found : Validated) : Type 0 where
+  pub good : known (settings_of s) ≡ true
+  pub says : Says (switch_at s) d found
+
+abbrev pub ValidatedBy : List ℕ → ℕ → Option Validated → Type 0
+ValidatedBy s d None = known (settings_of s) ≡ false
+ValidatedBy s d (Some found) = Validates s d found

@@ -1,32 +1,36 @@
 -- The rules' answers, settings and readings in the shapes that the code hands on.
-use Rattle.std.specs.Prelude.{ℕ, ◌+◌, ◌-◌, ◌/◌, ◌%◌, ◌≤◌, ◌<◌, ◌≡◌, Bool, false, not, ◌&&◌, ◌||◌, length, eqb, if◌then◌else◌}
+use Rattle.std.specs.Prelude.{ℕ, ◌+◌, ◌-◌, ◌/◌, ◌%◌, ◌≤◌, ◌<◌, ◌≡◌, Bool, false, not, ◌&&◌, ◌||◌, length, eqb, if◌then◌else◌, Option, Result, Ok, Err}
 use mathlib.Core.List.{List, [], ◌++◌, foldl}
 use Rattle.rules.specs.Octets.{octet, be16, octets16, octets48, part, put}
 use Rattle.rules.specs.Fields.{Field, field, cut, fields_at}
-use Rattle.rules.specs.Settings.{Ways, newer, hop_of}
+use Rattle.rules.specs.Settings.{Ways, newer, hop_of, settings_read, ways_of}
 use Rattle.rules.specs.Link.{ethertype_tag}
 use Rattle.rules.specs.Header.{version, reserved, multi, hop_count, header_word, read_frame, inner_start, area_of, inner_of}
 use Rattle.rules.specs.Extension.{area_sent}
 use Rattle.rules.specs.Options as O
-use Rattle.rules.specs.Options.{OptionRead, Taken, Fault, TlvOption, Options, options, fault, some_key, hop_by_hop_critical, ingress_to_egress_critical}
+use Rattle.rules.specs.Options.{OptionRead, Taken, TlvOption, Options, options, fault, some_key, hop_by_hop_critical, ingress_to_egress_critical}
 use Rattle.rules.specs.Options.{option_size, strippable, kept_options, octets_of, stripped}
 use Rattle.rules.specs.Channel.{all_egress_rbridges, ethertype_channel, ethertype_is_is}
 use Rattle.rules.specs.Answer as A
 use Rattle.octets.specs.Copy.{Wrote}
 use Rattle.rules.specs.WayOut as W
-use Rattle.rules.specs.declared.Ruling.{Ruling}
 use Rattle.rules.specs.declared.Header.{Header}
-use Rattle.rules.specs.declared.FrameRead.TheVariants.{Trill}
 use Rattle.handler.specs.declared.answers.Answer.{Answer}
-use Rattle.handler.specs.declared.answers.Refusal.{Refusal}
-use Rattle.handler.specs.declared.answers.Refusal.TheVariants.{Refused, Passed}
+use Rattle.rules.specs.declared.NextHop.{NextHop}
+use Rattle.rules.specs.declared.Number.{Number}
+use Rattle.rules.specs.declared.Number.TheVariants.{ChbhMissing, CiteMissing}
+use Rattle.rules.specs.declared.ChannelFault.{ChannelFault}
+use Rattle.rules.specs.declared.ChannelFault.TheVariants.{HeaderShort, OtherEthertype}
 use Rattle.handler.specs.declared.validation.Flags.{Flags}
 use Rattle.handler.specs.declared.way.Own.{Own}
 use Rattle.handler.specs.declared.way.Lookup.{Lookup}
 use Rattle.handler.specs.declared.way.WayOut.{WayOut}
 use Rattle.handler.specs.declared.options.Cursor.{Cursor}
-use Rattle.handler.specs.declared.options.AreaRead.{AreaRead}
-use Rattle.handler.specs.declared.options.AreaRead.TheVariants.{Read, Faulty}
+use Rattle.handler.specs.declared.options.AreaFault.{AreaFault}
+
+-- the switch of settings octets
+abbrev pub switch_at : List ℕ → Ways
+switch_at s = ways_of (settings_read s)
 
 -- what settings say, asked for one destination only
 abbrev pub only_for : ℕ → Ways → Ways
@@ -55,10 +59,6 @@ abbrev pub wrote_by : ℕ → ℕ → ℕ → Answer
 wrote_by number written via =
     record { number = number; written = written; start = 0; length = 0; neighbour = via; beside = 0; beside_neighbour = 0 }
 
--- a refusal by its number, which is 0 where there is none
-unfoldable pub refusal_by : ℕ → Refusal
-refusal_by n = if eqb n 0 then Passed else Refused n
-
 -- with a reply beside it
 abbrev pub beside_by : Answer → Answer → Answer
 beside_by a reply =
@@ -82,7 +82,7 @@ abbrev pub ways_by : Lookup → Ways
 ways_by t = record { nickname = t.own.nickname; mac = t.own.word / 65536; strip = t.strip; rfc7179 = t.rfc7179; hop = λ d. t.hop }
 
 -- the record that rules, and the flags, once one more field is read
-unfoldable pub ruled_by : ℕ → Ruling → Field → Ruling
+unfoldable pub ruled_by : ℕ → Option NextHop → Field → Option NextHop
 ruled_by d best cut = best
 ruled_by d best (field tag v) = if eqb tag 2 then newer d best (hop_of v) else best
 
@@ -136,9 +136,9 @@ cursor_by strip c key size next =
       egress = c.egress || ingress_to_egress_critical key;
     }
 
-abbrev pub read_by : Bool → Cursor → OptionRead → AreaRead
-read_by strip c (Taken key size next) = Read (cursor_by strip c key size next)
-read_by strip c (Fault number place) = Faulty number place
+abbrev pub read_by : Bool → Cursor → OptionRead → Result Cursor AreaFault
+read_by strip c (Taken key size next) = Ok (cursor_by strip c key size next)
+read_by strip c (O.Fault number place) = Err (record { number = number; place = place })
 
 -- an area as it is sent, and which of its options are
 abbrev pub sent_of : Bool → List ℕ → List ℕ
@@ -150,11 +150,11 @@ options_sent strip os = if strip then kept_options os else os
 -- what a walk over the options finds: critical options of the two kinds and the octets of those that are sent, or the first fault
 pub data Walk : Type 0 where
   ended : Bool → Bool → List ℕ → Walk
-  stopped : ℕ → ℕ → Walk
+  stopped : Number → ℕ → Walk
 
-abbrev pub found_by : List ℕ → AreaRead → Walk
-found_by written (Read c) = ended c.hop c.egress written
-found_by written (Faulty number place) = stopped number place
+abbrev pub found_by : List ℕ → Result Cursor AreaFault → Walk
+found_by written (Ok c) = ended c.hop c.egress written
+found_by written (Err e) = stopped e.number e.place
 
 -- once `hop` and `egress` critical ones were met and some octets written
 abbrev pub walk_of : Bool → Bool → Bool → List ℕ → Options → Walk
@@ -163,36 +163,36 @@ walk_of strip hop egress written (options os) =
     ended (hop || some_key hop_by_hop_critical os) (egress || some_key ingress_to_egress_critical os) (written ++ octets_of (options_sent strip os))
 
 -- all options read, and those that are sent written behind the first word
-pub record AreaWalked (strip : Bool) (area kept kept' : List ℕ) (r : AreaRead) : Type 0 where
+pub record AreaWalked (strip : Bool) (area kept kept' : List ℕ) (r : Result Cursor AreaFault) : Type 0 where
   pub written : List ℕ
   pub found : found_by written r ≡ walk_of strip false false [] (O.options_of area)
-  pub wrote : (c : Cursor) → r ≡ Read c → Wrote written 4 c.to kept kept'
-  pub few : (c : Cursor) → r ≡ Read c → c.to ≤ 124
+  pub wrote : (c : Cursor) → r ≡ Ok c → Wrote written 4 c.to kept kept'
+  pub few : (c : Cursor) → r ≡ Ok c → c.to ≤ 124
   pub wide : length kept' ≡ 124
 
 -- the same with nothing written
-pub record OptionsChecked (area : List ℕ) (r : AreaRead) : Type 0 where
+pub record OptionsChecked (area : List ℕ) (r : Result Cursor AreaFault) : Type 0 where
   pub written : List ℕ
   pub found : found_by written r ≡ walk_of false false false [] (O.options_of area)
 
 -- 34 and 35
-abbrev pub summarized_by : List ℕ → AreaRead → AreaRead
-summarized_by area (Faulty number place) = Faulty number place
-summarized_by area (Read c) =
-    if c.hop && not (O.chbh area) then Faulty 34 0 else
-    if c.egress && not (O.cite area) then Faulty 35 0
-    else Read c
+abbrev pub summarized_by : List ℕ → Result Cursor AreaFault → Result Cursor AreaFault
+summarized_by area (Err e) = Err e
+summarized_by area (Ok c) =
+    if c.hop && not (O.chbh area) then Err (record { number = ChbhMissing; place = 0 }) else
+    if c.egress && not (O.cite area) then Err (record { number = CiteMissing; place = 0 })
+    else Ok c
 
-abbrev pub area_read_of : AreaRead → O.AreaRead
-area_read_of (Read c) = O.WellFormed
-area_read_of (Faulty number place) = O.Faulty number place
+abbrev pub area_read_of : Result Cursor AreaFault → O.AreaRead
+area_read_of (Ok c) = O.WellFormed
+area_read_of (Err e) = O.Faulty e.number e.place
 
 -- an area read, and what is sent of it put aside; what is put aside of a faulty one does not matter
-pub record AreaKept (strip : Bool) (area kept kept' : List ℕ) (r : AreaRead) : Type 0 where
+pub record AreaKept (strip : Bool) (area kept kept' : List ℕ) (r : Result Cursor AreaFault) : Type 0 where
   pub read : area_read_of r ≡ O.draft_read area
-  pub wrote : (c : Cursor) → r ≡ Read c → Wrote (sent_of strip area) 0 c.to kept kept'
-  pub few : (c : Cursor) → r ≡ Read c → c.to ≤ 124
-  pub wide : (c : Cursor) → r ≡ Read c → length kept' ≡ 124
+  pub wrote : (c : Cursor) → r ≡ Ok c → Wrote (sent_of strip area) 0 c.to kept kept'
+  pub few : (c : Cursor) → r ≡ Ok c → c.to ≤ 124
+  pub wide : (c : Cursor) → r ≡ Ok c → length kept' ≡ 124
 
 -- how long a link header is
 abbrev pub link_size : ℕ → ℕ
@@ -228,32 +228,25 @@ pub record Sends (S : Ways) (f : List ℕ) (h : Header) (area : List ℕ) : Type
   pub goes : area_sent S (area_of f h) ≡ area
   pub few : length area ≤ 124
 
--- a frame whose area is whole and whose hop count is not 0, and room to forward it from `at` on with an area as it is sent
-pub record Fits (area f : List ℕ) (h : Header) (out : List ℕ) (at : ℕ) : Type 0 where
-  pub read : read_frame f ≡ Trill h
-  pub area_whole : inner_start h ≤ length f
-  pub hops_left : 0 < hop_count h.word
-  pub area_short : length area ≤ 124
-  pub room : at + length (rest_with area f h) ≤ length out
-
 -- neither the channel's Ethertype nor that of L2-IS-IS
 abbrev pub foreign_by : ℕ → Bool
 foreign_by ethertype = not (eqb ethertype ethertype_channel) && not (eqb ethertype ethertype_is_is)
 
--- the code of a message that ends within its header
-abbrev pub short_code : List ℕ → ℕ
-short_code inner = if foreign_by (be16 inner 16) then 2 else 1
+-- what is wrong with a message that ends within its header
+abbrev pub short_fault : List ℕ → ChannelFault
+short_fault inner = if foreign_by (be16 inner 16) then OtherEthertype else HeaderShort
 
 -- the codes that a message may keep from being sent
 abbrev pub silenced_by_sl : ℕ → Bool
 silenced_by_sl code = eqb code 4 || eqb code 5
 
--- a frame that was read and of which neither 17 nor 18 is given
+-- a frame that was read and of which neither 17 nor 18 is given; its nicknames stand in it as they were read
 pub record Ready (f : List ℕ) (h : Header) : Type 0 where
-  pub read : read_frame f ≡ Trill h
+  pub read : read_frame f ≡ Ok h
   pub hops_left : 0 < hop_count h.word
   pub area_whole : inner_start h ≤ length f
   pub short : length f ≤ 2048
+  pub nicknames : octets16 h.egress ++ octets16 h.ingress ≡ part f (h.place + 2) 4
 
 -- a reply written at the start of a buffer, and its length
 pub record Replied (reply : List ℕ) (n : ℕ) (out out' : List ℕ) : Type 0 where
@@ -267,7 +260,7 @@ pub record Done (a : A.Handled) (r : Answer) (out out' : List ℕ) : Type 0 wher
   pub alone : a.beside ≡ []
 
 -- an area of which all is put aside
-pub record AllKept (area kept kept' : List ℕ) (r : AreaRead) : Type 0 where
+pub record AllKept (area kept kept' : List ℕ) (r : Result Cursor AreaFault) : Type 0 where
   pub read : area_read_of r ≡ O.WellFormed
-  pub wrote : (c : Cursor) → r ≡ Read c → Wrote area 0 c.to kept kept'
+  pub wrote : (c : Cursor) → r ≡ Ok c → Wrote area 0 c.to kept kept'
   pub wide : length kept' ≡ 124

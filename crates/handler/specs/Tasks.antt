@@ -1,5 +1,5 @@
 -- What is left of a handling once a frame is received, and once its area is read: an answer, or what a next hop is asked for.
-use Rattle.std.specs.Prelude.{ℕ, ◌≤◌, ◌≡◌, List, [], Bool, true, false, not, ◌&&◌, ◌||◌, length, take, if◌then◌else◌}
+use Rattle.std.specs.Prelude.{ℕ, ◌≤◌, ◌≡◌, List, [], Bool, true, false, not, ◌&&◌, ◌||◌, length, take, if◌then◌else◌, Some, None, Result, Ok, Err}
 use Rattle.rules.specs.Octets.{put}
 use Rattle.rules.specs.Settings.{Ways}
 use Rattle.rules.specs.Header.{area_of, inner_of, we_are_egress}
@@ -11,24 +11,21 @@ use Rattle.rules.specs.Handling.{onward, channel_message, alert_to, alerted, cha
 use Rattle.rules.specs.Answer as A
 use Rattle.rules.specs.declared.NextHop.{NextHop}
 use Rattle.rules.specs.declared.Header.{Header}
-use Rattle.rules.specs.declared.Ruling.TheVariants.{Found, Absent}
-use Rattle.rules.specs.declared.ChannelRead.TheVariants.{Fault, EchoRequest}
+use Rattle.rules.specs.declared.ChannelRead.TheVariants as C
+use Rattle.rules.specs.declared.ChannelRead.TheVariants.{EchoRequest}
+use Rattle.rules.specs.declared.Number.{Number}
+use Rattle.rules.specs.declared.Number.TheVariants.{NoErrorReply, BadErr}
 use Rattle.rules.specs.declared.Alert.{Alert}
 use Rattle.rules.specs.declared.Alert.TheVariants.{NoAlert, AlertFault, AlertErr, AlertRequest}
 use Rattle.handler.specs.declared.answers.Answer.{Answer}
-use Rattle.handler.specs.declared.answers.Refusal.{Refusal}
-use Rattle.handler.specs.declared.answers.Refusal.TheVariants.{Refused, Passed}
 use Rattle.handler.specs.declared.way.Own.{Own}
+use Rattle.handler.specs.declared.frame.Frame.{Frame}
 use Rattle.handler.specs.declared.options.Cursor.{Cursor}
-use Rattle.handler.specs.declared.options.AreaRead.{AreaRead}
-use Rattle.handler.specs.declared.options.AreaRead.TheVariants.{Read}
+use Rattle.handler.specs.declared.options.AreaFault.{AreaFault}
 use Rattle.handler.specs.declared.handling.Local.{Local}
 use Rattle.handler.specs.declared.handling.Local.TheVariants.{Dropped, Answered, Message}
 use Rattle.handler.specs.declared.handling.Task.{Task}
-use Rattle.handler.specs.declared.handling.Task.TheVariants.{Stopped, Forward}
-use Rattle.handler.specs.declared.handling.Received.{Received}
-use Rattle.handler.specs.declared.handling.Received.TheVariants as R
-use Rattle.handler.specs.Shapes.{answer_of, Owns, area_read_of, sent_of, Ready, Done}
+use Rattle.handler.specs.Shapes.{answer_of, Owns, area_read_of, sent_of, Done}
 
 -- the area by the edition
 abbrev pub area_read_by : Bool → List ℕ → O.AreaRead
@@ -40,9 +37,9 @@ pub record PutAside (sent kept : List ℕ) (size : ℕ) : Type 0 where
   pub few : size ≤ 124
   pub stands : sent ≡ take size kept
 
-pub record ReadBy (rfc7179 strip : Bool) (area kept : List ℕ) (r : AreaRead) : Type 0 where
+pub record ReadBy (rfc7179 strip : Bool) (area kept : List ℕ) (r : Result Cursor AreaFault) : Type 0 where
   pub read : area_read_of r ≡ area_read_by rfc7179 area
-  pub aside : (c : Cursor) → r ≡ Read c → PutAside (sent_of (strip && not rfc7179) area) kept c.to
+  pub aside : (c : Cursor) → r ≡ Ok c → PutAside (sent_of (strip && not rfc7179) area) kept c.to
 
 abbrev pub stops_by : Bool → Bool → List ℕ → Bool
 stops_by rfc7179 egress area = if rfc7179 then extension_stops egress (flags_word area) else draft_stops egress area
@@ -55,7 +52,7 @@ alert_by rfc7179 area inner =
 
 -- transit, with an alert
 unfoldable pub transit_at : Ways → List ℕ → List ℕ → Header → Alert → A.Handled
-transit_at S clock f h alert = elim (S.hop h.egress) [ Absent ↦ A.dropped 21 | Found r ↦ alerted S r clock f h alert ]
+transit_at S clock f h alert = elim (S.hop h.egress) [ None ↦ A.dropped 21 | Some r ↦ alerted S r clock f h alert ]
 
 -- a channel message to us
 abbrev pub messaged : Ways → List ℕ → List ℕ → Header → A.Handled
@@ -63,42 +60,42 @@ messaged S clock f h = channelled S clock f h (channel_read (inner_of f h))
 
 -- what is not forwarded, and what a task comes to at a switch
 abbrev pub local_at : Ways → List ℕ → List ℕ → Header → Local → A.Handled
-local_at S clock f h (Dropped number) = A.dropped number
-local_at S clock f h (Answered number start size) = A.delivered number start size
+local_at S clock f h (Dropped number) = A.dropped (A.number_of number)
+local_at S clock f h (Answered number start size) = A.delivered (A.number_of number) start size
 local_at S clock f h Message = messaged S clock f h
 
-abbrev pub done_at : Ways → List ℕ → List ℕ → Header → Task → A.Handled
-done_at S clock f h (Stopped number place) = A.dropped_at number place
-done_at S clock f h (Forward alert size) = transit_at S clock f h alert
+abbrev pub done_at : Ways → List ℕ → List ℕ → Header → Result Task AreaFault → A.Handled
+done_at S clock f h (Err e) = A.dropped_at (A.number_of e.number) e.place
+done_at S clock f h (Ok t) = transit_at S clock f h t.alert
 
 -- transit without what is replied to an alert: a fault is dropped while no reply is made
-abbrev pub alert_refusal : Alert → Refusal
-alert_refusal NoAlert = Passed
-alert_refusal (AlertFault code) = Refused 25
-alert_refusal AlertErr = Refused 26
-alert_refusal AlertRequest = Passed
+abbrev pub alert_refusal : Alert → Result (Unit {0}) Number
+alert_refusal NoAlert = Ok Prim.tt
+alert_refusal (AlertFault fault) = Err NoErrorReply
+alert_refusal AlertErr = Err BadErr
+alert_refusal AlertRequest = Ok Prim.tt
 
-abbrev pub unless_refused : Refusal → A.Handled → A.Handled
-unless_refused (Refused n) done = A.dropped n
-unless_refused Passed done = done
+abbrev pub unless_refused : Result (Unit {0}) Number → A.Handled → A.Handled
+unless_refused (Err n) done = A.dropped (A.number_of n)
+unless_refused (Ok passed) done = done
 
 abbrev pub alert_quiet : Ways → NextHop → List ℕ → Header → Alert → A.Handled
 alert_quiet T r f h alert = unless_refused (alert_refusal alert) (onward T r f h [] 0)
 
 unfoldable pub transit_quiet : Ways → List ℕ → Header → Alert → A.Handled
-transit_quiet T f h alert = elim (T.hop h.egress) [ Absent ↦ A.dropped 21 | Found r ↦ alert_quiet T r f h alert ]
+transit_quiet T f h alert = elim (T.hop h.egress) [ None ↦ A.dropped 21 | Some r ↦ alert_quiet T r f h alert ]
 
 -- the one destination that it asks for by itself, and whether an alert asks for the ingress too
 abbrev pub wanted_by : ℕ → Header → ℕ
 wanted_by nickname h = if we_are_egress nickname h then h.ingress else h.egress
 
-abbrev pub asked_by : ℕ → Received → ℕ
-asked_by nickname (R.Refused n) = 0
-asked_by nickname (R.Trill h) = wanted_by nickname h
+abbrev pub asked_by : ℕ → Result Frame Number → ℕ
+asked_by nickname (Err n) = 0
+asked_by nickname (Ok frame) = wanted_by nickname frame.header
 
 abbrev pub asks_back : Alert → Bool
 asks_back NoAlert = false
-asks_back (AlertFault code) = true
+asks_back (AlertFault fault) = true
 asks_back AlertErr = false
 asks_back AlertRequest = true
 
@@ -108,13 +105,9 @@ EchoIn f h = (18 ≤ length (body_of (inner_of f h))) × (length (body_of (inner
 
 abbrev pub Answerable : List ℕ → Header → Alert → Type 0
 Answerable f h NoAlert = Unit {0}
-Answerable f h (AlertFault code) = channel_read (inner_of f h) ≡ Fault code
+Answerable f h (AlertFault fault) = channel_read (inner_of f h) ≡ C.Fault fault
 Answerable f h AlertErr = Unit {0}
 Answerable f h AlertRequest = channel_read (inner_of f h) ≡ EchoRequest
-
-pub record Forwardable (f : List ℕ) (h : Header) (alert : Alert) : Type 0 where
-  pub is_ready : Ready f h
-  pub answerable : Answerable f h alert
 
 -- the inner frame at the egress
 abbrev pub Ends : Local → Type 0
@@ -127,26 +120,26 @@ pub record Comes (f : List ℕ) (h : Header) (local : Local) : Type 0 where
   pub ends : Ends local
 
 -- what is known of a task
-abbrev pub Left : List ℕ → Header → Task → Type 0
-Left f h (Stopped number place) = place ≤ 2048
-Left f h (Forward alert size) = Forwardable f h alert
+abbrev pub Left : List ℕ → Header → Result Task AreaFault → Type 0
+Left f h (Err e) = e.place ≤ 2048
+Left f h (Ok t) = Answerable f h t.alert
 
 -- how many octets it sends of its area, and that they are put aside
-abbrev pub Sized : ℕ → Task → Type 0
-Sized size (Stopped number place) = Unit {0}
-Sized size (Forward alert n) = n ≡ size
+abbrev pub Sized : ℕ → Result Task AreaFault → Type 0
+Sized size (Err e) = Unit {0}
+Sized size (Ok t) = t.size ≡ size
 
-abbrev pub Aside : Bool → Bool → List ℕ → Header → List ℕ → Task → Type 0
-Aside rfc7179 strip f h kept (Stopped number place) = Unit {0}
-Aside rfc7179 strip f h kept (Forward alert size) = PutAside (sent_of (strip && not rfc7179) (area_of f h)) kept size
+abbrev pub Aside : Bool → Bool → List ℕ → Header → List ℕ → Result Task AreaFault → Type 0
+Aside rfc7179 strip f h kept (Err e) = Unit {0}
+Aside rfc7179 strip f h kept (Ok t) = PutAside (sent_of (strip && not rfc7179) (area_of f h)) kept t.size
 
 -- a frame with an area comes to a task, at every switch of an edition that is not its egress: once the area is read, and as a whole
-pub record RoutesRead (rfc7179 : Bool) (size : ℕ) (f : List ℕ) (h : Header) (t : Task) : Type 0 where
+pub record RoutesRead (rfc7179 : Bool) (size : ℕ) (f : List ℕ) (h : Header) (t : Result Task AreaFault) : Type 0 where
   pub same : (S : Ways) (clock : List ℕ) → we_are_egress S.nickname h ≡ false → rfc7179 ≡ S.rfc7179 → routed S clock f h ≡ done_at S clock f h t
   pub left : Left f h t
   pub sized : Sized size t
 
-pub record Routes (rfc7179 strip : Bool) (f : List ℕ) (h : Header) (kept : List ℕ) (t : Task) : Type 0 where
+pub record Routes (rfc7179 strip : Bool) (f : List ℕ) (h : Header) (kept : List ℕ) (t : Result Task AreaFault) : Type 0 where
   pub same : (S : Ways) (clock : List ℕ) → we_are_egress S.nickname h ≡ false → rfc7179 ≡ S.rfc7179 → routed S clock f h ≡ done_at S clock f h t
   pub left : Left f h t
   pub aside : Aside rfc7179 strip f h kept t
@@ -157,27 +150,21 @@ pub record Arrives (rfc7179 : Bool) (f : List ℕ) (h : Header) (local : Local) 
   pub ends : Ends local
 
 -- a frame as received, at every switch of a nickname and MAC
-abbrev pub received_by : Ways → List ℕ → List ℕ → Received → A.Handled
-received_by S clock f (R.Refused n) = A.dropped n
-received_by S clock f (R.Trill h) = routed S clock f h
+abbrev pub received_by : Ways → Result Frame Number → A.Handled
+received_by S (Err n) = A.dropped (A.number_of n)
+received_by S (Ok frame) = routed S frame.time.now frame.octets.now frame.header
 
-abbrev pub Got : List ℕ → Received → Type 0
-Got f (R.Refused n) = Unit {0}
-Got f (R.Trill h) = Ready f h
-
-pub record Receives (own : Own) (f : List ℕ) (r : Received) : Type 0 where
-  pub same : (S : Ways) (clock : List ℕ) → Owns own S → handling S clock f ≡ received_by S clock f r
-  pub got : Got f r
+pub record Receives (own : Own) (clock f : List ℕ) (r : Result Frame Number) : Type 0 where
+  pub same : (S : Ways) → Owns own S → handling S clock f ≡ received_by S r
 
 -- and with the clock and the buffers that are lent
-abbrev pub Lent : List ℕ → ℕ → ℕ → Received → Type 0
-Lent clock room beside_room (R.Refused n) = Unit {0}
-Lent clock room beside_room (R.Trill h) = (length clock ≡ 6) × (2048 ≤ room) × (576 ≤ beside_room)
+abbrev pub Lent : ℕ → ℕ → Result Frame Number → Type 0
+Lent room beside_room (Err n) = Unit {0}
+Lent room beside_room (Ok frame) = (2048 ≤ room) × (576 ≤ beside_room)
 
-pub record Receiving (own : Own) (clock f : List ℕ) (room beside_room : ℕ) (r : Received) : Type 0 where
-  pub same : (S : Ways) → Owns own S → handled_with S clock room beside_room f ≡ received_by S clock f r
-  pub got : Got f r
-  pub lent : Lent clock room beside_room r
+pub record Receiving (own : Own) (clock f : List ℕ) (room beside_room : ℕ) (r : Result Frame Number) : Type 0 where
+  pub same : (S : Ways) → Owns own S → handled_with S clock room beside_room f ≡ received_by S r
+  pub lent : Lent room beside_room r
 
 -- an answer, and both buffers after it
 pub record Both (a : A.Handled) (r : Answer) (out out' beside beside' : List ℕ) : Type 0 where
@@ -188,7 +175,3 @@ pub record Both (a : A.Handled) (r : Answer) (out out' beside beside' : List ℕ
 -- what is replied to an alert makes of the answer without it the one with it
 pub record Replies (S : Ways) (clock f : List ℕ) (h : Header) (alert : Alert) (a r : Answer) (out out' beside beside' : List ℕ) : Type 0 where
   pub over : (before : List ℕ) → Done (transit_quiet S f h alert) a before out → Both (transit_at S clock f h alert) r before out' beside beside'
-
--- by what is looked up for the ingress, at every switch of which that says what it does
-pub record RepliesBy (B : Ways) (clock f : List ℕ) (h : Header) (alert : Alert) (a r : Answer) (out out' beside beside' : List ℕ) : Type 0 where
-  pub at_switch : (S : Ways) → messaged S clock f h ≡ messaged B clock f h → Replies S clock f h alert a r out out' beside beside'

@@ -1,6 +1,9 @@
 // The answer of one handling, made in one of four ways.
 ghost use Rattle.std.specs.Prelude.{◌≡◌, ◌≤◌};
+ghost use Rattle.rules.specs.Answer.{number_of};
 ghost use Rattle.handler.specs.Shapes.{dropped_by, unwritten_by, wrote_by, beside_by};
+
+use rules::Number;
 
 // What the driver is answered. `neighbour` is the one used for what was written, 0 where nothing was; `beside` is the length of a reply made
 // beside a forwarded frame, with its neighbour (document 02, T-09).
@@ -16,23 +19,33 @@ pub struct Answer {
     pub beside_neighbour: u16,
 }
 
-// The number that drops a frame, or none.
-#[derive(Clone, Copy)]
-pub enum Refusal {
-    Refused(u8),
-    Passed,
+impl Answer {
+    // With nothing written and nothing delivered.
+    pub fn dropped(number: u16) -> Answer
+        ensures { result ≡ dropped_by number }
+    {
+        Answer {
+            number,
+            written: 0,
+            start: 0,
+            length: 0,
+            neighbour: 0,
+            beside: 0,
+            beside_neighbour: 0,
+        }
+    }
 }
 
-pub fn dropped(number: u8) -> Answer
-    ensures { result ≡ dropped_by number }
+pub fn dropped(number: Number) -> Answer
+    ensures { result ≡ dropped_by (number_of number) }
 {
-    unwritten(number, 0, 0)
+    Answer::dropped(number as u16)
 }
 
 // With nothing written: where an option is at fault, or where the inner frame is that is delivered.
-pub fn unwritten(number: u8, start: usize, length: usize) -> Answer
+pub fn unwritten(number: Number, start: usize, length: usize) -> Answer
     requires { (start ≤ 2048) × (length ≤ 2048) }
-    ensures { result ≡ unwritten_by number start length }
+    ensures { result ≡ unwritten_by (number_of number) start length }
 {
     Answer {
         number: number as u16,
@@ -45,9 +58,9 @@ pub fn unwritten(number: u8, start: usize, length: usize) -> Answer
     }
 }
 
-pub fn wrote(number: u8, written: usize, neighbour: u16) -> Answer
+pub fn wrote(number: Number, written: usize, neighbour: u16) -> Answer
     requires { written ≤ 2048 }
-    ensures { result ≡ wrote_by number written neighbour }
+    ensures { result ≡ wrote_by (number_of number) written neighbour }
 {
     Answer {
         number: number as u16,
@@ -60,22 +73,8 @@ pub fn wrote(number: u8, written: usize, neighbour: u16) -> Answer
     }
 }
 
-// As `header::copy_of`, of what such a function answered.
-pub fn copy_of(a: Answer) -> Answer
-    ensures { result ≡ a }
-{
-    Answer {
-        number: a.number,
-        written: a.written,
-        start: a.start,
-        length: a.length,
-        neighbour: a.neighbour,
-        beside: a.beside,
-        beside_neighbour: a.beside_neighbour,
-    }
-}
-
-// The same of an answer to a message, which delivers nothing and has no reply beside it: the fewer fields are read where they were just stored.
+// What a message is answered, which delivers nothing and has no reply beside it, by the fields that it has: all seven would be read eight octets
+// at a time where they were just stored by two, and a processor waits for that.
 pub fn copy_of_reply(a: Answer) -> Answer
     ensures { result ≡ wrote_by a.number a.written a.neighbour }
 {
@@ -95,12 +94,8 @@ pub fn with_beside(a: Answer, reply: Answer) -> Answer
     ensures { result ≡ beside_by a reply }
 {
     Answer {
-        number: a.number,
-        written: a.written,
-        start: a.start,
-        length: a.length,
-        neighbour: a.neighbour,
         beside: reply.written,
         beside_neighbour: reply.neighbour,
+        ..a
     }
 }

@@ -1,9 +1,10 @@
 // RBridge Channel messages (RFC 7178) and the echo body (source document 004): what one is found to be.
 ghost use Rattle.std.specs.Prelude.{◌≡◌, ◌/◌, ◌%◌};
 ghost use Rattle.rules.specs.Channel as C;
-ghost use Rattle.handler.specs.Shapes.{foreign_by, short_code, silenced_by_sl};
+ghost use Rattle.rules.specs.Answer.{err_of};
+ghost use Rattle.handler.specs.Shapes.{foreign_by, short_fault, silenced_by_sl};
 
-use rules::ChannelRead;
+use rules::{ChannelFault, ChannelRead};
 
 // The channel header's words: CHV 4, protocol 12; SL, MH, NA and nine more flags, ERR 4.
 fn chv(w: u16) -> u16
@@ -46,49 +47,48 @@ fn spid(octet: u8) -> u8
 fn foreign(ethertype: u16) -> bool
     ensures { result ≡ foreign_by ethertype }
 {
-    if ethertype == rules::ETHERTYPE_CHANNEL {
-        return false;
-    }
-    ethertype != rules::ETHERTYPE_IS_IS
+    ethertype != rules::ETHERTYPE_CHANNEL && ethertype != rules::ETHERTYPE_IS_IS
 }
 
-// The codes that a message may keep from being sent.
-fn silenced_by_sl(code: u8) -> bool
-    ensures { result ≡ silenced_by_sl code }
+// What the ERR field says of a fault.
+pub fn err_of(fault: ChannelFault) -> u8
+    ensures { result ≡ err_of fault }
 {
-    if code == 4 {
-        return true;
-    }
-    code == 5
+    fault as u8
 }
 
+// The faults, 4 and 5, of which a message may keep an error from being sent.
+fn silenced_by_sl(fault: ChannelFault) -> bool
+    ensures { result ≡ silenced_by_sl (err_of fault) }
+{
+    matches!(
+        fault,
+        ChannelFault::WrongNative | ChannelFault::OtherProtocol
+    )
+}
+
+#[tactic(auto, unfolding(rules::specs::Channel::echo_read))]
 fn echo_read(body: &[u8]) -> ChannelRead
     ensures { result ≡ C.echo_read body.now }
 {
-    if body.len() < 18 {
+    if body.len() < 18 || 530 < body.len() {
         return ChannelRead::BadEcho;
     }
-    if 530 < body.len() {
-        return ChannelRead::BadEcho;
+    match spid(octets::octet(body, 0)) {
+        3 => ChannelRead::EchoRequest,
+        4 => ChannelRead::EchoHeard,
+        _ => ChannelRead::BadEcho,
     }
-    let kind = spid(octets::octet(body, 0));
-    if kind == 3 {
-        return ChannelRead::EchoRequest;
-    }
-    if kind == 4 {
-        return ChannelRead::EchoHeard;
-    }
-    ChannelRead::BadEcho
 }
 
-// The code of a message that ends within its header.
-fn short_code(inner: &[u8]) -> u8
-    ensures { result ≡ short_code inner.now }
+// What is wrong with a message that ends within its header.
+fn short_fault(inner: &[u8]) -> ChannelFault
+    ensures { result ≡ short_fault inner.now }
 {
     if foreign(octets::be16(inner, 16)) {
-        2
+        ChannelFault::OtherEthertype
     } else {
-        1
+        ChannelFault::HeaderShort
     }
 }
 
@@ -96,27 +96,25 @@ pub fn channel_read(inner: &[u8]) -> ChannelRead
     ensures { result ≡ C.channel_read inner.now }
 {
     if inner.len() < 22 {
-        return ChannelRead::Fault {
-            code: short_code(inner),
-        };
+        return ChannelRead::Fault(short_fault(inner));
     }
     if foreign(octets::be16(inner, 16)) {
-        return ChannelRead::Fault { code: 2 };
+        return ChannelRead::Fault(ChannelFault::OtherEthertype);
     }
     let word = octets::be16(inner, 18);
     let flags = octets::be16(inner, 20);
     if chv(word) != 0 {
-        return ChannelRead::Fault { code: 3 };
+        return ChannelRead::Fault(ChannelFault::OtherVersion);
     }
     if na(flags) == 1 {
-        return ChannelRead::Fault { code: 4 };
+        return ChannelRead::Fault(ChannelFault::WrongNative);
     }
     let number = protocol(word);
     if number == rules::PROTOCOL_ERROR {
         return ChannelRead::ErrorHeard;
     }
     if number != rules::PROTOCOL_ECHO {
-        return ChannelRead::Fault { code: 5 };
+        return ChannelRead::Fault(ChannelFault::OtherProtocol);
     }
     if err(flags) != 0 {
         return ChannelRead::BadErr;
@@ -125,18 +123,13 @@ pub fn channel_read(inner: &[u8]) -> ChannelRead
 }
 
 // RFC 7178, 3.2: no error answers an error, nor a silent message.
-pub fn silenced(code: u8, inner: &[u8]) -> bool
-    ensures { result ≡ C.silenced code inner.now }
+#[tactic(auto, unfolding(rules::specs::Channel::silenced))]
+pub fn silenced(fault: ChannelFault, inner: &[u8]) -> bool
+    ensures { result ≡ C.silenced (err_of fault) inner.now }
 {
-    if !silenced_by_sl(code) {
-        return false;
-    }
     let flags = octets::be16(inner, 20);
-    if sl(flags) == 1 {
-        return true;
-    }
-    if protocol(octets::be16(inner, 18)) == rules::PROTOCOL_ERROR {
-        return true;
-    }
-    err(flags) != 0
+    silenced_by_sl(fault)
+        && (sl(flags) == 1
+            || protocol(octets::be16(inner, 18)) == rules::PROTOCOL_ERROR
+            || err(flags) != 0)
 }

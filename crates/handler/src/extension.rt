@@ -2,8 +2,6 @@
 ghost use Rattle.std.specs.Prelude.{◌≡◌, ◌||◌, ◌&&◌};
 ghost use Rattle.rules.specs.Extension as E;
 
-use crate::options;
-
 fn cr_hbh(w: u32) -> bool
     ensures { result ≡ E.cr_hbh w }
 {
@@ -61,55 +59,38 @@ fn non_critical_alert(w: u32) -> bool
 pub fn some_alert(w: u32) -> bool
     ensures { result ≡ (E.critical_alert w || E.non_critical_alert w) }
 {
-    if critical_alert(w) {
-        return true;
-    }
-    non_critical_alert(w)
+    critical_alert(w) || non_critical_alert(w)
 }
 
+#[tactic(auto, unfolding(rules::specs::Extension::flag_unsummarized))]
 fn flag_unsummarized(w: u32) -> bool
     ensures { result ≡ E.flag_unsummarized w }
 {
-    if options::missing(hop_by_hop_flag(w), cr_hbh(w)) {
-        return true;
-    }
-    if options::missing(ingress_to_egress_flag(w), cr_ite(w)) {
-        return true;
-    }
-    options::missing(reserved_flag(w), cr_rsv(w))
+    (hop_by_hop_flag(w) && !cr_hbh(w))
+        || (ingress_to_egress_flag(w) && !cr_ite(w))
+        || (reserved_flag(w) && !cr_rsv(w))
 }
 
+#[tactic(auto, unfolding(rules::specs::Extension::summary_bare))]
 fn summary_bare(w: u32) -> bool
     ensures { result ≡ E.summary_bare w }
 {
-    if options::missing(cr_hbh(w), hop_by_hop_flag(w)) {
-        return true;
-    }
-    if options::missing(cr_ite(w), ingress_to_egress_flag(w)) {
-        return true;
-    }
-    options::missing(cr_rsv(w), reserved_flag(w))
+    (cr_hbh(w) && !hop_by_hop_flag(w))
+        || (cr_ite(w) && !ingress_to_egress_flag(w))
+        || (cr_rsv(w) && !reserved_flag(w))
 }
 
 // 38
 pub fn refused(w: u32, single: bool) -> bool
     ensures { result ≡ (E.flag_unsummarized w || (single && E.summary_bare w)) }
 {
-    if flag_unsummarized(w) {
-        return true;
-    }
-    if single { summary_bare(w) } else { false }
+    flag_unsummarized(w) || (single && summary_bare(w))
 }
 
 // 20
+#[tactic(auto, unfolding(rules::specs::Extension::extension_stops))]
 pub fn stops(egress: bool, w: u32) -> bool
     ensures { result ≡ E.extension_stops egress w }
 {
-    if unknown_hop_by_hop_flag(w) {
-        return true;
-    }
-    if options::missing(cr_hbh(w), hop_by_hop_flag(w)) {
-        return true;
-    }
-    if egress { cr_ite(w) } else { false }
+    unknown_hop_by_hop_flag(w) || (cr_hbh(w) && !hop_by_hop_flag(w)) || (egress && cr_ite(w))
 }

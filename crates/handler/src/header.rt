@@ -1,11 +1,11 @@
 // The TRILL header (RFC 6325, 3), and the answers that it decides.
-ghost use Rattle.std.specs.Prelude.{◌≡◌, ◌+◌, ◌/◌, ◌<◌, ◌≤◌, eqb};
+ghost use Rattle.std.specs.Prelude.{◌≡◌, ◌/◌, ◌<◌, ◌≤◌, eqb};
 ghost use Rattle.rules.specs.Octets.{be48};
 ghost use Rattle.rules.specs.Header as Rules;
-ghost use Rattle.handler.specs.Shapes.{refusal_by};
+ghost use Rattle.rules.specs.Header.{header_refusal};
+ghost use Rattle.rules.specs.Answer.{number_by};
 
-use crate::answers::Refusal;
-use rules::Header;
+use rules::{Header, Number};
 
 pub fn version(w: u16) -> u16
     ensures { result ≡ Rules.version w }
@@ -38,7 +38,11 @@ pub fn hop_count(w: u16) -> u16
 }
 
 pub fn header_word(v: u16, r: u16, m: u16, op: u16, hop: u16) -> u16
-    requires { (v < 4) × (r < 4) × (m < 2) × (op < 32) × (hop < 64) }
+    requires version { v < 4 }
+    requires reserved { r < 4 }
+    requires multi { m < 2 }
+    requires words { op < 32 }
+    requires hops { hop < 64 }
     ensures { result ≡ Rules.header_word v r m op hop }
 {
     v << 14 | r << 12 | m << 11 | op << 6 | hop
@@ -59,59 +63,37 @@ pub fn to_mac(word: u64, f: &[u8]) -> bool
     octets::be64(f, 0) >> 16 == word >> 16
 }
 
-// 12 to 18, if one of them is given.
-pub fn header_refusal(word: u64, f: &[u8], h: Header) -> Refusal
+// 12 to 18, where one of them is given.
+pub fn check_header(word: u64, f: &[u8], h: Header) -> Result<(), Number>
     requires { h.place ≤ 18 }
-    ensures { result ≡ refusal_by (Rules.header_refusal (word / 65536) f.now h) }
+    ensures { number_by result ≡ header_refusal (word / 65536) f.now h }
 {
     if !to_mac(word, f) {
-        return Refusal::Refused(12);
+        return Err(Number::NotToUs);
     }
     if version(h.word) != 0 {
-        return Refusal::Refused(13);
+        return Err(Number::BadVersion);
     }
     if multi(h.word) == 1 {
-        return Refusal::Refused(14);
+        return Err(Number::MultiDestination);
     }
     if h.ingress == 0 {
-        return Refusal::Refused(15);
+        return Err(Number::BadIngress);
     }
     if rules::ANY_RBRIDGE <= h.ingress {
-        return Refusal::Refused(15);
+        return Err(Number::BadIngress);
     }
     if h.egress == 0 {
-        return Refusal::Refused(16);
+        return Err(Number::BadEgress);
     }
     if rules::ANY_RBRIDGE < h.egress {
-        return Refusal::Refused(16);
+        return Err(Number::BadEgress);
     }
     if hop_count(h.word) == 0 {
-        return Refusal::Refused(17);
+        return Err(Number::HopCountZero);
     }
     if f.len() < inner_start(h) {
-        return Refusal::Refused(18);
+        return Err(Number::AreaCut);
     }
-    Refusal::Passed
-}
-
-pub fn we_are_egress(nickname: u16, h: Header) -> bool
-    ensures { result ≡ Rules.we_are_egress nickname h }
-{
-    if h.egress == nickname {
-        return true;
-    }
-    h.egress == rules::ANY_RBRIDGE
-}
-
-// The same in a place of its own. What is lent to a function that stays one is kept in memory, and a processor waits for what was stored in one
-// width and is read in another; so only a copy is lent.
-pub fn copy_of(h: Header) -> Header
-    ensures { result ≡ h }
-{
-    Header {
-        place: h.place,
-        word: h.word,
-        egress: h.egress,
-        ingress: h.ingress,
-    }
+    Ok(())
 }

@@ -6,48 +6,34 @@ mod answers;
 mod channel;
 mod extension;
 mod forward;
+mod frame;
 mod handling;
 mod header;
 mod options;
 mod reply;
 mod settings;
 mod store;
+mod switch;
 mod treatment;
 mod validation;
 mod way;
 
-ghost use Rattle.std.specs.Prelude.{◌≡◌, true, false, ◌≤◌, length};
-ghost use Rattle.rules.specs.WayOut.{way_out};
-ghost use Rattle.rules.specs.Settings.{settings_of, settings_read, ways_of};
-ghost use Rattle.rules.specs.Campus.{known};
-ghost use Rattle.rules.specs.Header.{op_length, we_are_egress};
+ghost use Rattle.std.specs.Prelude.{◌≡◌, false, ◌≤◌, length};
+ghost use Rattle.rules.specs.WayOut.{way_out, way_out_by};
+ghost use Rattle.rules.specs.Header.{we_are_egress};
 ghost use Rattle.rules.specs.Handling.{routed, handled};
-ghost use Rattle.rules.specs.declared.Alert.TheVariants.{NoAlert};
-ghost use Rattle.stores.specs.Store.{handled_in, way_out_in, ways_in, Whole};
-ghost use Rattle.handler.specs.Shapes.{Owns, ways_by, Ready, Sends, Done, WayDone};
-ghost use Rattle.handler.specs.Tasks.{wanted_by, asks_back, transit_quiet, transit_at, messaged, local_at, Ends, Forwardable, Replies, RepliesBy, Both};
-ghost use Rattle.handler.specs.Ranks.{lookup_by};
-ghost use Rattle.handler.specs.Calls.{LookupOf};
+ghost use Rattle.stores.specs.Store.{handled_in, way_out_in};
+ghost use Rattle.handler.specs.Shapes.{Sends, Done, WayDone};
+ghost use Rattle.handler.specs.Tasks.{wanted_by, transit_at, messaged, local_at, Ends, Answerable, Replies, Both};
 
-use crate::handling::{Local, Received, Task};
-use crate::validation::Validated;
-use crate::way::Own;
+use crate::frame::Frame;
+use crate::handling::{Local, Task};
+use crate::settings::Checked;
+use crate::store::Prepared;
+use crate::switch::Switch;
 pub use answers::Answer;
-use rules::{Alert, Header};
+use rules::{Alert, Number};
 pub use way::WayOut;
-
-// The same octets, or words, lent on: where they lie is then stored where they are handed to a function that stays apart, and not for every frame.
-fn reborrow(s: &[u8]) -> &[u8]
-    ensures { result.now ≡ s.now }
-{
-    &s[0..]
-}
-
-fn reborrow_words(s: &[u64]) -> &[u64]
-    ensures { result.now ≡ s.now }
-{
-    &s[0..]
-}
 
 // The handling of a frame by settings octets.
 pub fn handle(
@@ -63,243 +49,18 @@ pub fn handle(
 {
     let own = settings::own_of(settings);
     let received = handling::receive(own, clock, frame, out.len(), beside.len());
-    let j = validation::validate(settings, handling::asked(own.nickname, received));
-    if !j.good {
-        return answers::dropped(1);
-    }
+    let Some(found) = validation::validate(settings, handling::asked(own.nickname, received)) else {
+        return answers::dropped(Number::BadSettings);
+    };
+    let switch = Checked {
+        octets: settings,
+        own,
+        found,
+    };
     match received {
-        Received::Refused(n) => answers::dropped(n),
-        Received::Trill(h) => handle_by(settings, own, j, clock, frame, h, out, beside),
+        Err(n) => answers::dropped(n),
+        Ok(frame) => handle_at(switch, frame, out, beside),
     }
-}
-
-// A frame of which none of 10 to 18 is given, by what was looked up in good settings. A function that is called twice stays one of its own, so
-// what it keeps does not take up the registers of a frame without an area. A frame to us comes back from the reading of its area: so its message
-// is not lent on a second time.
-fn handle_by(
-    settings: &[u8],
-    own: Own,
-    j: Validated,
-    clock: &[u8],
-    frame: &[u8],
-    h: Header,
-    out: &mut [u8],
-    beside: &mut [u8],
-) -> Answer
-    requires { LookupOf settings.now (wanted_by own.nickname h) (lookup_by own j) × Ready frame.now h × (length clock.now ≡ 6)
-        × (2048 ≤ length out.old) × (576 ≤ length beside.old) }
-    ensures { Both (routed (ways_of (settings_read settings.now)) clock.now frame.now h) result
-        out.old out.new beside.old beside.new }
-{
-    if header::we_are_egress(own.nickname, h) {
-        let local = handling::at_egress(j.rfc7179, frame, h);
-        return local_by(own, j, clock, frame, h, local, out);
-    }
-    if header::op_length(h.word) == 0 {
-        return plain_by(own, j, frame, h, out);
-    }
-    let own = way::copy_of(own);
-    let h = header::copy_of(h);
-    let settings = reborrow(settings);
-    let clock = reborrow(clock);
-    let frame = reborrow(frame);
-    if j.rfc7179 {
-        let a = route_by(settings, own, j, true, clock, frame, h, out, beside);
-        return answers::copy_of(a);
-    }
-    let a = route_by(settings, own, j, false, clock, frame, h, out, beside);
-    answers::copy_of(a)
-}
-
-// In transit, without an area.
-fn plain_by(own: Own, j: Validated, frame: &[u8], h: Header, out: &mut [u8]) -> Answer
-    requires { (op_length h.word ≡ 0) × Ready frame.now h × (2048 ≤ length out.old) }
-    ensures { Done (transit_quiet (ways_by (lookup_by own j)) frame.now h NoAlert) result out.old out.new }
-{
-    let t = validation::lookup(own, j);
-    handling::forward(t, frame, h, out)
-}
-
-// A frame that is not forwarded.
-fn local_by(
-    own: Own,
-    j: Validated,
-    clock: &[u8],
-    frame: &[u8],
-    h: Header,
-    local: Local,
-    out: &mut [u8],
-) -> Answer
-    requires { Ends local × Ready frame.now h × (length clock.now ≡ 6) × (2048 ≤ length out.old) }
-    ensures { Done (local_at (ways_by (lookup_by own j)) clock.now frame.now h local) result out.old out.new }
-{
-    match local {
-        Local::Dropped { number } => answers::dropped(number),
-        Local::Answered {
-            number,
-            start,
-            length,
-        } => answers::unwritten(number, start, length),
-        Local::Message => apart_by(own, j, clock, frame, h, out),
-    }
-}
-
-// A channel message, with copies lent.
-fn apart_by(own: Own, j: Validated, clock: &[u8], frame: &[u8], h: Header, out: &mut [u8]) -> Answer
-    requires { Ready frame.now h × (length clock.now ≡ 6) × (576 ≤ length out.old) }
-    ensures { Done (messaged (ways_by (lookup_by own j)) clock.now frame.now h) result out.old out.new }
-{
-    let a = message_by(
-        way::copy_of(own),
-        j,
-        reborrow(clock),
-        reborrow(frame),
-        header::copy_of(h),
-        out,
-    );
-    answers::copy_of_reply(a)
-}
-
-// A channel message. As long as a reply can be the buffer's length is known when this is compiled.
-fn message_by(
-    own: Own,
-    j: Validated,
-    clock: &[u8],
-    frame: &[u8],
-    h: Header,
-    out: &mut [u8],
-) -> Answer
-    requires { Ready frame.now h × (length clock.now ≡ 6) × (576 ≤ length out.old) }
-    ensures { Done (messaged (ways_by (lookup_by own j)) clock.now frame.now h) result out.old out.new }
-{
-    let t = validation::lookup(own, j);
-    handling::message(t, clock, frame, h, &mut out[..576])
-}
-
-// In transit, with an area.
-fn route_by(
-    settings: &[u8],
-    own: Own,
-    j: Validated,
-    rfc7179: bool,
-    clock: &[u8],
-    frame: &[u8],
-    h: Header,
-    out: &mut [u8],
-    beside: &mut [u8],
-) -> Answer
-    requires { LookupOf settings.now h.egress (lookup_by own j) × (we_are_egress own.nickname h ≡ false) × (rfc7179 ≡ j.rfc7179)
-        × Ready frame.now h × (length clock.now ≡ 6) × (2048 ≤ length out.old) × (576 ≤ length beside.old) }
-    ensures { Both (routed (ways_of (settings_read settings.now)) clock.now frame.now h) result
-        out.old out.new beside.old beside.new }
-{
-    let mut kept = [0u8; 124];
-    let task = handling::route(rfc7179, j.strip, frame, h, &mut kept);
-    match task {
-        Task::Stopped { number, place } => answers::unwritten(number, place, 0),
-        Task::Forward { alert, size } => forward_by(
-            settings,
-            own,
-            j,
-            clock,
-            frame,
-            h,
-            alert,
-            &kept[..size],
-            out,
-            beside,
-        ),
-    }
-}
-
-// A transit frame, with `area` as it is sent; an alert may ask for a reply too.
-fn forward_by(
-    settings: &[u8],
-    own: Own,
-    j: Validated,
-    clock: &[u8],
-    frame: &[u8],
-    h: Header,
-    alert: Alert,
-    area: &[u8],
-    out: &mut [u8],
-    beside: &mut [u8],
-) -> Answer
-    requires { LookupOf settings.now h.egress (lookup_by own j) × Sends (ways_by (lookup_by own j)) frame.now h area.now
-        × Forwardable frame.now h alert × (length clock.now ≡ 6) × (2048 ≤ length out.old) × (576 ≤ length beside.old) }
-    ensures { Both (transit_at (ways_of (settings_read settings.now)) clock.now frame.now h alert) result
-        out.old out.new beside.old beside.new }
-{
-    let a = transit_by(own, j, frame, h, alert, area, out);
-    reply_by(settings, own, a, clock, frame, h, alert, out, beside)
-}
-
-// Without what is replied to its alert.
-fn transit_by(
-    own: Own,
-    j: Validated,
-    frame: &[u8],
-    h: Header,
-    alert: Alert,
-    area: &[u8],
-    out: &mut [u8],
-) -> Answer
-    requires { Sends (ways_by (lookup_by own j)) frame.now h area.now × Ready frame.now h × (2048 ≤ length out.old) }
-    ensures { Done (transit_quiet (ways_by (lookup_by own j)) frame.now h alert) result out.old out.new }
-{
-    let t = validation::lookup(own, j);
-    handling::transit(t, frame, h, alert, area, out)
-}
-
-// With what is replied to its alert, if that asks for a reply: an error in place of 25, or an echo reply beside 50.
-fn reply_by(
-    settings: &[u8],
-    own: Own,
-    a: Answer,
-    clock: &[u8],
-    frame: &[u8],
-    h: Header,
-    alert: Alert,
-    out: &mut [u8],
-    beside: &mut [u8],
-) -> Answer
-    requires { (known (settings_of settings.now) ≡ true) × Owns own (ways_of (settings_read settings.now)) × Forwardable frame.now h alert
-        × (length clock.now ≡ 6) × (2048 ≤ length out.old) × (576 ≤ length beside.old) }
-    ensures { Replies (ways_of (settings_read settings.now)) clock.now frame.now h alert a result
-        out.old out.new beside.old beside.new }
-{
-    if !handling::asks_back(alert) {
-        return a;
-    }
-    let j = validation::validate(settings, h.ingress);
-    answer_by(own, j, a, clock, frame, h, alert, out, beside)
-}
-
-// By what is looked up for the ingress.
-fn answer_by(
-    own: Own,
-    j: Validated,
-    a: Answer,
-    clock: &[u8],
-    frame: &[u8],
-    h: Header,
-    alert: Alert,
-    out: &mut [u8],
-    beside: &mut [u8],
-) -> Answer
-    requires { (asks_back alert ≡ true) × Forwardable frame.now h alert × (length clock.now ≡ 6) × (2048 ≤ length out.old)
-        × (576 ≤ length beside.old) }
-    ensures { RepliesBy (ways_by (lookup_by own j)) clock.now frame.now h alert a result
-        out.old out.new beside.old beside.new }
-{
-    if a.number == 25 {
-        return message_by(own, j, clock, frame, h, out);
-    }
-    if a.number != 50 {
-        return a;
-    }
-    let b = message_by(own, j, clock, frame, h, beside);
-    answers::with_beside(a, b)
 }
 
 // The handling of a frame by a store.
@@ -315,80 +76,43 @@ pub fn handle_prepared(
         result out.old out.new beside.old beside.new }
 {
     if !store::good(store) {
-        return answers::dropped(1);
+        return answers::dropped(Number::BadSettings);
     }
-    let own = store::own_of(store);
-    let received = handling::receive(own, clock, frame, out.len(), beside.len());
+    let switch = Prepared { words: store };
+    let received = handling::receive(switch.own(), clock, frame, out.len(), beside.len());
     match received {
-        Received::Refused(n) => answers::dropped(n),
-        Received::Trill(h) => handle_in(store, own, clock, frame, h, out, beside),
+        Err(n) => answers::dropped(n),
+        Ok(frame) => handle_at(switch, frame, out, beside),
     }
 }
 
-// A frame of which none of 10 to 18 is given, by a good store; as `handle_by`.
-fn handle_in(
-    store: &[u64],
-    own: Own,
-    clock: &[u8],
-    frame: &[u8],
-    h: Header,
-    out: &mut [u8],
-    beside: &mut [u8],
-) -> Answer
-    requires { Whole store.now × Owns own (ways_in store.now) × Ready frame.now h × (length clock.now ≡ 6) × (2048 ≤ length out.old)
-        × (576 ≤ length beside.old) }
-    ensures { Both (routed (ways_in store.now) clock.now frame.now h) result
-        out.old out.new beside.old beside.new }
+// A frame of which none of 10 to 18 is given. What is done with an area, or a message, stays a function of its own, which is lent copies: so what
+// it keeps, and what it is lent, takes up no registers and no memory of a frame that is forwarded without an area.
+#[inline(always)]
+fn handle_at<S: Switch>(switch: S, frame: Frame<'_>, out: &mut [u8], beside: &mut [u8]) -> Answer
+    requires asked { S.finds switch (wanted_by (S.says switch).nickname frame.header) }
+    requires room { 2048 ≤ length out.old }
+    requires beside_room { 576 ≤ length beside.old }
+    ensures { Both (routed (S.says switch) frame.entry.time.now frame.entry.octets.now frame.entry.header) result out.old out.new beside.old beside.new }
 {
-    if header::op_length(h.word) == 0 {
-        return plain_in(store, own, clock, frame, h, out);
+    if frame.is_to_us(switch.own().nickname) {
+        let local = handling::at_egress(switch.rfc7179(), frame);
+        return not_forwarded(switch, frame, local, out);
     }
-    let own = way::copy_of(own);
-    let h = header::copy_of(h);
-    let store = reborrow_words(store);
-    let clock = reborrow(clock);
-    let frame = reborrow(frame);
-    if store::rfc7179(store) {
-        let a = area_in(store, own, true, clock, frame, h, out, beside);
-        return answers::copy_of(a);
+    if frame.op_length() == 0 {
+        return handling::forward(switch.lookup(frame.header.egress), frame, out);
     }
-    let a = area_in(store, own, false, clock, frame, h, out, beside);
-    answers::copy_of(a)
-}
-
-// Without an area.
-fn plain_in(
-    store: &[u64],
-    own: Own,
-    clock: &[u8],
-    frame: &[u8],
-    h: Header,
-    out: &mut [u8],
-) -> Answer
-    requires { Whole store.now × Owns own (ways_in store.now) × (op_length h.word ≡ 0) × Ready frame.now h × (length clock.now ≡ 6)
-        × (2048 ≤ length out.old) }
-    ensures { Done (routed (ways_in store.now) clock.now frame.now h) result out.old out.new }
-{
-    if header::we_are_egress(own.nickname, h) {
-        let local = handling::decapsulated(frame, h);
-        return local_in(store, clock, frame, h, local, out);
-    }
-    let index = store::index_inlined(store, h.egress);
-    let t = store::lookup(store, own, h.egress, index);
-    handling::forward(t, frame, h, out)
+    // Read out of what the function wrote, or a frame without an area is answered by way of memory too.
+    let a = route({ switch }, { frame }, out, beside);
+    Answer { ..a }
 }
 
 // A frame that is not forwarded.
-fn local_in(
-    store: &[u64],
-    clock: &[u8],
-    frame: &[u8],
-    h: Header,
-    local: Local,
-    out: &mut [u8],
-) -> Answer
-    requires { Whole store.now × Ends local × Ready frame.now h × (length clock.now ≡ 6) × (2048 ≤ length out.old) }
-    ensures { Done (local_at (ways_in store.now) clock.now frame.now h local) result out.old out.new }
+fn not_forwarded<S: Switch>(switch: S, frame: Frame<'_>, local: Local, out: &mut [u8]) -> Answer
+    requires asked { S.finds switch frame.header.ingress }
+    requires ends { Ends local }
+    requires room { 2048 ≤ length out.old }
+    ensures { Done (local_at (S.says switch) frame.entry.time.now frame.entry.octets.now frame.entry.header local) result out.old out.new }
 {
     match local {
         Local::Dropped { number } => answers::dropped(number),
@@ -397,177 +121,83 @@ fn local_in(
             start,
             length,
         } => answers::unwritten(number, start, length),
-        Local::Message => apart_in(store, clock, frame, h, out),
+        Local::Message => answers::copy_of_reply(message({ switch }, { frame }, out)),
     }
 }
 
-// A channel message, with copies lent.
-fn apart_in(store: &[u64], clock: &[u8], frame: &[u8], h: Header, out: &mut [u8]) -> Answer
-    requires { Whole store.now × Ready frame.now h × (length clock.now ≡ 6) × (576 ≤ length out.old) }
-    ensures { Done (messaged (ways_in store.now) clock.now frame.now h) result out.old out.new }
+// A channel message. As long as a reply can be the buffer's length is known when this is compiled.
+#[inline(never)]
+fn message<S: Switch>(switch: S, frame: Frame<'_>, out: &mut [u8]) -> Answer
+    requires asked { S.finds switch frame.header.ingress }
+    requires room { 576 ≤ length out.old }
+    ensures { Done (messaged (S.says switch) frame.entry.time.now frame.entry.octets.now frame.entry.header) result out.old out.new }
 {
-    let a = message_in(
-        reborrow_words(store),
-        reborrow(clock),
-        reborrow(frame),
-        header::copy_of(h),
-        out,
-    );
-    answers::copy_of_reply(a)
-}
-
-// A channel message.
-fn message_in(store: &[u64], clock: &[u8], frame: &[u8], h: Header, out: &mut [u8]) -> Answer
-    requires { Whole store.now × Ready frame.now h × (length clock.now ≡ 6) × (576 ≤ length out.old) }
-    ensures { Done (messaged (ways_in store.now) clock.now frame.now h) result out.old out.new }
-{
-    let own = store::own_of(store);
-    let index = store::index_in(reborrow_words(store), h.ingress);
-    let t = store::lookup(store, own, h.ingress, index);
-    handling::message(t, clock, frame, h, &mut out[..576])
-}
-
-// With an area.
-fn area_in(
-    store: &[u64],
-    own: Own,
-    rfc7179: bool,
-    clock: &[u8],
-    frame: &[u8],
-    h: Header,
-    out: &mut [u8],
-    beside: &mut [u8],
-) -> Answer
-    requires { Whole store.now × Owns own (ways_in store.now) × (rfc7179 ≡ (ways_in store.now).rfc7179) × Ready frame.now h
-        × (length clock.now ≡ 6) × (2048 ≤ length out.old) × (576 ≤ length beside.old) }
-    ensures { Both (routed (ways_in store.now) clock.now frame.now h) result
-        out.old out.new beside.old beside.new }
-{
-    if header::we_are_egress(own.nickname, h) {
-        let local = handling::at_egress(rfc7179, frame, h);
-        return local_in(store, clock, frame, h, local, out);
-    }
-    route_in(store, own, rfc7179, clock, frame, h, out, beside)
+    handling::message(switch.lookup(frame.header.ingress), frame, &mut out[..576])
 }
 
 // In transit, with an area.
-fn route_in(
-    store: &[u64],
-    own: Own,
-    rfc7179: bool,
-    clock: &[u8],
-    frame: &[u8],
-    h: Header,
-    out: &mut [u8],
-    beside: &mut [u8],
-) -> Answer
-    requires { Whole store.now × Owns own (ways_in store.now) × (we_are_egress (ways_in store.now).nickname h ≡ false)
-        × (rfc7179 ≡ (ways_in store.now).rfc7179) × Ready frame.now h × (length clock.now ≡ 6) × (2048 ≤ length out.old) × (576 ≤ length beside.old) }
-    ensures { Both (routed (ways_in store.now) clock.now frame.now h) result
-        out.old out.new beside.old beside.new }
+#[inline(never)]
+fn route<S: Switch>(switch: S, frame: Frame<'_>, out: &mut [u8], beside: &mut [u8]) -> Answer
+    requires asked { S.finds switch frame.header.egress }
+    requires away { we_are_egress (S.says switch).nickname frame.header ≡ false }
+    requires room { 2048 ≤ length out.old }
+    requires beside_room { 576 ≤ length beside.old }
+    ensures { Both (routed (S.says switch) frame.entry.time.now frame.entry.octets.now frame.entry.header) result out.old out.new beside.old beside.new }
 {
+    let rfc7179 = switch.rfc7179();
+    let strip = switch.strip();
     let mut kept = [0u8; 124];
-    let task = handling::route(rfc7179, store::strip(store), frame, h, &mut kept);
-    match task {
-        Task::Stopped { number, place } => answers::unwritten(number, place, 0),
-        Task::Forward { alert, size } => forward_in(
-            store,
-            own,
-            clock,
-            frame,
-            h,
-            alert,
-            &kept[..size],
-            out,
-            beside,
-        ),
+    match handling::route(rfc7179, strip, frame, &mut kept) {
+        Err(fault) => answers::unwritten(fault.number, fault.place, 0),
+        Ok(Task { alert, size }) => transit(switch, frame, alert, &kept[..size], out, beside),
     }
 }
 
 // A transit frame, with `area` as it is sent; an alert may ask for a reply too.
-fn forward_in(
-    store: &[u64],
-    own: Own,
-    clock: &[u8],
-    frame: &[u8],
-    h: Header,
+fn transit<S: Switch>(
+    switch: S,
+    frame: Frame<'_>,
     alert: Alert,
     area: &[u8],
     out: &mut [u8],
     beside: &mut [u8],
 ) -> Answer
-    requires { Whole store.now × Owns own (ways_in store.now) × Sends (ways_in store.now) frame.now h area.now
-        × Forwardable frame.now h alert × (length clock.now ≡ 6) × (2048 ≤ length out.old) × (576 ≤ length beside.old) }
-    ensures { Both (transit_at (ways_in store.now) clock.now frame.now h alert) result
-        out.old out.new beside.old beside.new }
+    requires asked { S.finds switch frame.header.egress }
+    requires sent { Sends (S.says switch) frame.octets.now frame.header area.now }
+    requires answerable { Answerable frame.octets.now frame.header alert }
+    requires room { 2048 ≤ length out.old }
+    requires beside_room { 576 ≤ length beside.old }
+    ensures { Both (transit_at (S.says switch) frame.entry.time.now frame.entry.octets.now frame.entry.header alert) result out.old out.new beside.old beside.new }
 {
-    let a = transit_in(store, own, frame, h, alert, area, out);
-    reply_in(store, a, clock, frame, h, alert, out, beside)
-}
-
-// Without what is replied to its alert.
-fn transit_in(
-    store: &[u64],
-    own: Own,
-    frame: &[u8],
-    h: Header,
-    alert: Alert,
-    area: &[u8],
-    out: &mut [u8],
-) -> Answer
-    requires { Whole store.now × Owns own (ways_in store.now) × Sends (ways_in store.now) frame.now h area.now × Ready frame.now h
-        × (2048 ≤ length out.old) }
-    ensures { Done (transit_quiet (ways_in store.now) frame.now h alert) result out.old out.new }
-{
-    let index = store::index_in(store, h.egress);
-    let t = store::lookup(store, own, h.egress, index);
-    handling::transit(t, frame, h, alert, area, out)
+    let a = handling::transit(switch.lookup(frame.header.egress), frame, alert, area, out);
+    replied(switch, a, frame, alert, out, beside)
 }
 
 // With what is replied to its alert, if that asks for a reply: an error in place of 25, or an echo reply beside 50.
-fn reply_in(
-    store: &[u64],
+fn replied<S: Switch>(
+    switch: S,
     a: Answer,
-    clock: &[u8],
-    frame: &[u8],
-    h: Header,
+    frame: Frame<'_>,
     alert: Alert,
     out: &mut [u8],
     beside: &mut [u8],
 ) -> Answer
-    requires { Whole store.now × Forwardable frame.now h alert × (length clock.now ≡ 6) × (2048 ≤ length out.old)
-        × (576 ≤ length beside.old) }
-    ensures { Replies (ways_in store.now) clock.now frame.now h alert a result
-        out.old out.new beside.old beside.new }
+    requires answerable { Answerable frame.octets.now frame.header alert }
+    requires room { 2048 ≤ length out.old }
+    requires beside_room { 576 ≤ length beside.old }
+    ensures { Replies (S.says switch) frame.entry.time.now frame.entry.octets.now frame.entry.header alert a result out.old out.new beside.old beside.new }
 {
     if !handling::asks_back(alert) {
         return a;
     }
-    answer_in(store, a, clock, frame, h, alert, out, beside)
-}
-
-fn answer_in(
-    store: &[u64],
-    a: Answer,
-    clock: &[u8],
-    frame: &[u8],
-    h: Header,
-    alert: Alert,
-    out: &mut [u8],
-    beside: &mut [u8],
-) -> Answer
-    requires { Whole store.now × (asks_back alert ≡ true) × Forwardable frame.now h alert × (length clock.now ≡ 6) × (2048 ≤ length out.old)
-        × (576 ≤ length beside.old) }
-    ensures { Replies (ways_in store.now) clock.now frame.now h alert a result
-        out.old out.new beside.old beside.new }
-{
-    if a.number == 25 {
-        return message_in(store, clock, frame, h, out);
+    let back = switch.asking(frame.header.ingress);
+    if a.number == Number::NoErrorReply as u16 {
+        return message(back, frame, out);
     }
-    if a.number != 50 {
+    if a.number != Number::Forwarded as u16 {
         return a;
     }
-    let b = message_in(store, clock, frame, h, beside);
+    let b = message(back, frame, beside);
     answers::with_beside(a, b)
 }
 
@@ -576,22 +206,29 @@ pub fn way_out(settings: &[u8], destination: u16, out: &mut [u8]) -> WayOut
     ensures { WayDone (way_out settings.now destination (length out.old)) result out.old out.new }
 {
     let own = settings::own_of(settings);
-    let j = validation::validate(settings, destination);
-    if !j.good {
-        return way::no_way(1);
-    }
-    let t = validation::lookup(own, j);
-    way::way_out(t, out)
+    let Some(found) = validation::validate(settings, destination) else {
+        return way::no_way(Number::BadSettings);
+    };
+    let switch = Checked {
+        octets: settings,
+        own,
+        found,
+    };
+    way_out_at(switch, destination, out)
 }
 
 pub fn way_out_prepared(store: &[u64], destination: u16, out: &mut [u8]) -> WayOut
     ensures { WayDone (way_out_in store.now destination (length out.old)) result out.old out.new }
 {
     if !store::good(store) {
-        return way::no_way(1);
+        return way::no_way(Number::BadSettings);
     }
-    let own = store::own_of(store);
-    let index = store::index_in(store, destination);
-    let t = store::lookup(store, own, destination, index);
-    way::way_out(t, out)
+    way_out_at(Prepared { words: store }, destination, out)
+}
+
+fn way_out_at<S: Switch>(switch: S, destination: u16, out: &mut [u8]) -> WayOut
+    requires asked { S.finds switch destination }
+    ensures { WayDone (way_out_by (S.says switch) destination (length out.old)) result out.old out.new }
+{
+    way::way_out(switch.lookup(destination), out)
 }

@@ -4,9 +4,9 @@ ghost use Rattle.rules.specs.Octets.{put};
 ghost use Rattle.rules.specs.Options as O;
 ghost use Rattle.handler.specs.Shapes.{AreaWords, CursorIn, WholeOption, cursor_by, read_by, area_read_of, summarized_by};
 ghost use Rattle.handler.specs.Shapes.{AreaWalked, OptionsChecked, AreaKept, AllKept};
-ghost use Rattle.handler.specs.Treatment.{Treats};
 
 use crate::treatment;
+use rules::Number;
 
 const LENGTH_RESERVED: u8 = 119;
 
@@ -30,11 +30,11 @@ pub const START: Cursor = Cursor {
     egress: false,
 };
 
-// An area read to a place, or the answer number of the first fault and its place.
+// What is wrong with an area, and the place of the option at fault, 0 for the whole.
 #[derive(Clone, Copy)]
-pub enum AreaRead {
-    Read(Cursor),
-    Faulty { number: u8, place: usize },
+pub struct AreaFault {
+    pub number: Number,
+    pub place: usize,
 }
 
 fn key_of(w: u16) -> u16
@@ -54,7 +54,7 @@ fn option_size(size: u8) -> usize
     requires { size < 128 }
     ensures { result ≡ O.option_size size }
 {
-    (size as usize + 2 + 3) & 0xFC
+    (usize::from(size) + 2 + 3) & 0xFC
 }
 
 // Where what is kept ends behind an option.
@@ -65,77 +65,63 @@ fn kept_end(to: usize, size: usize, stripped: bool) -> usize
     if stripped { to } else { to + size }
 }
 
-// A critical option of a kind was met, or is now.
-fn met(seen: bool, now: bool) -> bool
-    ensures { result ≡ (seen || now) }
-{
-    if seen { true } else { now }
-}
-
 // The cursor behind an option without a fault.
-fn behind(table: &[u64; 32], strip: bool, c: Cursor, key: u16, n: u8) -> Cursor
-    requires { WholeOption c key n × Treats table.now }
+fn behind(strip: bool, c: Cursor, key: u16, n: u8) -> Cursor
+    requires { WholeOption c key n }
     ensures { result ≡ cursor_by strip c key n (c.at + O.option_size n) }
 {
-    let entry = treatment::entry_of(table, key);
+    let entry = treatment::entry_of(key);
     let size = option_size(n);
     let stripped = treatment::is_stripped(strip, entry, key, n);
     Cursor {
         at: c.at + size,
         to: kept_end(c.to, size, stripped),
-        floor: key as usize + 1,
-        hop: met(c.hop, treatment::transit_discards(entry)),
-        egress: met(c.egress, treatment::egress_alone_discards(entry)),
+        floor: usize::from(key) + 1,
+        hop: c.hop || treatment::transit_discards(entry),
+        egress: c.egress || treatment::egress_alone_discards(entry),
     }
 }
 
 // One option: the cursor behind it, or a fault. An option of a reserved Length is past any area, and a key that is not above the one before is
 // below it or equal, so that one test finds 30 and 31, and one 32 and 33.
-fn option_at(area: &[u8], table: &[u64; 32], strip: bool, c: Cursor) -> AreaRead
-    requires { CursorIn area.now c × (c.at < length area.now) × Treats table.now }
+#[tactic(auto, using(crate::proofs::Walks::option_at_laws))]
+fn option_at(area: &[u8], strip: bool, c: Cursor) -> Result<Cursor, AreaFault>
+    requires { CursorIn area.now c × (c.at < length area.now) }
     ensures { result ≡ read_by strip c (O.option_at area.now c.floor c.at) }
 {
     let at = c.at;
     let w = octets::be16(&area[at..at + 4], 0);
     let n = length_of(w);
     if area.len() - at < option_size(n) {
-        if LENGTH_RESERVED <= n {
-            return AreaRead::Faulty {
-                number: 30,
-                place: at,
-            };
-        }
-        return AreaRead::Faulty {
-            number: 31,
-            place: at,
+        let number = if LENGTH_RESERVED <= n {
+            Number::ReservedLength
+        } else {
+            Number::OptionCut
         };
+        return Err(AreaFault { number, place: at });
     }
     let key = key_of(w);
-    let floor = key as usize + 1;
+    let floor = usize::from(key) + 1;
     if floor <= c.floor {
-        if floor < c.floor {
-            return AreaRead::Faulty {
-                number: 32,
-                place: at,
-            };
-        }
-        return AreaRead::Faulty {
-            number: 33,
-            place: at,
+        let number = if floor < c.floor {
+            Number::KeyBelow
+        } else {
+            Number::KeyEqual
         };
+        return Err(AreaFault { number, place: at });
     }
-    AreaRead::Read(behind(table, strip, c, key, n))
+    Ok(behind(strip, c, key, n))
 }
 
 // All options, or the first fault; those that are not stripped are written behind the first word.
-fn walk_area(area: &[u8], table: &[u64; 32], kept: &mut [u8; 124]) -> AreaRead
-    requires { AreaWords area.now × (4 < length area.now) × (length kept.old ≡ 124) × Treats table.now }
+fn walk_area(area: &[u8], kept: &mut [u8; 124]) -> Result<Cursor, AreaFault>
+    requires { AreaWords area.now × (4 < length area.now) × (length kept.old ≡ 124) }
     ensures { AreaWalked true area.now kept.old kept.new result }
 {
     let mut c = START;
     while c.at < area.len() {
-        let read = option_at(area, table, true, c);
-        let AreaRead::Read(next) = read else {
+        let read = option_at(area, true, c);
+        let Ok(next) = read else {
             return read;
         };
         let at = c.at;
@@ -144,23 +130,23 @@ fn walk_area(area: &[u8], table: &[u64; 32], kept: &mut [u8; 124]) -> AreaRead
         put_words(kept, c.to, &area[at..end]);
         c = next;
     }
-    AreaRead::Read(c)
+    Ok(c)
 }
 
 // All options, or the first fault, with nothing written.
-fn check_options(area: &[u8], table: &[u64; 32]) -> AreaRead
-    requires { AreaWords area.now × (4 < length area.now) × Treats table.now }
+fn check_options(area: &[u8]) -> Result<Cursor, AreaFault>
+    requires { AreaWords area.now × (4 < length area.now) }
     ensures { OptionsChecked area.now result }
 {
     let mut c = START;
     while c.at < area.len() {
-        let read = option_at(area, table, false, c);
-        let AreaRead::Read(next) = read else {
+        let read = option_at(area, false, c);
+        let Ok(next) = read else {
             return read;
         };
         c = next;
     }
-    AreaRead::Read(c)
+    Ok(c)
 }
 
 pub fn chbh(area: &[u8]) -> bool
@@ -175,48 +161,39 @@ pub fn cite(area: &[u8]) -> bool
     octets::octet(area, 0) >> 6 & 1 == 1
 }
 
-pub fn missing(needed: bool, there: bool) -> bool
-    ensures { result ≡ (needed && not there) }
-{
-    if needed { !there } else { false }
-}
-
 // 34 and 35, after all options.
-fn summarized(area: &[u8], read: AreaRead) -> AreaRead
+fn summarized(area: &[u8], read: Result<Cursor, AreaFault>) -> Result<Cursor, AreaFault>
     ensures { result ≡ summarized_by area.now read }
 {
-    let AreaRead::Read(end) = read else {
-        return read;
-    };
-    if missing(end.hop, chbh(area)) {
-        return AreaRead::Faulty {
-            number: 34,
+    let end = read?;
+    if end.hop && !chbh(area) {
+        return Err(AreaFault {
+            number: Number::ChbhMissing,
             place: 0,
-        };
+        });
     }
-    if missing(end.egress, cite(area)) {
-        return AreaRead::Faulty {
-            number: 35,
+    if end.egress && !cite(area) {
+        return Err(AreaFault {
+            number: Number::CiteMissing,
             place: 0,
-        };
+        });
     }
-    read
+    Ok(end)
 }
 
 // The whole area, or the first fault.
-pub fn check_area(area: &[u8]) -> AreaRead
+pub fn check_area(area: &[u8]) -> Result<Cursor, AreaFault>
     requires { AreaWords area.now }
     ensures { area_read_of result ≡ O.draft_read area.now }
 {
     if area.len() <= 4 {
-        return AreaRead::Read(START);
+        return Ok(START);
     }
-    let table = treatment::treatments();
-    summarized(area, check_options(area, &table))
+    summarized(area, check_options(area))
 }
 
 // The same, and what is sent of the area is put into `kept`: all of it, or what is not stripped.
-pub fn read_area(area: &[u8], strip: bool, kept: &mut [u8; 124]) -> AreaRead
+pub fn read_area(area: &[u8], strip: bool, kept: &mut [u8; 124]) -> Result<Cursor, AreaFault>
     requires { AreaWords area.now }
     ensures { AreaKept strip area.now kept.old kept.new result }
 {
@@ -226,42 +203,37 @@ pub fn read_area(area: &[u8], strip: bool, kept: &mut [u8; 124]) -> AreaRead
     if area.len() <= 4 {
         return keep_all(area, kept);
     }
-    let table = treatment::treatments();
     put_word(kept, 0, &area[..4]);
-    summarized(area, walk_area(area, &table, kept))
+    summarized(area, walk_area(area, kept))
 }
 
 // All of the area is sent, if it has no fault.
-fn keep_checked(area: &[u8], kept: &mut [u8; 124]) -> AreaRead
+fn keep_checked(area: &[u8], kept: &mut [u8; 124]) -> Result<Cursor, AreaFault>
     requires { AreaWords area.now }
     ensures { AreaKept false area.now kept.old kept.new result }
 {
-    let read = check_area(area);
-    let AreaRead::Read(_) = read else {
-        return read;
-    };
+    check_area(area)?;
     keep_all(area, kept)
 }
 
 // All of the area is sent.
-pub fn keep_all(area: &[u8], kept: &mut [u8; 124]) -> AreaRead
+pub fn keep_all(area: &[u8], kept: &mut [u8; 124]) -> Result<Cursor, AreaFault>
     requires { AreaWords area.now }
     ensures { AllKept area.now kept.old kept.new result }
 {
     put_words(kept, 0, area);
-    let mut c = START;
-    c.to = area.len();
-    AreaRead::Read(c)
+    Ok(Cursor {
+        to: area.len(),
+        ..START
+    })
 }
 
 // 20: "CHbH is 1, or CItE is 1 and we are the egress"
+#[tactic(auto, unfolding(rules::specs::Options::draft_stops))]
 pub fn area_stops(egress: bool, area: &[u8]) -> bool
     ensures { result ≡ O.draft_stops egress area.now }
 {
-    if chbh(area) {
-        return true;
-    }
-    if egress { cite(area) } else { false }
+    chbh(area) || (egress && cite(area))
 }
 
 // Four octets, read before one is written, as they then move in one.

@@ -1,24 +1,40 @@
 // What becomes of an option, by its nine-bit key (document 02, T-08).
 ghost use Rattle.std.specs.Prelude.{◌≡◌, ◌&&◌, not, ◌<◌};
-ghost use Rattle.handler.specs.Treatment.{entry_in, Treats, transit_discards, egress_discards, strip_applies, is_flow_id, stripped_by};
+ghost use Rattle.handler.specs.Treatment.{Treats, transit_discards, egress_discards, strip_applies, is_flow_id, stripped_by};
+
+use Entry::{Both, Egress, Kept, Stripped};
 
 const FLOW_ID: u16 = 0x083;
 
-// A digit for each key, the sum of what is done to the option: 1, transit discards it; 2, the egress discards it; 4, the strip flag applies
-// to it. A word has 16 keys, the first key the lowest digit, so that it reads from right to left: eight Types, each with MT 0 and then MT 1.
-const BOTH: u64 = 0x3333333333333333;
+// What becomes of an option: transit and the egress both discard it, or the egress alone; it is kept; or it is kept unless the strip flag is set.
+#[derive(Clone, Copy, PartialEq, Eq)]
+pub enum Entry {
+    Both,
+    Egress,
+    Kept,
+    Stripped,
+}
 
-const EGRESS: u64 = 0x2222222222222222;
+// The entries of eight Types, each with MT 0 and then MT 1.
+const BOTH: [Entry; 16] = [Both; 16];
 
-const STRIPPED: u64 = 0x4040404040404040;
+const EGRESS: [Entry; 16] = [Egress; 16];
 
-const STRIPPED_BUT_PAD: u64 = 0x4040404040404000;
+const KEPT: [Entry; 16] = [Kept; 16];
 
-const KEPT: u64 = 0;
+const STRIPPED: [Entry; 16] = [
+    Kept, Stripped, Kept, Stripped, Kept, Stripped, Kept, Stripped, Kept, Stripped, Kept, Stripped,
+    Kept, Stripped, Kept, Stripped,
+];
 
-// Eight words for each IE and NC, for the Types 0x00 to 0x3F. So the pad (Type 0x20, NC 1) begins the fifth of the second and of the last eight,
-// and the Flow ID is the fourth digit of the second eight. A list of words, as rows of words take a longer index at each option.
-const TREATMENT: [u64; 32] = [
+const STRIPPED_BUT_PAD: [Entry; 16] = [
+    Kept, Kept, Kept, Stripped, Kept, Stripped, Kept, Stripped, Kept, Stripped, Kept, Stripped,
+    Kept, Stripped, Kept, Stripped,
+];
+
+// The 512 entries by key: eight rows for each IE and NC, for the Types 0x00 to 0x3F. So the pad (Type 0x20, NC 1) begins the fifth row of the second
+// and of the last eight, and the Flow ID is the fourth entry of the second eight rows.
+static TREATMENT: [[Entry; 16]; 32] = [
     // IE 0, NC 0
     BOTH,
     BOTH,
@@ -58,56 +74,41 @@ const TREATMENT: [u64; 32] = [
 ];
 
 // The one statement on the table: it agrees with the flag definitions at every key.
-pub fn treatments() -> [u64; 32]
-    ensures { Treats result }
-{
-    TREATMENT
-}
-
-pub fn entry_of(table: &[u64; 32], key: u16) -> u8
+pub fn entry_of(key: u16) -> Entry
     requires { key < 512 }
-    ensures { result ≡ entry_in table.now key }
+    ensures { Treats key result }
 {
-    ((table[(key / 16) as usize] >> (key % 16 * 4) as u32) % 8) as u8
+    TREATMENT[usize::from(key / 16)][usize::from(key % 16)]
 }
 
-pub fn transit_discards(entry: u8) -> bool
+pub fn transit_discards(entry: Entry) -> bool
     ensures { result ≡ transit_discards entry }
 {
-    entry % 2 == 1
+    entry == Both
 }
 
 // The egress discards it, and transit does not.
-pub fn egress_alone_discards(entry: u8) -> bool
+pub fn egress_alone_discards(entry: Entry) -> bool
     ensures { result ≡ (egress_discards entry && not (transit_discards entry)) }
 {
-    entry % 4 == 2
+    entry == Egress
 }
 
-fn strip_applies(entry: u8) -> bool
+fn strip_applies(entry: Entry) -> bool
     ensures { result ≡ strip_applies entry }
 {
-    entry / 4 % 2 == 1
+    entry == Stripped
 }
 
 fn is_flow_id(key: u16, size: u8) -> bool
     ensures { result ≡ is_flow_id key size }
 {
-    if key != FLOW_ID {
-        return false;
-    }
-    size == 2
+    key == FLOW_ID && size == 2
 }
 
 // Whether the strip flag takes the option out.
-pub fn is_stripped(strip: bool, entry: u8, key: u16, size: u8) -> bool
+pub fn is_stripped(strip: bool, entry: Entry, key: u16, size: u8) -> bool
     ensures { result ≡ (strip && stripped_by entry key size) }
 {
-    if !strip {
-        return false;
-    }
-    if is_flow_id(key, size) {
-        return false;
-    }
-    strip_applies(entry)
+    strip && !is_flow_id(key, size) && strip_applies(entry)
 }

@@ -3,16 +3,15 @@ ghost use Rattle.std.specs.Prelude.{◌≡◌, true, false, not, ◌<◌, ◌≤
 ghost use Rattle.rules.specs.Fields.{field};
 ghost use Rattle.rules.specs.Settings.{hop_of};
 ghost use Rattle.handler.specs.Ranks.{rank_of, mix_of, slot_by, mark_by, covers_by, rank_met, ranks_met, Kept, hop_taken, with_rank, Taking, Scanned};
-ghost use Rattle.handler.specs.Ranks.{lookup_by, ValidatedBy};
+ghost use Rattle.handler.specs.Ranks.{ValidatedBy};
 ghost use Rattle.octets.specs.Flags.{flag_tag};
 ghost use Rattle.octets.specs.Records.{hop_by};
 ghost use Rattle.stores.specs.Store.{unless_withdrawn};
 ghost use Rattle.handler.specs.Shapes.{flagged_by};
 
 use crate::settings;
-use crate::way::{Lookup, Own};
 use octets::Record;
-use rules::{FieldRead, Ruling};
+use rules::{FieldRead, NextHop};
 
 // Destination above serial.
 fn rank_of(r: Record) -> u64
@@ -47,7 +46,7 @@ fn mark_of(mixed: u64) -> u8
 fn rank_at(v: &[u8]) -> u64
     ensures { result ≡ rank_of (hop_of v.now) }
 {
-    octets::be16(v, 0) as u64 * 4294967296 + octets::be32(v, 10) as u64
+    u64::from(octets::be16(v, 0)) * 4294967296 + u64::from(octets::be32(v, 10))
 }
 
 // Whether a rank is that of one of the first n records. Few are looked for, so that the ranks are read anew and not kept.
@@ -60,7 +59,7 @@ fn met(s: &[u8], from: usize, n: usize, rank: u64) -> bool
         if left == 0 {
             return false;
         }
-        let FieldRead::Taken { tag, next, .. } = octets::field_at(s, at) else {
+        let Some(FieldRead { tag, next, .. }) = octets::field_at(s, at) else {
             return false;
         };
         if tag == 2 {
@@ -75,16 +74,12 @@ fn met(s: &[u8], from: usize, n: usize, rank: u64) -> bool
 }
 
 // Another rank's mark alone in the slot shows that no earlier record has this rank; only else is there a look at them all.
+#[tactic(auto, using(crate::proofs::ValidationLaws::uncovered))]
 fn fresh(s: &[u8], from: usize, n: usize, rank: u64, old: u8, mark: u8) -> bool
     requires { covers_by old mark ≡ false → rank_met rank (ranks_met s.now from n) ≡ false }
     ensures { result ≡ not (rank_met rank (ranks_met s.now from n)) }
 {
-    if old != mark {
-        if old != 255 {
-            return true;
-        }
-    }
-    !met(s, from, n, rank)
+    (old != mark && old != 255) || !met(s, from, n, rank)
 }
 
 // Whether a record of a size goes with the n before it; then its rank is marked. Most are the first in their slot.
@@ -93,13 +88,7 @@ fn admit(s: &[u8], from: usize, seen: &mut [u8], n: usize, size: usize, r: Recor
     ensures { Taking (hop_taken (ranks_met s.now from n) n size (hop_by r)) (with_rank (ranks_met s.now from n) (hop_by r))
         result seen.new }
 {
-    if !octets::hop_size(size) {
-        return false;
-    }
-    if !octets::record_good(r) {
-        return false;
-    }
-    if 64 <= n {
+    if !octets::hop_size(size) || !octets::record_good(r) || 64 <= n {
         return false;
     }
     let rank = rank_of(r);
@@ -126,28 +115,29 @@ pub struct Flags {
 }
 
 // The flags once one more is seen.
+#[tactic(auto, unfolding(crate::specs::Shapes::flagged_by, octets::specs::Flags::flag_tag))]
 fn flagged(flags: Flags, tag: u8, v: &[u8]) -> Flags
     requires { flag_tag tag ≡ true }
     ensures { result ≡ flagged_by flags (field tag v.now) }
 {
-    if tag == 3 {
-        return Flags {
-            strip: octets::octet(v, 0) != 0,
-            rfc7179: flags.rfc7179,
-        };
-    }
-    Flags {
-        strip: flags.strip,
-        rfc7179: octets::octet(v, 0) == 2,
+    let o = octets::octet(v, 0);
+    match tag {
+        3 => Flags {
+            strip: o != 0,
+            ..flags
+        },
+        _ => Flags {
+            rfc7179: o == 2,
+            ..flags
+        },
     }
 }
 
-// What one pass over the fields finds: whether they are good, and then the flags and the record that rules for a destination.
+// What one pass over good fields finds: the flags, and the record that rules for a destination.
 #[derive(Clone, Copy)]
 pub struct Scan {
-    pub good: bool,
     pub flags: Flags,
-    pub best: Ruling,
+    pub best: Option<NextHop>,
 }
 
 const NO_FLAGS: Flags = Flags {
@@ -155,114 +145,70 @@ const NO_FLAGS: Flags = Flags {
     rfc7179: false,
 };
 
-fn scan_from(s: &[u8], from: usize, d: u16) -> Scan
+fn scan_from(s: &[u8], from: usize, d: u16) -> Option<Scan>
     requires { from ≤ length s.now }
     ensures { Scanned s.now from d result }
 {
     let mut seen = [0u8; 256];
     let mut n = 0;
-    let mut best = Ruling::Absent;
+    let mut best = None;
     let mut flags = NO_FLAGS;
     let mut at = from;
     while at < s.len() {
-        let FieldRead::Taken { tag, next, .. } = octets::field_at(s, at) else {
-            return bad_scan();
+        let Some(FieldRead { tag, next, .. }) = octets::field_at(s, at) else {
+            return None;
         };
         let v = &s[at + 3..next];
         if tag == 2 {
             let r = octets::record_of(v);
             if !admit(s, from, &mut seen, n, v.len(), r) {
-                return bad_scan();
+                return None;
             }
             n += 1;
             best = settings::newer(d, best, r);
             at = next;
         } else {
-            if octets::flag_code(tag, v) != 0 {
-                return bad_scan();
+            if octets::check_flag(tag, v).is_err() {
+                return None;
             }
             flags = flagged(flags, tag, v);
             at = next;
         }
     }
-    Scan {
-        good: true,
-        flags: flags,
-        best: best,
-    }
-}
-
-fn bad_scan() -> Scan
-    ensures { result.good ≡ false }
-{
-    Scan {
-        good: false,
-        flags: NO_FLAGS,
-        best: Ruling::Absent,
-    }
+    Some(Scan { flags, best })
 }
 
 // "if it is a withdrawal, there is no next hop"
-fn unless_withdrawn(best: Ruling) -> Ruling
+#[tactic(auto, unfolding(stores::specs::Store::unless_withdrawn))]
+fn unless_withdrawn(best: Option<NextHop>) -> Option<NextHop>
     ensures { result ≡ unless_withdrawn best }
 {
-    let Ruling::Found(r) = best else {
-        return Ruling::Absent;
-    };
-    if r.neighbour == 0 {
-        return Ruling::Absent;
-    }
-    Ruling::Found(r)
+    best.filter(|r| r.neighbour != 0)
 }
 
-// Whether settings are good, and then their flags and the next hop for one destination. What we are ourselves is not handed through: it would
-// be copied, and a processor waits for what was stored in one width and is read in another.
+// The flags of good settings, and their next hop for one destination. What we are ourselves is not handed through: it would be copied, and a
+// processor waits for what was stored in one width and is read in another.
 #[derive(Clone, Copy)]
 pub struct Validated {
-    pub good: bool,
     pub strip: bool,
     pub rfc7179: bool,
-    pub hop: Ruling,
+    pub hop: Option<NextHop>,
 }
 
-fn bad() -> Validated
-    ensures { result.good ≡ false }
-{
-    Validated {
-        good: false,
-        strip: false,
-        rfc7179: false,
-        hop: Ruling::Absent,
-    }
-}
-
-pub fn lookup(own: Own, j: Validated) -> Lookup
-    ensures { result ≡ lookup_by own j }
-{
-    let hop = j.hop;
-    Lookup {
-        own: own,
-        strip: j.strip,
-        rfc7179: j.rfc7179,
-        hop: hop,
-    }
-}
-
-pub fn validate(s: &[u8], d: u16) -> Validated
+// Nothing of bad settings.
+pub fn validate(s: &[u8], d: u16) -> Option<Validated>
     ensures { ValidatedBy s.now d result }
 {
-    let FieldRead::Taken { tag, next, .. } = octets::field_at(s, 0) else {
-        return bad();
+    let Some(FieldRead { tag, next, .. }) = octets::field_at(s, 0) else {
+        return None;
     };
     if !octets::opens(tag, &s[3..next]) {
-        return bad();
+        return None;
     }
-    let r = scan_from(s, next, d);
-    let best = r.best;
-    Validated {
-        good: r.good,
-        strip: r.flags.strip,
-        rfc7179: r.flags.rfc7179,
-        hop: unless_withdrawn(best),
-    }
+    let scan = scan_from(s, next, d)?;
+    Some(Validated {
+        strip: scan.flags.strip,
+        rfc7179: scan.flags.rfc7179,
+        hop: unless_withdrawn(scan.best),
+    })
 }

@@ -4,11 +4,12 @@ ghost use Rattle.rules.specs.Octets.{octets48};
 ghost use Rattle.rules.specs.Link.{link};
 ghost use Rattle.rules.specs.Channel.{return_path};
 ghost use Rattle.rules.specs.WayOut.{way_out_by};
+ghost use Rattle.rules.specs.Answer.{number_of};
 ghost use Rattle.octets.specs.Words.{octets64};
 ghost use Rattle.octets.specs.Copy.{Wrote};
 ghost use Rattle.handler.specs.Shapes.{link_size, ways_by, WayDone};
 
-use rules::{NextHop, Ruling};
+use rules::{NextHop, Number};
 
 // Own nickname, and own MAC above 16 bits that say nothing: so a store has it, and so its octets are written, eight in one.
 #[derive(Clone, Copy)]
@@ -17,23 +18,13 @@ pub struct Own {
     pub word: u64,
 }
 
-// As `header::copy_of`.
-pub fn copy_of(own: Own) -> Own
-    ensures { result ≡ own }
-{
-    Own {
-        nickname: own.nickname,
-        word: own.word,
-    }
-}
-
 // With the strip flag, the edition, and the next hop for the one destination that is asked for.
 #[derive(Clone, Copy)]
 pub struct Lookup {
     pub own: Own,
     pub strip: bool,
     pub rfc7179: bool,
-    pub hop: Ruling,
+    pub hop: Option<NextHop>,
 }
 
 // How long the link header towards a next hop is.
@@ -70,13 +61,15 @@ pub fn write_link(t: Lookup, r: NextHop, out: &mut [u8]) -> usize
 }
 
 // The next hop back: "No return path: the ingress is our own nickname or has no next hop."
-pub fn return_path(t: Lookup, ingress: u16) -> Ruling
+#[tactic(auto, unfolding(rules::specs::Channel::return_path))]
+pub fn return_path(t: Lookup, ingress: u16) -> Option<NextHop>
     ensures { result ≡ return_path (ways_by t) ingress }
 {
     if ingress == t.own.nickname {
-        return Ruling::Absent;
+        None
+    } else {
+        t.hop
     }
-    t.hop
 }
 
 // What a caller who asks for the way out is answered.
@@ -87,11 +80,11 @@ pub struct WayOut {
     pub length: u32,
 }
 
-pub fn no_way(number: u32) -> WayOut
-    ensures { result ≡ record { number = number; length = 0 } }
+pub fn no_way(number: Number) -> WayOut
+    ensures { result ≡ record { number = number_of number; length = 0 } }
 {
     WayOut {
-        number: number,
+        number: number as u32,
         length: 0,
     }
 }
@@ -100,12 +93,11 @@ pub fn no_way(number: u32) -> WayOut
 pub fn way_out(t: Lookup, out: &mut [u8]) -> WayOut
     ensures { WayDone (way_out_by (ways_by t) 0 (length out.old)) result out.old out.new }
 {
-    let hop = t.hop;
-    let Ruling::Found(r) = hop else {
-        return no_way(21);
+    let Some(r) = t.hop else {
+        return no_way(Number::NoNextHop);
     };
     if out.len() < link_length(r.vlan) {
-        return no_way(2);
+        return no_way(Number::OutputShort);
     }
     WayOut {
         number: 0,

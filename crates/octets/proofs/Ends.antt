@@ -1,97 +1,30 @@
 -- Reading at and past the end of an octet string, and copying what fits.
 use mathlib.Core.Path.{◌≡◌, refl, sym, ◌∙◌}
-use mathlib.Core.List.{List, [], ◌∷◌, ◌++◌, append-nil}
-use Prim.Native.Nat.{ℕ, ◌+◌, ◌-◌, ◌*◌, ◌/◌, ◌%◌, ◌≤◌, ◌<◌}
+use mathlib.Core.List.{List, [], ◌∷◌, ◌++◌, append_assoc}
+use Prim.Native.Nat.{ℕ, ◌+◌, ◌-◌, ◌/◌, ◌%◌, ◌≤◌, ◌<◌}
 use native.Mathlib.Omega.{arith}
-use native.Mathlib.Nat.{add-zero, add_assoc}
-use native.Mathlib.Numerals.{add-one}
+use native.Mathlib.Nat.{add-zero}
 use borrow.Author.Rules.{rules}
-use mir.Syntax.{w8}
-use mir.Val.{Fits}
-use lib.Seq.{paste, paste-zero, paste-suc, take-length, take_all, take-add, length-take-le}
-use lib.ListN.{length, get_or, set, take, drop, replicate, length-append, length-take, length-drop, length-replicate}
-use lib.ListN.{take-append-drop, drop_of_length-le, get_or-eq_default}
-use Rattle.rules.proofs.{TestLaws.tests, OctetLaws.put_none, OctetLaws.put_put, OctetLaws.put_tail, OctetLaws.put_front, OctetLaws.length_put}
+use borrow.Rule.Slice.PartMut.{put_mid}
+use lib.Seq.{get_or-set_same, get_or-set_other, drop-drop, take-add, length-take-le}
+use lib.ListN.{length, length-set, get_or, set, take, drop, length-append}
+use Rattle.rules.proofs.{TestLaws.tests, TestLaws.by_order, OctetLaws.put_none, OctetLaws.put_put, OctetLaws.length_put}
+use Rattle.rules.specs.Octets as O
 use Rattle.rules.specs.Octets.{octet, be16, be32, be48, octets16, octets48, put}
 use Rattle.octets.specs.Copy.{Wrote, fitting}
-use Rattle.octets.proofs.Bits.{swapped_octets}
-use Rattle.octets.specs.Words.{be64, octets64, low_first, le64, swapped}
-use Rattle.rules.specs.Octets as O
 
--- what is read past the end is 0
-pub octet_past : (s : List ℕ) (n : ℕ) → length s ≤ n → 0 ≡ octet s n
-octet_past s n h = rw (get_or-eq_default s 0 h)
-
-pub be16_past : (s : List ℕ) (n : ℕ) → length s ≤ n → 0 ≡ be16 s n
-be16_past s n h = omega (arith, octet_past s n h, octet_past s (n + 1) (omega arith))
-
-pub be32_past : (s : List ℕ) (n : ℕ) → length s ≤ n → 0 ≡ be32 s n
-be32_past s n h = omega (arith, be16_past s n h, be16_past s (n + 2) (omega arith))
-
-pub be48_past : (s : List ℕ) (n : ℕ) → length s ≤ n → 0 ≡ be48 s n
-be48_past s n h = omega (arith, be16_past s n h, be32_past s (n + 2) (omega arith))
-
-pub be64_past : (s : List ℕ) (n : ℕ) → length s ≤ n → 0 ≡ be64 s n
-be64_past s n h = omega (arith, be32_past s n h, be32_past s (n + 4) (omega arith))
-
--- reading as the code does: octets lent are below 256, and what is past the end reads 0
-module _ (s : List ℕ) (at : ℕ) where
-  abbrev Octets : Type 0
-  Octets = (i : ℕ) → Fits w8 (get_or s i 0)
-
-  pub octet_read : Octets → get_or s at 0 ≡ octet s at
-  octet_read octets = omega (arith, octets at)
-
-  module _ (r high low : ℕ) where
-    pub be16_last : r ≡ get_or s at 0 * 256 + 0 → Octets → length s - at < 2 → r ≡ be16 s at
-    be16_last e octets h = omega (arith, octets at, octet_past s (at + 1) (omega arith))
-
-    pub be16_read : r ≡ get_or s at 0 * 256 + get_or s (at + 1) 0 → Octets → r ≡ be16 s at
-    be16_read e octets = omega (arith, octets at, octets (at + 1))
-
-    pub be32_last : r ≡ high * 65536 + 0 → high ≡ be16 s at → length s - at < 2 → r ≡ be32 s at
-    be32_last e eh h = omega (arith, be16_past s (at + 2) (omega arith))
-
-    pub be32_read : r ≡ high * 65536 + low → high ≡ be16 s at → low ≡ be16 s (at + 2) → r ≡ be32 s at
-    be32_read e eh el = rw (← eh, ← el) e
-
-    pub be48_last : r ≡ high * 4294967296 + 0 → high ≡ be16 s at → length s - at < 2 → r ≡ be48 s at
-    be48_last e eh h = omega (arith, be32_past s (at + 2) (omega arith))
-
-    pub be48_read : r ≡ high * 4294967296 + low → high ≡ be16 s at → low ≡ be32 s (at + 2) → r ≡ be48 s at
-    be48_read e eh el = rw (← eh, ← el) e
-
-    pub be64_last : r ≡ high * 4294967296 + 0 → high ≡ be32 s at → length s - at < 4 → r ≡ be64 s at
-    be64_last e eh h = omega (arith, be32_past s (at + 4) (omega arith))
-
-    pub be64_read : r ≡ high * 4294967296 + low → high ≡ be32 s at → low ≡ be32 s (at + 4) → r ≡ be64 s at
-    be64_read e eh el = rw (← eh, ← el) e
-
-  pub le64_read : (r : ℕ) → r ≡ low_first (get_or s at 0) (get_or s (at + 1) 0) (get_or s (at + 2) 0) (get_or s (at + 3) 0) (get_or s (at + 4) 0)
-      (get_or s (at + 5) 0) (get_or s (at + 6) 0) (get_or s (at + 7) 0) → Octets → r ≡ le64 s at
-  le64_read r e octets =
-      let low : (i : ℕ) → get_or s i 0 ≡ octet s i = λ i. omega (arith, octets i) in
-      e ∙ rw (← low at, ← low (at + 1), ← low (at + 2), ← low (at + 3), ← low (at + 4), ← low (at + 5), ← low (at + 6), ← low (at + 7))
-
-  -- the low octet first, and then in the other order
-  pub be64_swapped : (n r : ℕ) → n ≡ le64 s at → r ≡ swapped n → r ≡ be64 s at
-  unfolding low_first
-  be64_swapped n r e er = er ∙ swapped_octets _ _ _ _ _ _ _ _ n e (omega arith) (omega arith) (omega arith) (omega arith)
-      (omega arith) (omega arith) (omega arith) (omega arith) ∙ simp add_assoc (omega arith)
-
-pub ruleset octet_laws = (rules, octet_read, octet_past)
-
-pub ruleset be16_laws = (rules, be16_past, be16_last, be16_read)
-
-pub ruleset be32_laws = (rules, be32_past, be32_last, be32_read)
-
-pub ruleset be48_laws = (rules, be48_past, be48_last, be48_read)
-
-pub ruleset part64_laws = (rules, be64_past, be64_last, be64_read)
-
-pub ruleset le64_laws = (rules, le64_read)
-
-pub ruleset be64_laws = (rules, be64_swapped)
+-- octets read one by one
+pub read_on : (s octets : List ℕ) (n i o : ℕ) → length octets ≡ n → ((k : ℕ) → k < i → get_or octets k 0 ≡ octet s k) → i < n → o ≡ octet s i
+    → (length (set octets i o) ≡ n) × ((k : ℕ) → k < i + 1 → get_or (set octets i o) k 0 ≡ octet s k)
+read_on s octets n i o long before h e = (
+  rw length-set long,
+  λ k l.
+      by_order k i
+      (λ m. get_or-set_other octets i k o 0 (omega arith) ∙ before k m)
+      (λ m.
+      let here : k ≡ i = omega arith in
+      rw here (get_or-set_same octets i o 0 (omega arith) ∙ e)),
+)
 
 -- the six octets of a number
 pub six_octets : (n a b c d e f : ℕ) → a ≡ n / 1099511627776 % 256 → b ≡ n / 4294967296 % 256 → c ≡ n / 16777216 % 256 → d ≡ n / 65536 % 256
@@ -101,51 +34,15 @@ six_octets n a b c d e f ea eb ec ed ee ef =
     let third : c ≡ n / 65536 / 256 % 256 = omega arith in
     rw (first, eb, third, ed, ee, ef)
 
-pub ruleset six_laws = (rules, six_octets)
-
--- and the eight
-pub eight_octets : (n a b c d e f g h : ℕ) → a ≡ n / 72057594037927936 % 256 → b ≡ n / 281474976710656 % 256 → c ≡ n / 1099511627776 % 256
-    → d ≡ n / 4294967296 % 256 → e ≡ n / 16777216 % 256 → f ≡ n / 65536 % 256 → g ≡ n / 256 % 256 → h ≡ n % 256
-    → (a ∷ b ∷ c ∷ d ∷ e ∷ f ∷ g ∷ h ∷ []) ≡ octets64 n
-eight_octets n a b c d e f g h ea eb ec ed ee ef eg eh =
-    let first : a ≡ n / 65536 / 4294967296 / 256 % 256 = omega arith in
-    let second : b ≡ n / 65536 / 4294967296 % 256 = omega arith in
-    let third : c ≡ n / 65536 / 65536 / 256 % 256 = omega arith in
-    let fourth : d ≡ n / 65536 / 65536 % 256 = omega arith in
-    let fifth : e ≡ n / 65536 / 256 % 256 = omega arith in
-    rw (first, second, third, fourth, fifth, ef, eg, eh)
-
-pub ruleset eight_laws = (rules, eight_octets)
-
--- of four numbers
-pub four_octets : (a b c d n h l : ℕ) (r : List ℕ) → a < 65536 → b < 65536 → c < 65536 → d < 65536 → r ≡ octets64 n → n ≡ h * 4294967296 + l
-    → h ≡ a * 65536 + b → l ≡ c * 65536 + d → r ≡ octets16 a ++ octets16 b ++ octets16 c ++ octets16 d
-four_octets a b c d n h l r sa sb sc sd er en eh el =
-    let a1 : n / 65536 / 4294967296 / 256 % 256 ≡ a / 256 % 256 = omega arith in
-    let a2 : n / 65536 / 4294967296 % 256 ≡ a % 256 = omega arith in
-    let b1 : n / 65536 / 65536 / 256 % 256 ≡ b / 256 % 256 = omega arith in
-    let b2 : n / 65536 / 65536 % 256 ≡ b % 256 = omega arith in
-    let c1 : n / 65536 / 256 % 256 ≡ c / 256 % 256 = omega arith in
-    let c2 : n / 65536 % 256 ≡ c % 256 = omega arith in
-    let d1 : n / 256 % 256 ≡ d / 256 % 256 = omega arith in
-    let d2 : n % 256 ≡ d % 256 = omega arith in
-    er ∙ rw (a1, a2, b1, b2, c1, c2, d1, d2)
-
-pub ruleset four_laws = (rules, four_octets)
-
--- and in the other order
-pub swapped_made : (n a b c d e f g h r : ℕ) → r ≡ low_first a b c d e f g h → a ≡ n / 72057594037927936 % 256 → b ≡ n / 281474976710656 % 256
-    → c ≡ n / 1099511627776 % 256 → d ≡ n / 4294967296 % 256 → e ≡ n / 16777216 % 256 → f ≡ n / 65536 % 256 → g ≡ n / 256 % 256 → h ≡ n % 256
-    → r ≡ swapped n
-swapped_made n a b c d e f g h r er ea eb ec ed ee ef eg eh = er ∙ rw (ea, eb, ec, ed, ee, ef, eg, eh)
-
-pub ruleset swap64_laws = (rules, swapped_made)
-
 -- nothing written
 pub wrote_none : (out : List ℕ) (at : ℕ) → Wrote [] at at out out
 wrote_none out at = record { ends = sym (add-zero at); after = sym (put_none out at) }
 
 module _ (out : List ℕ) (at : ℕ) (s : List ℕ) where
+  written : put_mid at (length s) out s ≡ put out at s
+  unfolding O.put
+  written = rw (drop-drop, append_assoc)
+
   pub fits_all : at + length s ≤ length out → fitting out at s ≡ s
   unfolding fitting
   fits_all h = simp tests
@@ -162,10 +59,13 @@ module _ (out : List ℕ) (at : ℕ) (s : List ℕ) where
     pub copy_over : length out - at < length s → Wrote (fitting out at s) at at out out
     copy_over h = copy_none (omega arith)
 
-    pub copy_within : (out' : List ℕ) → out' ≡ put out at s → length s ≤ length out - at → Wrote (fitting out at s) at (at + length s) out out'
-    copy_within out' e h = rw (fits_all (omega arith)) (record { ends = refl; after = e })
+    pub copy_into : (now : List ℕ) → now ≡ s → length s ≤ length out - at
+        → Wrote (fitting out at s) at (at + length s) out (put_mid at (at + length s - at) out now)
+    copy_into now e h =
+        let size : at + length s - at ≡ length s = omega arith in
+        rw (fits_all (omega arith)) (record { ends = refl; after = rw (size, e) written })
 
-pub ruleset copy_laws = (rules, copy_outside, copy_over, copy_within)
+pub ruleset copy_laws = (rules, copy_outside, copy_over, copy_into)
 
 -- a copy that fits is a write, and two writes side by side are one
 pub copied : {out out' s t : List ℕ} {at end : ℕ} → Wrote (fitting out at s) at end out out' → s ≡ t → at + length t ≤ length out → Wrote t at end out out'
@@ -182,30 +82,7 @@ pub copied_on : {out mid out' s t u : List ℕ} {at here end : ℕ} → Wrote s 
     → at + (length s + length t) ≤ length out → Wrote (s ++ t) at end out out'
 copied_on a w e h = joined a (copied w e (omega (arith, wrote_long a (omega arith))))
 
--- the loop of `fill_octets`: `out` has the first i octets of `s` in it from `at` on
-module _ (d : List ℕ) (at : ℕ) (s : List ℕ) (i : ℕ) (out : List ℕ) (is : out ≡ paste d at s i) where
-  pub fill_on : i < length s → at + length s ≤ length d → set out (at + i) (get_or s i 0) ≡ paste d at s (i + 1)
-  fill_on h room = rw (is, add-one, paste-suc d at s i 0 (omega arith) (omega arith))
-
-  pub fill_end : i ≤ length s → length s ≤ i → out ≡ put d at s
-  unfolding O.put
-  fill_end h k = let e : i ≡ length s = omega arith in is ∙ rw (e, take-length)
-
-pub ruleset fill_laws = (rules, paste-zero, fill_on, fill_end)
-
--- a block, by way of an array of our own
-pub block_all : (k : ℕ) (s b : List ℕ) → length s ≡ k → b ≡ put (replicate k 0) 0 s → b ≡ s
-block_all k s b n is =
-    let zeros = replicate {A = ℕ} k 0 in
-    let none : drop (length s) zeros ≡ [] = drop_of_length-le zeros {i = length s} (omega (arith, length-replicate {A = ℕ} k 0)) in
-    is ∙ rw (put_front zeros s, none, append-nil)
-
-pub block_through : (d : List ℕ) (at : ℕ) (s b : List ℕ) → length s ≡ 16 → b ≡ put (replicate 16 0) 0 s → {d' : List ℕ} → d' ≡ put d at b → d' ≡ put d at s
-block_through d at s b n is e = rw (block_all 16 s b n is) at e
-
-pub ruleset block_laws = (rules, block_through)
-
--- a loop that copies parts of one size: `out` has the first i octets of `s` in it from `at` on
+-- a loop that copies parts: `out` has the first i octets of `s` in it from `at` on
 module _ (d : List ℕ) (at : ℕ) (s : List ℕ) where
   pub parts_begin : d ≡ put d at (take 0 s)
   parts_begin = sym (put_none d at)
@@ -216,37 +93,4 @@ module _ (d : List ℕ) (at : ℕ) (s : List ℕ) where
         let size : i + n - i ≡ n = omega arith in
         rw (e, is, size, take-add i n s) (put_put d at (take i s) (at + i) (take n (drop i s)) (rw (length-take-le i s h)))
 
-    -- the last one is written over the end of what is there
-    pub parts_end : (last : ℕ) → out' ≡ put out (at + last) (take (length s - last) (drop last s)) → last ≤ i → i ≤ length s
-        → at + length s ≤ length d → out' ≡ put d at s
-    parts_end last e h k room =
-        let long = length-take-le last s (omega arith) in
-        let more : last + (i - last) ≡ i = omega arith in
-        let rest : take (length s - last) (drop last s) ≡ drop last s = take_all (length s - last) (drop last s) (rw length-drop (omega arith)) in
-        let split : take i s ≡ take last s ++ take (i - last) (drop last s) = rw more at (take-add last (i - last) s) in
-        let over = put_tail d at (take last s) (take (i - last) (drop last s)) (drop last s) (omega (arith, long))
-        (omega (arith, length-take (i - last) (drop last s))) in
-        rw (e, is, rest, split) (rw (long, take-append-drop) at over)
-
 pub ruleset parts = (parts_begin, parts_on)
-
--- its invariant where the last part, of n octets, may lie over the end of those before
-abbrev pub Parts : ℕ → List ℕ → ℕ → List ℕ → ℕ → List ℕ → ℕ → Type 0
-Parts n d at s last out i = (i ≤ length s) × (last + n ≡ length s) × (out ≡ put d at (take i s)) × (length out ≡ length d)
-
-pub ruleset blocks_laws = (rules, parts, parts_end)
-
--- four blocks, one behind the other; `on` is a premise of its own, so that `search` finds the third by its place and has fewer buffers to compare
-module _ (s : List ℕ) (size : length s ≡ 64) where
-  pub first_block : length (take 16 s) ≡ 16
-  first_block = length-take-le 16 s (omega arith)
-
-  pub four_blocks : (d : List ℕ) (at : ℕ) (a b b' c out : List ℕ) → a ≡ put d at (take 16 s) → b ≡ put a (at + 16) (take 16 (drop 16 s))
-      → c ≡ put b' (at + 32) (take 16 (drop 32 s)) → out ≡ put c (at + 48) (take (length s - 48) (drop 48 s)) → b' ≡ b
-      → at + 64 ≤ length d → out ≡ put d at s
-  four_blocks d at a b b' c out ea eb ec ed on room =
-      let two = parts_on d at s 16 a ea b 16 (omega arith) eb in
-      let three = parts_on d at s 32 b two c 16 (omega arith) (rw on at ec) in
-      parts_end d at s 48 c three out 48 ed (omega arith) (omega arith) (omega arith)
-
-pub ruleset four_blocks_laws = (rules, first_block, four_blocks)

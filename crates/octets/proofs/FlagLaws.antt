@@ -1,35 +1,17 @@
--- The value of a strip flag or an edition as the code checks it, one law for each way out, and that such a flag goes with settings by its length and
--- its value alone. By cases of the tag and of the tests.
+-- A strip flag or an edition goes with settings by its length and its value alone. By cases of the tag and of the tests.
 use mathlib.Core.Path.{◌≡◌}
 use mathlib.Core.List.{List}
 use mathlib.Core.Bool.{true, not, ◌&&◌, not-not}
 use Prim.Native.Nat.{ℕ}
 use native.Mathlib.Omega.{arith}
-use borrow.Author.Rules.{rules}
 use borrow.Author.Tests.{not-false}
-use lib.Dec.{leb, eqb}
+use lib.Dec.{eqb}
 use lib.ListN.{length}
-use Rattle.rules.specs.{Octets.octet, Fields.field, Fields.length_good, Settings.Settings, Settings.continues}
+use Rattle.rules.specs.{Fields.field, Fields.length_good, Settings.Settings, Settings.continues}
 use Rattle.rules.proofs.TestLaws.{and_no, and_yes, by_equal, tests}
 use Rattle.rules.proofs.FrameLaws.{none_given}
 use Rattle.octets.specs.Flags.{flag_tag, flag_value, flag_by}
 use Rattle.octets.proofs.Cases.{coded}
-
-module _ (tag : ℕ) (v : List ℕ) (o : ℕ) (is : o ≡ octet v 0) where
-  pub value_strip : tag ≡ 3 → leb o 1 ≡ flag_value tag v
-  unfolding flag_value
-  value_strip e = rw (e, is)
-
-  module _ (n : tag ≡ 3 → ⊥) where
-    pub value_one : o ≡ 1 → true ≡ flag_value tag v
-    unfolding flag_value
-    value_one e = simp (← is, e, tests)
-
-    pub value_two : (o ≡ 1 → ⊥) → eqb o 2 ≡ flag_value tag v
-    unfolding flag_value
-    value_two e = simp (← is, tests)
-
-pub ruleset flag_value_laws = (rules, value_strip, value_one, value_two)
 
 -- what is known of one that is not refused
 module _ (tag : ℕ) (v : List ℕ) (e : flag_by tag v ≡ 0) where

@@ -2,15 +2,12 @@
 -- their order.
 use mathlib.Core.Path.{◌≡◌, refl}
 use mathlib.Core.List.{List}
-use mathlib.Core.Bool.{Bool, true, false, not, ◌&&◌}
-use Prim.Native.Nat.{ℕ, ◌+◌, ◌*◌, ◌/◌, ◌%◌, ◌<◌, ◌≤◌}
+use mathlib.Core.Bool.{not, ◌&&◌, ◌||◌}
+use Prim.Native.Nat.{ℕ, ◌+◌, ◌*◌, ◌/◌, ◌%◌}
 use native.Mathlib.Omega.{arith}
-use borrow.Author.Rules.{rules}
-use borrow.Author.Tests.{not-true, not-false, ne_eqb}
 use lib.Dec.{leb, eqb}
 use Rattle.rules.specs.Octets.{be16, be32, be48}
 use Rattle.rules.specs.Settings.{nickname_valid, hop_good, hop_of}
-use Rattle.rules.proofs.TestLaws.{tests, and_no, and_yes}
 use Rattle.octets.specs.declared.values.Record.{Record}
 use Rattle.octets.specs.Words.{be64}
 use Rattle.octets.specs.Records.{record_of, hop_by}
@@ -25,45 +22,18 @@ hop_read v head tail eh et =
 pub hop_same : (v : List ℕ) → hop_by (record_of v) ≡ hop_of v
 hop_same v = hop_read v (be64 v 0) (be64 v 6) refl refl
 
-module _ (r : Record) (a : Bool) (is_a : a ≡ nickname_valid (r.head / 281474976710656)) where
-  abbrev mac : ℕ
-  mac = r.head % 4294967296 * 65536 + r.tail / 4294967296 % 65536
+abbrev mac_of : Record → ℕ
+mac_of r = (hop_by r).mac
 
-  pub destination_bad : not a ≡ true → false ≡ hop_good (hop_by r)
-  unfolding hop_good
-  destination_bad t = cc (not-true a t)
+mac_zero : (a b : ℕ) → eqb (a * 65536 + b) 0 ≡ (eqb a 0 && eqb b 0)
+mac_zero a b = grind arith
 
-  module _ (t : not a ≡ false) where
-    valid : nickname_valid (r.head / 281474976710656) ≡ true
-    valid = cc (not-false a t)
-
-    pub group_bad : (r.head / 16777216 % 2 ≡ 0 → ⊥) → false ≡ hop_good (hop_by r)
-    unfolding hop_good
-    group_bad u = cc (valid, ne_eqb (mac / 1099511627776 % 2) 0 (omega (arith, u)))
-
-    module _ (u : r.head / 16777216 % 2 ≡ 0) where
-      decided : hop_good (hop_by r) ≡ ((not (eqb mac 0) && leb (r.head / 4294967296 % 65536) 0xFFBF) && leb r.vlan 4094)
-      unfolding hop_good
-      decided =
-          let single : mac / 1099511627776 % 2 ≡ 0 = omega arith in
-          rw (valid, single, withdrawn_or_valid)
-
-      pub neighbour_bad : 0xFFBF < r.head / 4294967296 % 65536 → false ≡ hop_good (hop_by r)
-      neighbour_bad h = rw decided (simp (tests, and_no))
-
-      module _ (n : r.head / 4294967296 % 65536 ≤ 0xFFBF) where
-        pub vlan_bad : 4094 < r.vlan → false ≡ hop_good (hop_by r)
-        vlan_bad h = rw decided (simp (tests, and_no))
-
-        module _ (w : r.vlan ≤ 4094) where
-          pub mac_some : (r.head % 4294967296 ≡ 0 → ⊥) → true ≡ hop_good (hop_by r)
-          mac_some h =
-              let some : mac ≡ 0 → ⊥ = λ e. h (omega arith) in
-              rw decided (simp tests)
-
-          pub mac_rest : r.head % 4294967296 ≡ 0 → not (eqb (r.tail / 4294967296 % 65536) 0) ≡ hop_good (hop_by r)
-          mac_rest h =
-              let rest : mac ≡ r.tail / 4294967296 % 65536 = omega arith in
-              rw (decided, rest) (simp (tests, and_yes))
-
-pub ruleset record_good_laws = (rules, destination_bad, group_bad, neighbour_bad, vlan_bad, mac_some, mac_rest)
+-- whether a record is good, as the code tests it: the group bit where it stands, and of the MAC its first four octets first
+pub chain : (r : Record) → hop_good (hop_by r) ≡ (nickname_valid (r.head / 281474976710656) && eqb (r.head / 16777216 % 2) 0
+    && leb (r.head / 4294967296 % 65536) 0xFFBF && leb r.vlan 4094
+    && (not (eqb (r.head % 4294967296) 0) || not (eqb (r.tail / 4294967296 % 65536) 0)))
+unfolding hop_good
+chain r =
+    let group : mac_of r / 1099511627776 % 2 ≡ r.head / 16777216 % 2 = omega arith in
+    let some : eqb (mac_of r) 0 ≡ (eqb (r.head % 4294967296) 0 && eqb (r.tail / 4294967296 % 65536) 0) = mac_zero _ _ in
+    rw (group, some, withdrawn_or_valid) (grind arith)

@@ -1,16 +1,18 @@
 -- The parts of a number of eight octets are what is read where they stand; the header that one such number has, and the field that one begins.
 -- By arithmetic.
+use Rattle.std.specs.Prelude.{Some, Ok}
 use mathlib.Core.Path.{◌≡◌, refl, sym, ◌∙◌}
 use mathlib.Core.List.{List}
 use Prim.Native.Nat.{ℕ, ◌+◌, ◌-◌, ◌*◌, ◌/◌, ◌%◌, ◌≤◌}
 use native.Mathlib.{Omega.arith, Nat.add_assoc}
-use lib.ListN.{length}
+use lib.ListN.{length, get_or}
+use mir.Syntax.{w8}
+use mir.Val.{Fits}
 use borrow.Author.Tests.{le-ltb}
 use Rattle.rules.specs.{Octets.octet, Octets.be16, Octets.be32, Fields.field_at}
 use Rattle.rules.specs.{Header.read_frame, Link.link_length, Link.ethertype_trill}
-use Rattle.rules.specs.declared.{FrameRead.TheVariants.Trill, FieldRead.TheVariants.Taken}
-use Rattle.rules.proofs.{FieldLaws.field_at_laws, FrameLaws.read_frame_laws, FrameLaws.read_trill, FrameLaws.length_plain}
-use Rattle.octets.specs.Words.{be64, le64, low_first}
+use Rattle.rules.proofs.{FieldLaws.field_at_laws, FieldLaws.field_taken_lem, FrameLaws.read_frame_laws, FrameLaws.read_trill, FrameLaws.length_plain}
+use Rattle.octets.specs.Words.{be64}
 
 -- two numbers of four octets, or four of two
 module _ (s : List ℕ) (at n : ℕ) (is : n ≡ be64 s at) where
@@ -38,7 +40,7 @@ module _ (s : List ℕ) (at n : ℕ) (is : n ≡ be64 s at) where
 
 -- a frame without a tag: its Ethertype and the header's three fields
 pub read_untagged : (f : List ℕ) (n : ℕ) → n ≡ be64 f 12 → 20 ≤ length f → n / 281474976710656 ≡ ethertype_trill
-    → Trill (record { place = 14; word = n / 4294967296 % 65536; egress = n / 65536 % 65536; ingress = n % 65536 }) ≡ read_frame f
+    → Ok (record { place = 14; word = n / 4294967296 % 65536; egress = n / 65536 % 65536; ingress = n % 65536 }) ≡ read_frame f
 read_untagged f n is long trill =
     let ether : ethertype_trill ≡ be16 f 12 = sym trill ∙ first_part f 12 n is in
     let plain : 14 ≡ link_length f = length_plain f ethertype_trill ether (omega arith) in
@@ -47,17 +49,20 @@ read_untagged f n is long trill =
 
 pub ruleset read_laws = (read_untagged, read_frame_laws)
 
--- a field that begins with tag 2 and length 14, known by the low three octets
-pub field_record : (s : List ℕ) (at n : ℕ) → n ≡ le64 s at → at ≤ length s → 17 ≤ length s - at → n % 16777216 ≡ 0x0E0002
-    → Taken 2 14 (at + 17) ≡ field_at s at
-unfolding low_first field_at
+-- a field that begins with tag 2 and length 14, known by the high three octets
+pub field_record : (s : List ℕ) (at n : ℕ) → n ≡ be64 s at → at ≤ length s → 17 ≤ length s - at → n / 1099511627776 ≡ 0x02000E
+    → Some (record { tag = 2; length = 14; next = at + 17 }) ≡ field_at s at
+unfolding field_at
 field_record s at n is from room e =
-    let low : octet s at + octet s (at + 1) * 256 + octet s (at + 2) * 65536 ≡ 0x0E0002 = omega arith in
+    let begins : octet s at * 65536 + octet s (at + 1) * 256 + octet s (at + 2) ≡ 0x02000E = omega arith in
     let tag : octet s at ≡ 2 = omega arith in
-    let least : octet s (at + 2) ≤ 14 = omega (arith, low, tag) in
-    let most : 14 ≤ octet s (at + 2) = omega (arith, low, tag) in
-    let size : be16 s (at + 1) ≡ 14 = simp add_assoc (omega (arith, low, tag, least, most)) in
+    let size : be16 s (at + 1) ≡ 14 = simp add_assoc (omega (arith, begins, tag)) in
     let next : at + 3 + 14 ≡ at + 17 = omega arith in
     rw (le-ltb (length s) (at + 3) (omega arith), size, le-ltb (length s) (at + 3 + 14) (omega arith), tag, next)
 
-pub ruleset field_laws = (field_record, field_at_laws)
+-- and any other one, its length converted
+pub field_other : (s : List ℕ) (at size n : ℕ) → size ≡ n → n ≡ be16 s (at + 1) → at ≤ length s → 3 ≤ length s - at
+    → ((i : ℕ) → Fits w8 (get_or s i 0)) → size ≤ length s - at - 3 → Some (record { tag = get_or s at 0; length = size; next = at + 3 + size }) ≡ field_at s at
+field_other s at size n e is from long octets = field_taken_lem s at from long size (e ∙ is) octets
+
+pub ruleset field_laws = (field_record, field_other, field_at_laws)

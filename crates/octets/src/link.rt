@@ -3,7 +3,7 @@ ghost use Rattle.std.specs.Prelude.{◌≡◌};
 ghost use Rattle.rules.specs.Link.{link_length};
 ghost use Rattle.rules.specs.Header as Rules;
 
-use rules::{FrameRead, Header};
+use rules::{Header, Number};
 
 fn link_length(f: &[u8]) -> usize
     ensures { result ≡ link_length f.now }
@@ -16,14 +16,14 @@ fn link_length(f: &[u8]) -> usize
 }
 
 // 10, 11 and 10 again, or the header.
-pub fn read_frame(f: &[u8]) -> FrameRead
+pub fn read_frame(f: &[u8]) -> Result<Header, Number>
     ensures { result ≡ Rules.read_frame f.now }
 {
     // The common case, one read: the Ethertype of a frame without a tag and the header's three fields.
     if 20 <= f.len() {
         let head = crate::be64(f, 12);
-        if head >> 48 == rules::ETHERTYPE_TRILL as u64 {
-            return FrameRead::Trill(Header {
+        if head >> 48 == u64::from(rules::ETHERTYPE_TRILL) {
+            return Ok(Header {
                 place: 14,
                 word: ((head >> 32) % 65536) as u16,
                 egress: ((head >> 16) % 65536) as u16,
@@ -32,19 +32,19 @@ pub fn read_frame(f: &[u8]) -> FrameRead
         }
     }
     if f.len() < 14 {
-        return FrameRead::Unreadable(10);
+        return Err(Number::FrameShort);
     }
     let n = link_length(f);
     if f.len() < n {
-        return FrameRead::Unreadable(10);
+        return Err(Number::FrameShort);
     }
     if crate::be16(f, n - 2) != rules::ETHERTYPE_TRILL {
-        return FrameRead::Unreadable(11);
+        return Err(Number::NotTrill);
     }
     if f.len() < n + 6 {
-        return FrameRead::Unreadable(10);
+        return Err(Number::FrameShort);
     }
-    FrameRead::Trill(Header {
+    Ok(Header {
         place: n,
         word: crate::be16(f, n),
         egress: crate::be16(f, n + 2),

@@ -1,15 +1,17 @@
 -- One law for each way out of the reader's calls that the tests alone do not decide. By the tests in their order.
-use Rattle.std.specs.Prelude.{if◌then◌else◌}
+use Rattle.std.specs.Prelude.{if◌then◌else◌, Some, None, Option, Result, Ok, Err}
 use mathlib.Core.Path.{◌≡◌, refl, sym, ap, ◌∙◌}
+use mathlib.Core.Logic.{inl, inr}
 use mathlib.Core.List.{List, [], ◌∷◌, ◌++◌, append-nil}
 use mathlib.Core.Bool.{Bool, true, false, not}
-use mathlib.Core.Option.{Option, none, some}
-use Prim.Native.Nat.{ℕ, ◌+◌, ◌-◌, ◌%◌, ◌<◌, ◌≤◌}
+use Prim.Native.Nat.{ℕ, min, ◌+◌, ◌-◌, ◌%◌, ◌<◌, ◌≤◌}
 use native.Mathlib.Omega.{arith}
 use native.Mathlib.Nat.{lt_of_lt_of_le}
 use borrow.Author.Rules.{rules}
+use borrow.Author.Tests.{eqb-true, ltb-false, not-false}
 use mir.Val.{Fits}
 use mir.Syntax.{w8}
+use denote.Ref.{Bor}
 use lib.Dec.{ltb, eqb}
 use lib.ListN.{length, get_or, set, take, drop, length-drop}
 use borrow.Rule.Slice.PartMut.{put_mid, post_of, Post-is}
@@ -22,7 +24,15 @@ use Rattle.octets.proofs.Ends.{six_octets, copied}
 use Rattle.handler.specs.{Shapes.answer_of, Tasks.Both}
 use Rattle.stores.specs.Store.{store_words, preparing, Prepared, handled_in}
 use Rattle.handler.specs.declared.answers.Answer.{Answer}
-use Rattle.reader.specs.Bursts.{settings_bad, start_refusal, Started, Burst, saying, burst, BurstDone, gathered_handled, Mark, marking, mark, MarkDone}
+use Rattle.std.specs.Option.{unwrap_or}
+use Rattle.std.specs.Slice.{IsGetRangeResult}
+use Rattle.rules.specs.Answer.{number_of}
+use Rattle.rules.specs.Handling.{frame_most}
+use Rattle.rules.specs.declared.Number.{Number}
+use Rattle.rules.specs.declared.Number.TheVariants as N
+use Rattle.reader.specs.declared.Stopped.{Stopped}
+use Rattle.reader.specs.declared.Stopped.TheVariants.{Refused, Early}
+use Rattle.reader.specs.Bursts.{count_in, early_in, ended_in, with_count, with_early, with_end, settings_bad, stopped, said_by, said_of, start_refusal, Started, Burst, saying, burst, BurstDone, gathered_handled, Mark, marking, mark, MarkDone}
 use Rattle.stores.specs.Store as St
 
 -- a start
@@ -44,8 +54,8 @@ unfolding St.preparing settings_bad
 prepared_bad settings n h = go (settings_of settings) refl
   where
     go : (o : Option Settings) → settings_of settings ≡ o → not (eqb (preparing settings n) 0) ≡ settings_bad settings
-    go none e = rw (preparing, settings_bad, e)
-    go (some T) e = simp (preparing, settings_bad, e, tests)
+    go None e = rw (preparing, settings_bad, e)
+    go (Some T) e = simp (preparing, settings_bad, e, tests)
 
 -- six octets as a number give the six octets back
 clock_kept : (clock : List ℕ) → ((i : ℕ) → Fits w8 (get_or clock i 0)) → length clock ≡ 6 → octets48 (be48 clock 0) ≡ clock
@@ -79,9 +89,10 @@ module _ (settings clock : List ℕ) (room beside_room : ℕ) (w : List ℕ) (k 
       }
 
   pub starts : 168 ≤ length w → (w1 : List ℕ) (p r n : ℕ) → Prepared settings (drop 4 w) (drop 4 w1) p
-      → r ≡ start_refusal (not (eqb p 0)) (length clock) room beside_room → n ≡ be48 clock 0 → length w1 ≡ length w
+      → (k : ℕ) → k ≡ start_refusal (not (eqb p 0)) (length clock) room beside_room → r ≡ k → n ≡ be48 clock 0 → length w1 ≡ length w
       → (w' : List ℕ) → w' ≡ n ∷ 0 ∷ r ∷ 0 ∷ drop 4 w1 → Started settings clock room beside_room w w' r
-  starts a w1 p r n prepared is m same w' e =
+  starts a w1 p r n prepared k' is' r' m same w' e =
+      let is = r' ∙ is' in
       let l : store_words ≤ length (drop 4 w) = rw length-drop (omega arith) in
       record {
         answered = simp (tests, ← prepared_bad settings (length (drop 4 w)) l, ← prepared.answered) is;
@@ -117,27 +128,112 @@ module _ (w g b : List ℕ) (a : 168 ≤ length w) where
       unfolding burst
       burst_on e = simp tests
 
-      pub burst_far : 2048 < get_or w 1 0 → burst w g b ≡ saying 3 (set w 2 3) g
-      burst_far e = burst_over (omega arith)
+-- the tests that stop a burst or a mark, of which the first that holds says why
+module _ (n : ℕ) where
+  abbrev tested : (a b c d : Bool) → Result Unit Stopped
+  tested a b c d =
+      if a then Err (Refused N.OutputShort) else if b then Err (Refused N.FrameEnded) else if c then Err (Early n) else if d then Err (Refused N.OutputShort)
+      else Ok tt
 
-      module _ (c : get_or w 1 0 ≤ 2048) where
-        pub burst_past : 2048 - get_or w 1 0 < length b → burst w g b ≡ saying 3 (set w 2 3) g
-        burst_past e = burst_over (omega arith)
+  none_held : (a b c d : Bool) (u : Unit) → tested a b c d ≡ Ok u → (a ≡ false) × (b ≡ false) × (c ≡ false) × (d ≡ false)
+  none_held true b c d u e = cc
+  none_held false true c d u e = cc
+  none_held false false true d u e = cc
+  none_held false false false true u e = cc
+  none_held false false false false u e = (refl, refl, refl, refl)
 
-        pub burst_copied : length b ≤ 2048 - get_or w 1 0 → (g' : List ℕ) (end : ℕ) → Wrote (fitting g (get_or w 1 0) b) (get_or w 1 0) end g g'
-            → burst w g b ≡ saying 0 (set w 1 end) g'
-        burst_copied e g' end p = let written = copied p refl (omega arith) in rw (written.ends, written.after) (burst_on (omega arith))
+  module _ {A : Type 0} (says : ℕ → A) (early other : A) where
+    abbrev first_says : (a b c d : Bool) → A
+    first_says a b c d = if a then says 2 else if b then says 36 else if c then early else if d then says 2 else other
 
-pub ruleset burst_laws = (rules, tests, burst_done, burst_ended, burst_early, burst_far, burst_past, burst_copied)
+    refusal_says : (a b c d : Bool) (m : Number) → tested a b c d ≡ Err (Refused m) → first_says a b c d ≡ says (number_of m)
+    refusal_says true b c d m e = cc
+    refusal_says false true c d m e = cc
+    refusal_says false false true d m e = cc
+    refusal_says false false false true m e = cc
+    refusal_says false false false false m e = cc
+
+    early_says : (a b c d : Bool) (m : ℕ) → tested a b c d ≡ Err (Early m) → (a ≡ false) × (first_says a b c d ≡ early) × (n ≡ m)
+    early_says true b c d m e = cc
+    early_says false true c d m e = cc
+    early_says false false true d m e = (refl, refl, cc)
+    early_says false false false true m e = cc
+    early_says false false false false m e = cc
+
+-- what is known of the words where nothing stops
+pub record Going (w : List ℕ) (room : ℕ) : Type 0 where
+  pub words : 168 ≤ length w
+  pub open' : get_or w 3 0 ≡ 0
+  pub early : get_or w 2 0 % 65536 ≡ 0
+  pub lent : 2048 ≤ room
+
+module _ (w : List ℕ) (room : ℕ) (x : Result Unit Stopped) (is : x ≡ stopped w room) where
+  pub going : (u : Unit) → x ≡ Ok u → Going w room
+  unfolding stopped
+  going u e =
+      let k = none_held (early_in w) (ltb (length w) 168) (ended_in w) (not (eqb (early_in w) 0)) (ltb room 2048) u (sym is ∙ e) in
+      record {
+        words = omega (arith, ltb-false (length w) 168 k.0);
+        open' = eqb-true (get_or w 3 0) 0 (not-false (eqb (get_or w 3 0) 0) k.1);
+        early = eqb-true (early_in w) 0 (not-false (eqb (early_in w) 0) k.2);
+        lent = omega (arith, ltb-false room 2048 k.3);
+      }
+
+  module _ {A : Type 0} (says : ℕ → A) (early other : A) where
+    abbrev by_tests : A
+    by_tests = first_says (early_in w) says early other (ltb (length w) 168) (ended_in w) (not (eqb (early_in w) 0)) (ltb room 2048)
+
+    refusal_by : (m : Number) → x ≡ Err (Refused m) → by_tests ≡ says (number_of m)
+    unfolding stopped
+    refusal_by m e =
+        refusal_says (early_in w) says early other (ltb (length w) 168) (ended_in w) (not (eqb (early_in w) 0)) (ltb room 2048) m (sym is ∙ e)
+
+    early_by : (m : ℕ) → x ≡ Err (Early m) → (ltb (length w) 168 ≡ false) × (by_tests ≡ early) × (early_in w ≡ m)
+    unfolding stopped
+    early_by m e =
+        early_says (early_in w) says early other (ltb (length w) 168) (ended_in w) (not (eqb (early_in w) 0)) (ltb room 2048) m (sym is ∙ e)
+
+pub ruleset goes_on_laws = (rules, tests)
+
+module _ (w g b : List ℕ) (x : Result Unit Stopped) (is : x ≡ stopped w (length g)) where
+  abbrev taken_in : Burst
+  taken_in =
+      if ltb frame_most (count_in w + length b) then saying 3 (with_early w 3) g
+      else saying 0 (with_count w (count_in w + length b)) (put g (count_in w) b)
+
+  stops : (s : Stopped) → x ≡ Err s → burst w g b ≡ saying (said_by s) w g
+  unfolding burst
+  stops (Refused m) e = refusal_by w (length g) x is (λ (n : ℕ). saying n w g) (saying (early_in w) w g) taken_in m e
+  stops (Early m) e =
+      let k = early_by w (length g) x is (λ (n : ℕ). saying n w g) (saying (early_in w) w g) taken_in m e in
+      k.1 ∙ ap (λ (n : ℕ). saying n w g) k.2
+
+  pub burst_stops : (s : Stopped) → x ≡ Err s → (y : Result Unit Stopped) → y ≡ Err s → BurstDone (burst w g b) (said_of y) w g
+  burst_stops s e y z = rw z (burst_done (burst w g b) (said_by s) w g (stops s e))
+
+  module _ (u : Unit) (on : x ≡ Ok u) (end : ℕ) (sum : end ≡ min (get_or w 1 0 + length b) 18446744073709551615) where
+    pub burst_long : 2048 < end → BurstDone (burst w g b) 3 (set w 2 3) g
+    burst_long h =
+        let k = going w (length g) x is u on in
+        burst_done (burst w g b) 3 (set w 2 3) g (burst_over w g b k.words k.open' k.early k.lent (omega arith))
+
+    pub burst_copied : end ≤ 2048 → (g' : List ℕ) (there : ℕ) → Wrote (fitting g (get_or w 1 0) b) (get_or w 1 0) there g g'
+        → BurstDone (burst w g b) 0 (set w 1 there) g'
+    burst_copied h g' there p =
+        let k = going w (length g) x is u on in
+        let few : get_or w 1 0 + length b ≤ 2048 = omega arith in
+        let written = copied p refl (omega (arith, k.lent)) in
+        burst_done (burst w g b) 0 (set w 1 there) g' (rw (written.ends, written.after) (burst_on w g b k.words k.open' k.early k.lent few))
+
+pub ruleset burst_laws = (rules, burst_stops, burst_long, burst_copied)
 
 -- the octets gathered
-pub held_all : (g : List ℕ) (count : ℕ) → length g < count → g ≡ take count g
-held_all g count h = sym (take_all count g (omega arith))
-
-pub held_length : (g : List ℕ) (count : ℕ) → count ≤ length g → count ≡ length (take count g)
-held_length g count h = sym (length-take-le count g h)
-
-pub ruleset held_laws = (rules, held_all, held_length)
+pub gathered_octets : (g : List ℕ) (count : ℕ) (got : Option (Bor (List ℕ))) (all : Bor (List ℕ)) → all.now ≡ g → IsGetRangeResult g 0 count got
+    → (unwrap_or got all).now ≡ take count g
+gathered_octets g count None all e r = e ∙ sym (take_all count g (elim r.0 [ inl h ↦ absurd (omega (arith, h)) | inr h ↦ omega (arith, h) ]))
+gathered_octets g count (Some x) all e r =
+    let z : count - 0 ≡ count = omega arith in
+    r.0.2 ∙ rw z
 
 -- the handling at a mark
 pub store_lent : (w : List ℕ) → 4 ≤ length w → take (length w - 4) (drop 4 w) ≡ drop 4 w
@@ -150,7 +246,7 @@ pub handled_gathered : (w g : List ℕ) (room beside_room : ℕ) (out out' besid
 unfolding gathered_handled
 handled_gathered w g room beside_room out out' beside beside' r h clock frame c f both = rw (c, f, store_lent w (omega arith)) at both
 
-pub ruleset handle_gathered_laws = (rules, handled_gathered)
+pub ruleset handle_gathered_laws = (rules, handled_gathered, gathered_octets)
 
 -- a mark
 module _ (w g : List ℕ) (room beside_room : ℕ) (a : 168 ≤ length w) where
@@ -168,6 +264,29 @@ module _ (w g : List ℕ) (room beside_room : ℕ) (a : 168 ≤ length w) where
       unfolding mark
       mark_whole l = simp tests
 
+module _ (w g : List ℕ) (x : Result Unit Stopped) (is : x ≡ stopped w (length g)) where
+  pub early_words : (s : Stopped) (m : ℕ) → x ≡ Err s → s ≡ Early m → 168 ≤ length w
+  early_words s m e q = omega (arith, ltb-false (length w) 168 (early_by w (length g) x is (λ (n : ℕ). n) 0 0 m (rw q at e)).0)
+
+  module _ (room beside_room : ℕ) where
+    abbrev handles : Mark
+    handles = marking (gathered_handled w g room beside_room) (with_end w)
+
+    pub mark_goes : (u : Unit) → x ≡ Ok u → mark w g room beside_room ≡ marking (gathered_handled w g room beside_room) (set w 3 1)
+    mark_goes u e = let k = going w (length g) x is u e in mark_whole w g room beside_room k.words k.open' k.early k.lent
+
+    pub mark_refuses : (s : Stopped) (m : Number) (n : ℕ) → x ≡ Err s → s ≡ Refused m → n ≡ number_of m
+        → mark w g room beside_room ≡ marking (dropped n) w
+    unfolding mark
+    mark_refuses s m n e q k =
+        rw k (refusal_by w (length g) x is (λ (n : ℕ). marking (dropped n) w) (marking (dropped (early_in w)) (with_end w)) handles m (rw q at e))
+
+    pub mark_repeats : (s : Stopped) (m : ℕ) → x ≡ Err s → s ≡ Early m → mark w g room beside_room ≡ marking (dropped m) (set w 3 1)
+    unfolding mark
+    mark_repeats s m e q =
+        let k = early_by w (length g) x is (λ (n : ℕ). marking (dropped n) w) (marking (dropped (early_in w)) (with_end w)) handles m (rw q at e) in
+        k.1 ∙ ap (λ (n : ℕ). marking (dropped n) (with_end w)) k.2
+
 module _ (a : Mark) (w' out beside : List ℕ) (r : Answer) where
   pub mark_drops : (n : ℕ) → r ≡ answer_of (dropped n) → a ≡ marking (dropped n) w' → MarkDone a r w' out out beside beside
   mark_drops n e m = rw m (record { both = record { answer = e; after = sym (put_none out 0); after_beside = sym (put_none beside 0) }; words = refl })
@@ -175,7 +294,7 @@ module _ (a : Mark) (w' out beside : List ℕ) (r : Answer) where
   pub mark_handles : (h : Handled) (out' beside' : List ℕ) → Both h r out out' beside beside' → a ≡ marking h w' → MarkDone a r w' out out' beside beside'
   mark_handles h out' beside' both m = rw m (record { both = both; words = refl })
 
-pub ruleset mark_laws = (rules, tests, mark_drops, mark_handles, mark_ended, mark_early, mark_whole)
+pub ruleset mark_laws = (rules, mark_drops, mark_handles, mark_goes, mark_refuses, mark_repeats)
 
 -- the words lent to be the store come back in their place
 pub stored : (settings w ys : List ℕ) (r : ℕ) → 4 ≤ length w → Prepared settings (take (length w - 4) (drop 4 w)) ys r

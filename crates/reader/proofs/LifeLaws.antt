@@ -1,9 +1,9 @@
 -- The claim on a reader's life, for every cut. By induction over the bursts: the words and the gathering buffer hold the octets so far, or the early
 -- answer.
+use Rattle.std.specs.Prelude.{Option, Some, None}
 use mathlib.Core.Path.{◌≡◌, refl, sym, ◌∙◌}
 use mathlib.Core.List.{List, [], ◌∷◌, ◌++◌, append_assoc, append-nil}
 use mathlib.Core.Bool.{Bool, true, false, true≢false}
-use mathlib.Core.Option.{Option, none, some}
 use Prim.Native.Nat.{ℕ, ◌+◌, ◌%◌, ◌<◌, ◌≤◌}
 use native.Mathlib.Omega.{arith}
 use borrow.Author.Tests.{eqb-true, not-false}
@@ -112,7 +112,7 @@ module _ (start : ℕ) (small : start < 64) (u : List ℕ) where
           says = sym three;
           holds =
               word_set 2 3 (omega arith) (omega arith) h (s ++ b) k.lent (get_or-set_same v 2 3 0 (omega (arith, k.long)) ∙ sym three)
-              (λ none. absurd (omega (arith, none, three)));
+              (λ None. absurd (omega (arith, None, three)));
         }))
         (λ o.
         let zero : early_at start (length (s ++ b)) ≡ 0 = simp (early_at, tests) in
@@ -123,7 +123,7 @@ module _ (start : ℕ) (small : start < 64) (u : List ℕ) where
               word_set 1 (length s + length b) (omega arith) (omega arith) (put h (length s) b) (s ++ b)
               (rw (length_put h (length s) b (omega (arith, k.lent, l))) k.lent)
               (get_or-set_other v 1 2 (length s + length b) 0 (omega arith) ∙ k.early ∙ e ∙ sym zero)
-              (λ none. (
+              (λ None. (
                 get_or-set_same v 1 (length s + length b) 0 (omega (arith, k.long)) ∙ sym l,
                 rw l (held_on h s b (k.held e).1 (omega (arith, k.lent, l))),
               ));
@@ -140,7 +140,7 @@ module _ (start : ℕ) (small : start < 64) (u : List ℕ) where
             early = k.early ∙ sym stays;
             open' = k.open';
             store = k.store;
-            held = λ none. absurd (e (sym stays ∙ none));
+            held = λ None. absurd (e (sym stays ∙ None));
           };
         }))
 
@@ -163,13 +163,13 @@ unfolding start_refusal
 none_said true clock room beside_room e = absurd (omega arith)
 none_said false clock room beside_room e = (refl, by_equal clock 6 (λ z. z) (λ n. absurd (omega (arith, simp tests at e))))
 
-good_settings : (settings : List ℕ) → settings_bad settings ≡ false → (S : Settings) × (settings_of settings ≡ some S)
+good_settings : (settings : List ℕ) → settings_bad settings ≡ false → (S : Settings) × (settings_of settings ≡ Some S)
 unfolding settings_bad
 good_settings settings e = go (settings_of settings) refl
   where
-    go : (w : Option Settings) → settings_of settings ≡ w → (S : Settings) × (settings_of settings ≡ some S)
-    go none g = absurd (true≢false (rw (settings_bad, g) at e))
-    go (some S) g = (S, g)
+    go : (w : Option Settings) → settings_of settings ≡ w → (S : Settings) × (settings_of settings ≡ Some S)
+    go None g = absurd (true≢false (rw (settings_bad, g) at e))
+    go (Some S) g = (S, g)
 
 -- the four words after a start
 module _ (l : Life) where

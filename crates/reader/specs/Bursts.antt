@@ -1,13 +1,15 @@
 -- T-04: "a reader fed bursts and then an end mark". What the words of a reader mean, whatever they are, and what each call answers and leaves.
-use Rattle.std.specs.Prelude.{ℕ, ◌+◌, ◌%◌, ◌≤◌, ◌<◌, ◌≡◌, List, [], ◌∷◌, Bool, true, false, not, length, get_or, set, take, drop, ltb, eqb, if◌then◌else◌}
-use Rattle.std.proofs.Math.Option.{none, some}
+use Rattle.std.specs.Prelude.{ℕ, ◌+◌, ◌%◌, ◌≤◌, ◌<◌, ◌≡◌, List, [], ◌∷◌, Bool, true, false, not, length, get_or, set, take, drop, ltb, eqb, if◌then◌else◌, Result, Ok, Err, Some, None}
 use Rattle.rules.specs.Octets.{be48, octets48, put}
-use Rattle.rules.specs.Answer.{Handled, dropped}
+use Rattle.rules.specs.Answer.{Handled, dropped, number_of}
+use Rattle.rules.specs.declared.Number.TheVariants as N
 use Rattle.rules.specs.Handling.{frame_most}
 use Rattle.rules.specs.Settings.{settings_of}
 use Rattle.handler.specs.Tasks.{Both}
 use Rattle.stores.specs.Store.{Prepared, preparing, handled_in}
 use Rattle.handler.specs.declared.answers.Answer.{Answer}
+use Rattle.reader.specs.declared.Stopped.{Stopped}
+use Rattle.reader.specs.declared.Stopped.TheVariants.{Refused, Early}
 
 -- clock, number of octets gathered, early answer, end mark, and a store of 164 words
 abbrev pub reader_words : ℕ
@@ -51,7 +53,7 @@ start_refusal bad clock room beside_room =
     else 0
 
 unfoldable pub settings_bad : List ℕ → Bool
-settings_bad settings = elim (settings_of settings) [ none ↦ true | some S ↦ false ]
+settings_bad settings = elim (settings_of settings) [ None ↦ true | Some S ↦ false ]
 
 abbrev pub early_at_start : List ℕ → List ℕ → ℕ → ℕ → ℕ
 early_at_start settings clock room beside_room = start_refusal (settings_bad settings) (length clock) room beside_room
@@ -65,6 +67,25 @@ pub record Started (settings clock : List ℕ) (room beside_room : ℕ) (w w' : 
   pub begun : reader_words ≤ length w → take 4 w' ≡ be48 clock 0 ∷ 0 ∷ r ∷ 0 ∷ []
   pub clock_kept : length clock ≡ 6 → octets48 (be48 clock 0) ≡ clock
   pub store : reader_words ≤ length w → Prepared settings (store_in w) (store_in w') (preparing settings (length (store_in w)))
+
+-- what a burst or a mark that is stopped says
+abbrev pub said_by : Stopped → ℕ
+said_by (Refused n) = number_of n
+said_by (Early n) = n
+
+-- what a burst says, 0 where it is gathered
+abbrev pub said_of : Result Unit Stopped → ℕ
+said_of (Ok u) = 0
+said_of (Err s) = said_by s
+
+-- why a burst or a mark comes to nothing, by the words and the length of the gathering buffer
+unfoldable pub stopped : List ℕ → ℕ → Result Unit Stopped
+stopped w room =
+    if ltb (length w) reader_words then Err (Refused N.OutputShort) else
+    if ended_in w then Err (Refused N.FrameEnded) else
+    if not (eqb (early_in w) 0) then Err (Early (early_in w)) else
+    if ltb room gathered_least then Err (Refused N.OutputShort)
+    else Ok tt
 
 -- what a burst comes to
 pub record Burst : Type 0 where

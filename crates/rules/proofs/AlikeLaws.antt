@@ -1,8 +1,8 @@
 -- Runs over switches that say the same to a handling have the same entries: nickname for nickname one way to every destination. By induction on
 -- the handlings.
+use Rattle.std.specs.Prelude.{Option, Some, None}
 use mathlib.Core.Path.{◌≡◌, refl, sym, ap}
 use mathlib.Core.List.{List, [], ◌∷◌}
-use mathlib.Core.Option.{Option, none, some}
 use Prim.Native.Nat.{ℕ, zero, suc}
 use lib.ListN.{length}
 use specs.Settings.{Settings, Ways, ways_of}
@@ -15,10 +15,10 @@ use Rattle.rules.proofs
 
 -- two switches found, or none
 abbrev pub Both : Option Settings → Option Settings → Type 0
-Both none none = Unit {0}
-Both none (some T) = ⊥
-Both (some S) none = ⊥
-Both (some S) (some T) = ways_of S ≡ ways_of T
+Both None None = Unit {0}
+Both None (Some T) = ⊥
+Both (Some S) None = ⊥
+Both (Some S) (Some T) = ways_of S ≡ ways_of T
 
 -- the entries of two runs
 pub record Same (a b : List State) : Type 0 where
@@ -28,12 +28,12 @@ pub record Same (a b : List State) : Type 0 where
 same_none : Same [] []
 same_none = record { count = refl; trace = refl }
 
-by_both : {X : Type 0} (o p : Option Settings) → Both o p → (o ≡ none → p ≡ none → X)
-    → ((S T : Settings) → o ≡ some S → p ≡ some T → ways_of S ≡ ways_of T → X) → X
-by_both none none b neither each = neither refl refl
-by_both none (some T) b neither each = absurd b
-by_both (some S) none b neither each = absurd b
-by_both (some S) (some T) b neither each = each S T refl refl b
+by_both : {X : Type 0} (o p : Option Settings) → Both o p → (o ≡ None → p ≡ None → X)
+    → ((S T : Settings) → o ≡ Some S → p ≡ Some T → ways_of S ≡ ways_of T → X) → X
+by_both None None b neither each = neither refl refl
+by_both None (Some T) b neither each = absurd b
+by_both (Some S) None b neither each = absurd b
+by_both (Some S) (Some T) b neither each = each S T refl refl b
 
 module _ (l m : List Settings) (alike : (n : ℕ) → Both (switch_named l n) (switch_named m n)) (clock : List ℕ) where
   known_alike : (n : ℕ) → in_campus l n ≡ in_campus m n

@@ -1,8 +1,8 @@
 -- Demand 3: a call that answers as `campus` says meets it, from the laws of descriptions, of runs and of the outcome.
+use Rattle.std.specs.Prelude.{Some}
 use mathlib.Core.Path.{◌≡◌, ◌∙◌}
 use mathlib.Core.List.{List, [], Memᴰ}
 use mathlib.Core.Bool.{false}
-use mathlib.Core.Option.{some}
 use Prim.Native.Nat.{ℕ, ◌+◌, ◌*◌, ◌<◌, ◌≤◌, min}
 use native.Mathlib.Omega.{arith}
 use lib.ListN.{length}
@@ -18,14 +18,14 @@ use proofs.DescriptionLaws.{nickname_fits, Accepted, accepted_good}
 use Rattle.rules.specs
 use Rattle.rules.proofs
 
-pub plain_run_lem : (d : Described) (S : Settings) → d.entry ≡ some S
+pub plain_run_lem : (d : Described) (S : Settings) → d.entry ≡ Some S
     → plain_run d ≡ run_from handlings_most 1 d.switches (clock_of d) S.nickname original d.frame []
 unfolding plain_run clock_of
 plain_run_lem d S e = rw (plain_run, e)
 
 -- the plain run of what was accepted
 module _ (d : Described) (a : Accepted d) where
-  entry_named : Memᴰ a.entry d.switches × (switch_named d.switches a.entry.nickname ≡ some a.entry)
+  entry_named : Memᴰ a.entry d.switches × (switch_named d.switches a.entry.nickname ≡ Some a.entry)
   entry_named = let n = named d.switches a.named.0 a.entry a.named.1 in (n.0, cc (n.1, a.named.1))
 
   plain_fit : (S : Settings) → Memᴰ S d.switches → S.nickname < 65536

@@ -1,11 +1,11 @@
 -- What is known of an accepted description: 1 to 16 good switches, an entry switch among them, a clock of six octets, a frame that fits.
 -- By an invariant of reading its fields, and induction on them.
+use Rattle.std.specs.Prelude.{Option, Some}
 use mathlib.Core.Path.{◌≡◌, refl}
 use mathlib.Core.Logic.{inl, inr}
 use mathlib.Core.List.Memᴰ
 use mathlib.Core.List.{List, [], ◌∷◌, Memᴰ}
 use mathlib.Core.Bool.{true, false}
-use mathlib.Core.Option.{Option, some}
 use Prim.Native.Nat.{ℕ, ◌<◌, ◌≤◌}
 use native.Mathlib.Omega.{arith}
 use borrow.Author.Tests.{ltb-true, leb-true, eqb-true, eqb-false, not-true, not-false}
@@ -72,10 +72,10 @@ pub record Switches (l : List Settings) : Type 0 where
   pub good : (S : Settings) → Memᴰ S l → GoodSwitch S
 
 unfoldable pub Clocked : Option (List ℕ) → Type 0
-Clocked clock = (v : List ℕ) → clock ≡ some v → length v ≡ 6
+Clocked clock = (v : List ℕ) → clock ≡ Some v → length v ≡ 6
 
 unfoldable pub Named : List Settings → Option Settings → Type 0
-Named l entry = (S : Settings) → entry ≡ some S → (n : ℕ) × (switch_named l n ≡ some S)
+Named l entry = (S : Settings) → entry ≡ Some S → (n : ℕ) × (switch_named l n ≡ Some S)
 
 pub record Sound (d : Described) : Type 0 where
   pub switches : Switches d.switches
@@ -127,7 +127,7 @@ module _ (d : Described) (s : Sound d) (tag : ℕ) (v : List ℕ) (a : Admitted 
   unfolding room_good
   hops_room is = ltb-true (latest_hops d) hops_most (rw is at a.has_room)
 
-  new_clock : tag ≡ 4 → Clocked (some v)
+  new_clock : tag ≡ 4 → Clocked (Some v)
   unfolding length_good Clocked
   new_clock is = λ w e. let same : v ≡ w = cc in rw (← same) (eqb-true (length v) 6 (rw is at a.its_length))
 
@@ -194,8 +194,8 @@ pub record Accepted (d : Described) : Type 0 where
   pub few_switches : length d.switches ≤ switches_most
   pub good_switches : (S : Settings) → Memᴰ S d.switches → GoodSwitch S
   pub entry : Settings
-  pub entered : d.entry ≡ some entry
-  pub named : (n : ℕ) × (switch_named d.switches n ≡ some entry)
+  pub entered : d.entry ≡ Some entry
+  pub named : (n : ℕ) × (switch_named d.switches n ≡ Some entry)
   pub six_clock : length (clock_of d) ≡ 6
   pub short_frame : length d.frame ≤ frame_most
 

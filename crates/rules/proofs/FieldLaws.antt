@@ -1,5 +1,6 @@
 -- Laws of fields: one for each outcome of reading a field, what is known of a field that was taken, the fields from a place on by what
 -- stands there, that more fuel changes none of them, and the lengths that tags have. By the tests, and by induction on the fuel.
+use Rattle.std.specs.Prelude.{Option, Some, None}
 use mathlib.Core.Path.{◌≡◌, refl, sym, ◌∙◌}
 use mathlib.Core.List.{List, [], ◌∷◌}
 use mathlib.Core.Bool.{Bool, false}
@@ -14,27 +15,26 @@ use lib.ListN.{length, get_or}
 use specs.Octets.{octet, be16, part}
 use specs.Fields.{field, cut, field_at, fields_from, fields_at, hop_size, length_good}
 use specs.declared.FieldRead.{FieldRead}
-use specs.declared.FieldRead.TheVariants.{Taken, Cut}
 use Rattle.rules.proofs.TestLaws.{tests, by_order, either}
 use Rattle.rules.specs
 
 -- reading a field as the code does: `size` is the length that it says
 module _ (s : List ℕ) (at : ℕ) where
-  pub field_outside : length s < at → Cut ≡ field_at s at
+  pub field_outside : length s < at → None ≡ field_at s at
   unfolding field_at
   field_outside h = let short : length s < at + 3 = omega arith in simp tests
 
   module _ (from : at ≤ length s) where
-    pub field_short : length s - at < 3 → Cut ≡ field_at s at
+    pub field_short : length s - at < 3 → None ≡ field_at s at
     unfolding field_at
     field_short h = let short : length s < at + 3 = omega arith in simp tests
 
     module _ (a : 3 ≤ length s - at) (size : ℕ) (is : size ≡ be16 s (at + 1)) where
-      pub field_cut : length s - at - 3 < size → Cut ≡ field_at s at
+      pub field_cut : length s - at - 3 < size → None ≡ field_at s at
       unfolding field_at
       field_cut h = rw (le-ltb (length s) (at + 3) (omega arith), ← is, lt-ltb (length s) (at + 3 + size) (omega arith))
 
-      pub field_taken_lem : ((i : ℕ) → Fits w8 (get_or s i 0)) → size ≤ length s - at - 3 → Taken (get_or s at 0) size (at + 3 + size) ≡ field_at s at
+      pub field_taken_lem : ((i : ℕ) → Fits w8 (get_or s i 0)) → size ≤ length s - at - 3 → Some (record { tag = get_or s at 0; length = size; next = at + 3 + size }) ≡ field_at s at
       unfolding field_at
       field_taken_lem octets h =
           let same : octet s at ≡ get_or s at 0 = omega (arith, octets at) in
@@ -43,19 +43,19 @@ module _ (s : List ℕ) (at : ℕ) where
 pub ruleset field_at_laws = (rules, field_outside, field_short, field_cut, field_taken_lem)
 
 -- what is known of a field that was taken
-pub record IsField (s : List ℕ) (at tag size next : ℕ) : Type 0 where
-  pub its_tag : octet s at ≡ tag
-  pub its_size : be16 s (at + 1) ≡ size
-  pub ends : next ≡ at + 3 + size
-  pub within : next ≤ length s
+pub record IsField (s : List ℕ) (at : ℕ) (r : FieldRead) : Type 0 where
+  pub its_tag : octet s at ≡ r.tag
+  pub its_size : be16 s (at + 1) ≡ r.length
+  pub ends : r.next ≡ at + 3 + r.length
+  pub within : r.next ≤ length s
 
-FieldFound : List ℕ → ℕ → FieldRead → Type 0
-FieldFound s at Cut = Unit {0}
-FieldFound s at (Taken tag size next) = IsField s at tag size next
+FieldFound : List ℕ → ℕ → Option FieldRead → Type 0
+FieldFound s at None = Unit {0}
+FieldFound s at (Some r) = IsField s at r
 
-pub field_read : (s : List ℕ) (at t n m : ℕ) → field_at s at ≡ Taken t n m → IsField s at t n m
+pub field_read : (s : List ℕ) (at : ℕ) (r : FieldRead) → field_at s at ≡ Some r → IsField s at r
 unfolding field_at FieldFound
-field_read s at t n m e = rw e at found
+field_read s at r e = rw e at found
   where
     found : FieldFound s at (field_at s at)
     found = search (either (FieldFound s at), ltb-false)
@@ -66,14 +66,14 @@ module _ (fuel : ℕ) (s : List ℕ) (at : ℕ) where
   unfolding fields_from
   fields_end h = simp (fields_from, tests)
 
-  pub fields_cut : at < length s → field_at s at ≡ Cut → fields_from (suc fuel) s at ≡ cut ∷ []
+  pub fields_cut : at < length s → field_at s at ≡ None → fields_from (suc fuel) s at ≡ cut ∷ []
   unfolding fields_from
   fields_cut h e = simp (fields_from, tests, e)
 
-  pub fields_on : (tag size next : ℕ) → at < length s → field_at s at ≡ Taken tag size next
-      → fields_from (suc fuel) s at ≡ field tag (part s (at + 3) size) ∷ fields_from fuel s next
+  pub fields_on : (r : FieldRead) → at < length s → field_at s at ≡ Some r
+      → fields_from (suc fuel) s at ≡ field r.tag (part s (at + 3) r.length) ∷ fields_from fuel s r.next
   unfolding fields_from
-  fields_on tag size next h e = simp (fields_from, tests, e)
+  fields_on r h e = simp (fields_from, tests, e)
 
 -- a fuel that reaches the end of the octets is as good as any other that does
 module _ (s : List ℕ) where
@@ -84,11 +84,11 @@ module _ (s : List ℕ) where
       by_order at (length s)
       (λ l.
       elim (field_at s at) as (λ w. field_at s at ≡ w → fields_from (suc (suc g)) s at ≡ fields_from (suc (suc g')) s at) [
-        | Cut ↦ λ e. simp fields_cut
-        | Taken tag size next ↦ λ e.
-            let i = field_read s at tag size next e in
-            let later = fields_fuel g g' next (omega arith) (omega arith) in
-            rw (fields_on (suc g) s at tag size next l e, fields_on (suc g') s at tag size next l e, later)
+        | None ↦ λ e. simp fields_cut
+        | Some r ↦ λ e.
+            let i = field_read s at r e in
+            let later = fields_fuel g g' r.next (omega arith) (omega arith) in
+            rw (fields_on (suc g) s at r l e, fields_on (suc g') s at r l e, later)
       ] refl)
       (λ e. simp fields_end)
 
@@ -100,14 +100,14 @@ module _ (s : List ℕ) where
     pub fields_at_end : length s ≤ at → fields_at s at ≡ []
     fields_at_end h = fields_end (length s) s at h
 
-    pub fields_at_cut : at < length s → field_at s at ≡ Cut → fields_at s at ≡ cut ∷ []
+    pub fields_at_cut : at < length s → field_at s at ≡ None → fields_at s at ≡ cut ∷ []
     fields_at_cut h e = fields_cut (length s) s at h e
 
-    pub fields_at_on : (tag size next : ℕ) → at < length s → field_at s at ≡ Taken tag size next
-        → fields_at s at ≡ field tag (part s (at + 3) size) ∷ fields_at s next
-    fields_at_on tag size next h e =
-        let i = field_read s at tag size next e in
-        sym (fields_whole at (suc (length s)) (omega arith)) ∙ fields_on (suc (length s)) s at tag size next h e
+    pub fields_at_on : (r : FieldRead) → at < length s → field_at s at ≡ Some r
+        → fields_at s at ≡ field r.tag (part s (at + 3) r.length) ∷ fields_at s r.next
+    fields_at_on r h e =
+        let i = field_read s at r e in
+        sym (fields_whole at (suc (length s)) (omega arith)) ∙ fields_on (suc (length s)) s at r h e
 
 -- the length that a tag has, by tag
 module _ (tag size : ℕ) where

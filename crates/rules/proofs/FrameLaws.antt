@@ -1,6 +1,7 @@
 -- Reading back what is written, whatever the link header's length: a frame of a link header, a TRILL header and a rest reads as these,
 -- so a forwarded frame keeps egress, ingress and inner frame, and its hop count is one less. By computation and laws of parts.
 --
+use Rattle.std.specs.Prelude.{Result, Ok, Err}
 use mathlib.Core.Path.{◌≡◌, refl, sym, ◌∙◌}
 use mathlib.Core.List.{List, ◌++◌}
 use mathlib.Core.Bool.{Bool, true, false, not, ◌&&◌, cond}
@@ -17,8 +18,9 @@ use specs.Octets.{be16, be48, octets16}
 use specs.{Settings.Ways, Options.WellFormed, Options.draft_read, Extension.area_read, Extension.area_sent, Handling.forwarded_rest}
 use specs.Link.{link_length, link_ethertype, outer_tag, link, ethertype_tag, ethertype_trill}
 use specs.Header.{version, reserved, multi, op_length, hop_count, header_word, read_frame, inner_start, area_of, inner_of, header_refusal, we_are_egress}
-use specs.declared.{NextHop.NextHop, Header.Header, FrameRead.FrameRead}
-use specs.declared.FrameRead.TheVariants.{Trill, Unreadable}
+use specs.declared.{NextHop.NextHop, Header.Header, Number.Number}
+use specs.declared.Number.TheVariants.{FrameShort, NotTrill}
+use specs.Answer.{number_of}
 use Rattle.rules.proofs
 use proofs.TestLaws.{tests, by_test, either, IfNone, and_right, or_left, or_right}
 use proofs.OctetLaws.{be16_before, be16_after, be16_at, length_part}
@@ -88,7 +90,7 @@ module _ (l t : List ℕ) (is : IsLink l) where
 
 -- reading a frame as the code does, by outcome: n is the link header's length, e the Ethertype at its end
 module _ (f : List ℕ) where
-  pub read_short : length f < 14 → Unreadable 10 ≡ read_frame f
+  pub read_short : length f < 14 → Err FrameShort ≡ read_frame f
   unfolding read_frame
   read_short h = simp tests
 
@@ -100,22 +102,22 @@ module _ (f : List ℕ) where
     read_near = omega (arith, link_length_lem f)
 
     module _ (a : 14 ≤ length f) where
-      pub read_tag_short : length f < n → Unreadable 10 ≡ read_frame f
+      pub read_tag_short : length f < n → Err FrameShort ≡ read_frame f
       unfolding read_frame
       read_tag_short h = simp (tests, ← is)
 
       module _ (b : n ≤ length f) (e : ℕ) where
-        pub read_other : e ≡ be16 f (n - 2) → (e ≡ ethertype_trill → ⊥) → Unreadable 11 ≡ read_frame f
+        pub read_other : e ≡ be16 f (n - 2) → (e ≡ ethertype_trill → ⊥) → Err NotTrill ≡ read_frame f
         unfolding read_frame
         read_other its h = simp (tests, ← is, ← its)
 
         module _ (c : e ≡ ethertype_trill) (its : e ≡ be16 f (n - 2)) where
-          pub read_cut : length f < n + 6 → Unreadable 10 ≡ read_frame f
+          pub read_cut : length f < n + 6 → Err FrameShort ≡ read_frame f
           unfolding read_frame
           read_cut h = simp (tests, ← is, ← its, c)
 
           pub read_trill : (w g i : ℕ) → n + 6 ≤ length f → w ≡ be16 f n → g ≡ be16 f (n + 2) → i ≡ be16 f (n + 4)
-              → Trill (record { place = n; word = w; egress = g; ingress = i }) ≡ read_frame f
+              → Ok (record { place = n; word = w; egress = g; ingress = i }) ≡ read_frame f
           unfolding read_frame
           read_trill w g i h ew eg ei = simp (tests, ← is, ← its, c, ew, eg, ei)
 
@@ -133,9 +135,9 @@ pub record IsTrill (f : List ℕ) (h : Header) : Type 0 where
   pub its_ingress : h.ingress ≡ be16 f (h.place + 4)
 
 -- whatever is read: a header, or 10 or 11
-abbrev pub FrameFound : List ℕ → FrameRead → Type 0
-FrameFound f (Trill h) = IsTrill f h
-FrameFound f (Unreadable n) = (10 ≤ n) × (n ≤ 11)
+abbrev pub FrameFound : List ℕ → Result Header Number → Type 0
+FrameFound f (Ok h) = IsTrill f h
+FrameFound f (Err n) = (10 ≤ number_of n) × (number_of n ≤ 11)
 
 pub frame_found : (f : List ℕ) → FrameFound f (read_frame f)
 unfolding read_frame
@@ -145,7 +147,7 @@ frame_found f = search (either (FrameFound f), leb-true, trill) depth 8
         → IsTrill f (record { place = link_length f; word = be16 f (link_length f); egress = be16 f (link_length f + 2); ingress = be16 f (link_length f + 4) })
     trill e = omega (arith, link_length_lem f, ltb-false (length f) (link_length f + 6) e)
 
-pub frame_read : (f : List ℕ) (h : Header) → read_frame f ≡ Trill h → IsTrill f h
+pub frame_read : (f : List ℕ) (h : Header) → read_frame f ≡ Ok h → IsTrill f h
 frame_read f h e = rw e at (frame_found f)
 
 -- a frame of a link header, a TRILL header of a word and two nicknames, and a rest
@@ -153,7 +155,7 @@ abbrev pub with_header : ℕ → ℕ → ℕ → List ℕ → List ℕ
 with_header w e i rest = octets16 w ++ octets16 e ++ octets16 i ++ rest
 
 module _ {l : List ℕ} (is : IsLink l) {w e i : ℕ} (hw : w < 65536) (he : e < 65536) (hi : i < 65536) where
-  pub read_with_header : (rest : List ℕ) → read_frame (l ++ with_header w e i rest) ≡ Trill (record { place = length l; word = w; egress = e; ingress = i })
+  pub read_with_header : (rest : List ℕ) → read_frame (l ++ with_header w e i rest) ≡ Ok (record { place = length l; word = w; egress = e; ingress = i })
   read_with_header rest =
       let behind = with_header w e i rest in
       let f = l ++ behind in
@@ -221,7 +223,7 @@ module _ (S : Ways) (area : List ℕ) (well : area_read S area ≡ WellFormed) w
 
 -- a frame of which none of 10 to 19 is given, and whether we are its egress
 pub record Cleared (S : Ways) (f : List ℕ) (h : Header) (egress : Bool) : Type 0 where
-  pub read : read_frame f ≡ Trill h
+  pub read : read_frame f ≡ Ok h
   pub unrefused : header_refusal S.mac f h ≡ 0
   pub well : area_read S (area_of f h) ≡ WellFormed
   pub role : we_are_egress S.nickname h ≡ egress
@@ -255,7 +257,7 @@ module _ {S : Ways} {f : List ℕ} {h : Header} {egress : Bool} (t : Cleared S f
     abbrev pub sent_header : Header
     sent_header = record { place = length l; word = sent_word; egress = h.egress; ingress = h.ingress }
 
-    pub forwarded_read : read_frame (l ++ forwarded_rest S f h) ≡ Trill sent_header
+    pub forwarded_read : read_frame (l ++ forwarded_rest S f h) ≡ Ok sent_header
     unfolding forwarded_rest
     forwarded_read =
         read_with_header is sent_split.fits (frame_read f h t.read).egress_fits (frame_read f h t.read).ingress_fits (sent_area ++ inner_of f h)

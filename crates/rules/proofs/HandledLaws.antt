@@ -1,5 +1,6 @@
 -- How a handling came out, for any frame: 50 with what was forwarded, 53 or 54 with the reply, or another number and nothing written; so every
 -- answer's number is under 64 and it writes at most 2,048 octets. By the tests in their order, and by lengths.
+use Rattle.std.specs.Prelude.{Option, Some, None, Ok, Err}
 use mathlib.Core.Path.{◌≡◌, refl}
 use mathlib.Core.List.{List, []}
 use mathlib.Core.Bool.{Bool, true, false, not, ◌&&◌, ◌||◌, true≢false}
@@ -12,13 +13,12 @@ use Rattle.rules.specs
 use specs.{Settings.Ways, Settings.settings_of, Extension.extension_read, Extension.area_read, Campus.writes_reply}
 use specs.Header.{read_frame, area_of, inner_of, header_refusal, we_are_egress}
 use specs.Options.{AreaRead, WellFormed, Faulty, draft_read}
-use specs.Answer.{Handled, dropped, delivered, wrote, wrote_both, given}
+use specs.Answer.{err_of, number_of, Handled, dropped, delivered, wrote, wrote_both, given}
 use specs.Channel.{body_of, reply_mode, echo_read, channel_read, silenced, return_path, error_reply, echo_reply}
 use specs.Handling.{forwarded, onward, alert_to, alert_of, alerted, transit, faulted, echoed, channelled, decapsulated, routed, handling, frame_most}
 use specs.Handling.{beside_least, handled_with, handled}
-use specs.declared.{NextHop.NextHop, Header.Header, Ruling.Ruling, ChannelRead.ChannelRead}
-use specs.declared.Ruling.TheVariants.{Found, Absent}
-use specs.declared.FrameRead.TheVariants.{Trill, Unreadable}
+use specs.declared.{NextHop.NextHop, Header.Header, ChannelRead.ChannelRead, ChannelFault.ChannelFault}
+use specs.declared.ChannelFault.TheVariants.{HeaderShort, OtherEthertype, OtherVersion, WrongNative, OtherProtocol}
 use specs.declared.ChannelRead.TheVariants.{Fault, BadErr, ErrorHeard, BadEcho, EchoHeard, EchoRequest}
 use Rattle.rules.proofs
 use proofs.TestLaws.{by_test, either, by_option, and_left, and_right, every_below, each_below}
@@ -41,45 +41,36 @@ final_within low high n all l h = rw (le-ltb n low l) at (each_below (suc high) 
 -- what stands beside a forwarded frame: nothing, or in edition 2 the reply to an echo request
 pub data Beside (S : Ways) (clock f : List ℕ) (h : Header) : List ℕ → ℕ → Type 0 where
   alone : Beside S clock f h [] 0
-  replied : (r : NextHop) → S.rfc7179 ≡ true → return_path S h.ingress ≡ Found r → channel_read (inner_of f h) ≡ EchoRequest
+  replied : (r : NextHop) → S.rfc7179 ≡ true → return_path S h.ingress ≡ Some r → channel_read (inner_of f h) ≡ EchoRequest
       → Beside S clock f h (echo_reply S r h clock (body_of (inner_of f h))) r.neighbour
 
 -- an error reply is made at the egress, and in edition 2 for a critical alert at transit too
 pub data How (S : Ways) (clock f : List ℕ) : Handled → Type 0 where
   ends : {a : Handled} → Final a → How S clock f a
-  forwards : (h : Header) (r : NextHop) {beside : List ℕ} {via : ℕ} → Cleared S f h false → S.hop h.egress ≡ Found r
+  forwards : (h : Header) (r : NextHop) {beside : List ℕ} {via : ℕ} → Cleared S f h false → S.hop h.egress ≡ Some r
       → length (forwarded S r f h) ≤ frame_most → Beside S clock f h beside via
       → How S clock f (wrote_both 50 (forwarded S r f h) r.neighbour beside via)
-  faults : {egress : Bool} (h : Header) (r : NextHop) (code : ℕ) → Cleared S f h egress → (egress ≡ false → S.rfc7179 ≡ true)
-      → return_path S h.ingress ≡ Found r → channel_read (inner_of f h) ≡ Fault code
-      → How S clock f (wrote 53 (error_reply S r f h code) r.neighbour)
-  echoes : (h : Header) (r : NextHop) → Cleared S f h true → return_path S h.ingress ≡ Found r → channel_read (inner_of f h) ≡ EchoRequest
+  faults : {egress : Bool} (h : Header) (r : NextHop) (fault : ChannelFault) → Cleared S f h egress → (egress ≡ false → S.rfc7179 ≡ true)
+      → return_path S h.ingress ≡ Some r → channel_read (inner_of f h) ≡ Fault fault
+      → How S clock f (wrote 53 (error_reply S r f h (err_of fault)) r.neighbour)
+  echoes : (h : Header) (r : NextHop) → Cleared S f h true → return_path S h.ingress ≡ Some r → channel_read (inner_of f h) ≡ EchoRequest
       → How S clock f (wrote 54 (echo_reply S r h clock (body_of (inner_of f h))) r.neighbour)
 
 and_first : (a b c : Bool) → (a && b && c) ≡ true → a ≡ true
 and_first a b c e = and_left a b (and_left (a && b) c e)
 
-each_ruling : (P : Handled → Type 0) (w : Ruling) (x : Handled) (y : NextHop → Handled) → P x → ((r : NextHop) → w ≡ Found r → P (y r))
-    → P (elim w [ Absent ↦ x | Found r ↦ y r ])
-each_ruling P Absent x y n s = n
-each_ruling P (Found r) x y n s = s r refl
+each_ruling : (P : Handled → Type 0) (w : Option NextHop) (x : Handled) (y : NextHop → Handled) → P x → ((r : NextHop) → w ≡ Some r → P (y r))
+    → P (elim w [ None ↦ x | Some r ↦ y r ])
+each_ruling P None x y n s = n
+each_ruling P (Some r) x y n s = s r refl
 
 -- a fault's code is 1 to 5, so it fits the four bits of ERR
-small : ChannelRead → Bool
-small (Fault code) = ltb code 16
-small BadErr = true
-small ErrorHeard = true
-small BadEcho = true
-small EchoHeard = true
-small EchoRequest = true
-
-code_small : (inner : List ℕ) → small (channel_read inner) ≡ true
-unfolding channel_read echo_read small
-code_small inner = search (either (λ c. small c ≡ true)) depth 12
-
-pub fault_small : (inner : List ℕ) (code : ℕ) → channel_read inner ≡ Fault code → code < 16
-unfolding small
-fault_small inner code e = ltb-true code 16 (rw e at (code_small inner))
+pub fault_small : (fault : ChannelFault) → err_of fault < 16
+fault_small HeaderShort = omega arith
+fault_small OtherEthertype = omega arith
+fault_small OtherVersion = omega arith
+fault_small WrongNative = omega arith
+fault_small OtherProtocol = omega arith
 
 -- the numbers of what is refused
 header_final : (mac : ℕ) (f : List ℕ) (h : Header) → (eqb (header_refusal mac f h) 0 || final (header_refusal mac f h)) ≡ true
@@ -88,14 +79,14 @@ header_final mac f h = search (either (λ n. (eqb n 0 || final n) ≡ true)) dep
 
 abbrev FinalArea : AreaRead → Type 0
 FinalArea WellFormed = Unit {0}
-FinalArea (Faulty n p) = final n ≡ true
+FinalArea (Faulty n p) = final (number_of n) ≡ true
 
 draft_final : (area : List ℕ) → FinalArea (draft_read area)
 unfolding given
 draft_final area =
     elim (draft_read area) as (λ w. draft_read area ≡ w → FinalArea w) [
       | WellFormed ↦ λ e. Prim.tt
-      | Faulty n p ↦ λ e. let d = area_number area n p e in final_within 30 35 n refl d.from d.to
+      | Faulty n p ↦ λ e. let d = area_number area n p e in final_within 30 35 (number_of n) refl d.from d.to
     ] refl
 
 area_final : (S : Ways) (area : List ℕ) → FinalArea (area_read S area)
@@ -106,16 +97,16 @@ quiet : {S : Ways} {clock f : List ℕ} (n start size : ℕ) → final n ≡ tru
 quiet n start size e = ends (record { closed = e; nothing = refl; nothing_beside = refl })
 
 module _ (S : Ways) (clock f : List ℕ) (h : Header) where
-  how_faulted : {egress : Bool} → Cleared S f h egress → (egress ≡ false → S.rfc7179 ≡ true) → (code : ℕ) → channel_read (inner_of f h) ≡ Fault code
-      → How S clock f (faulted S f h code)
+  how_faulted : {egress : Bool} → Cleared S f h egress → (egress ≡ false → S.rfc7179 ≡ true) → (fault : ChannelFault) → channel_read (inner_of f h) ≡ Fault fault
+      → How S clock f (faulted S f h (err_of fault))
   unfolding faulted given
-  how_faulted t two code c =
-      by_test (silenced code (inner_of f h)) (λ e. rw e (quiet 25 0 0 refl)) (λ e. rw e
-      (each_ruling (How S clock f) (return_path S h.ingress) _ _ (quiet 25 0 0 refl) (λ r n. faults h r code t two n c)))
+  how_faulted t two fault c =
+      by_test (silenced (err_of fault) (inner_of f h)) (λ e. rw e (quiet 25 0 0 refl)) (λ e. rw e
+      (each_ruling (How S clock f) (return_path S h.ingress) _ _ (quiet 25 0 0 refl) (λ r n. faults h r fault t two n c)))
 
   -- an echo request, answered by itself or beside
   echoed_by : (P : Handled → Type 0) → P (dropped 28)
-      → ((r : NextHop) → return_path S h.ingress ≡ Found r → P (wrote 54 (echo_reply S r h clock (body_of (inner_of f h))) r.neighbour))
+      → ((r : NextHop) → return_path S h.ingress ≡ Some r → P (wrote 54 (echo_reply S r h clock (body_of (inner_of f h))) r.neighbour))
       → P (echoed S clock f h)
   unfolding echoed
   echoed_by P lost over =
@@ -134,7 +125,7 @@ module _ (S : Ways) (clock f : List ℕ) (h : Header) where
   unfolding decapsulated given
   how_decapsulated t = search (either (How S clock f), quiet, how_channelled t (channel_read (inner_of f h)) refl) depth 12
 
-  module _ (t : Cleared S f h false) (r : NextHop) (found : S.hop h.egress ≡ Found r) where
+  module _ (t : Cleared S f h false) (r : NextHop) (found : S.hop h.egress ≡ Some r) where
     how_onward : {beside : List ℕ} {via : ℕ} → Beside S clock f h beside via → How S clock f (onward S r f h beside via)
     unfolding onward given
     how_onward b = search (either (How S clock f), quiet, forwards, ltb-false)
@@ -158,11 +149,11 @@ module _ (S : Ways) (clock f : List ℕ) (h : Header) where
       each_ruling (How S clock f) (S.hop h.egress) _ _ (quiet 21 0 0 refl) (λ r found.
       search (either (λ a. How S clock f (alerted S r clock f h a)), how_onward t r found alone, how_alerted t r found, and_first))
 
-  how_routed : read_frame f ≡ Trill h → header_refusal S.mac f h ≡ 0 → How S clock f (routed S clock f h)
+  how_routed : read_frame f ≡ Ok h → header_refusal S.mac f h ≡ 0 → How S clock f (routed S clock f h)
   unfolding routed given
   how_routed read unrefused =
       elim (area_read S (area_of f h)) as (λ w. area_read S (area_of f h) ≡ w → How S clock f (routed S clock f h)) [
-        | Faulty n p ↦ λ a. rw (routed, a) (quiet n p 0 (rw a at (area_final S (area_of f h))))
+        | Faulty n p ↦ λ a. rw (routed, a) (quiet (number_of n) p 0 (rw a at (area_final S (area_of f h))))
         | WellFormed ↦ λ a.
             let cleared : (b : Bool) → we_are_egress S.nickname h ≡ b → Cleared S f h b =
             λ b c. record { read = read; unrefused = unrefused; well = a; role = c } in
@@ -173,8 +164,8 @@ pub how : (S : Ways) (clock f : List ℕ) → How S clock f (handling S clock f)
 unfolding handling given
 how S clock f =
     elim (read_frame f) as (λ w. read_frame f ≡ w → How S clock f (handling S clock f)) [
-      | Unreadable n ↦ λ e. rw (handling, e) (let r = unread_number f n e in quiet n 0 0 (final_within 10 11 n refl r.0 r.1))
-      | Trill h ↦ λ e.
+      | Err n ↦ λ e. rw (handling, e) (let r = unread_number f n e in quiet (number_of n) 0 0 (final_within 10 11 (number_of n) refl r.0 r.1))
+      | Ok h ↦ λ e.
           rw (handling, e) (by_test (eqb (header_refusal S.mac f h) 0)
           (λ a. rw a (how_routed S clock f h e (eqb-true _ 0 a)))
           (λ a. rw a (quiet _ 0 0 (rw a at (header_final S.mac f h)))))
@@ -203,7 +194,7 @@ how_bounded S clock f {a} six (ends o) =
     bounded (and_left (given a.number && ltb a.number 64) _ o.closed) (rw o.nothing (omega arith)) (rw o.nothing_beside (omega arith))
 how_bounded S clock f six (forwards h r t found fits alone) = bounded refl fits (omega arith)
 how_bounded S clock f six (forwards h r t found fits (replied q two e c)) = bounded refl fits (echo_fits S q clock f h six c)
-how_bounded S clock f six (faults h r code t two found c) = bounded refl (omega (arith, length_error S r f h code)) (omega arith)
+how_bounded S clock f six (faults h r fault t two found c) = bounded refl (omega (arith, length_error S r f h (err_of fault))) (omega arith)
 how_bounded S clock f six (echoes h r t found c) = bounded refl (omega (arith, echo_fits S r clock f h six c)) (omega arith)
 
 pub handling_bounded : (S : Ways) (clock f : List ℕ) → length clock ≡ 6 → length f ≤ frame_most → Bounded (handling S clock f)

@@ -1,9 +1,9 @@
 -- One law for each outcome of a handling's stages, how long what is written is, and which numbers refuse a frame. By the tests in their
 -- order.
+use Rattle.std.specs.Prelude.{Some, None, Ok, Err}
 use mathlib.Core.Path.{◌≡◌}
 use mathlib.Core.List.{List}
 use mathlib.Core.Bool.{true, false, ◌||◌}
-use mathlib.Core.Option.{none, some}
 use Prim.Native.Nat.{ℕ, ◌+◌, ◌<◌, ◌≤◌}
 use native.Mathlib.Omega.{arith}
 use borrow.Author.Tests.{ltb-false}
@@ -14,13 +14,11 @@ use specs.Settings.{Settings, Ways, ways_of, settings_of}
 use specs.{Link.link, Options.WellFormed, Options.Faulty}
 use specs.Header.{any_rbridge, read_frame, inner_start, area_of, inner_of, header_refusal, we_are_egress}
 use specs.Extension.{area_read, area_stops, area_sent}
-use specs.Answer.{dropped, dropped_at, wrote, wrote_both, delivered}
+use specs.Answer.{number_of, dropped, dropped_at, wrote, wrote_both, delivered}
 use specs.Channel.{ethertype_is_is, inner_ethertype, body_of, reply_mode, echo_read, channel_read, silenced, return_path, error_reply, echo_reply}
 use specs.Handling.{forwarded_rest, forwarded, onward, alert_of, alerted, transit, faulted, echoed, channelled, untagged, to_all_egress_rbridges, decapsulated}
 use specs.Handling.{routed, handling, frame_most, beside_least, handled_with, handled}
-use specs.declared.{NextHop.NextHop, Header.Header}
-use specs.declared.Ruling.TheVariants.{Found, Absent}
-use specs.declared.FrameRead.TheVariants.{Trill, Unreadable}
+use specs.declared.{NextHop.NextHop, Header.Header, Number.Number, ChannelFault.ChannelFault}
 use specs.declared.ChannelRead.TheVariants.{Fault, BadErr, ErrorHeard, EchoRequest}
 use Rattle.rules.proofs
 use proofs.TestLaws.{tests, apart, by_test, either, or_left, or_right, and_no}
@@ -29,11 +27,11 @@ use proofs.ReplyLaws.{length_reply, echo_body_length}
 
 module _ (S : Ways) (f : List ℕ) (h : Header) where
   module _ (clock : List ℕ) where
-    pub transit_none : S.hop h.egress ≡ Absent → transit S clock f h ≡ dropped 21
+    pub transit_none : S.hop h.egress ≡ None → transit S clock f h ≡ dropped 21
     unfolding transit
     transit_none e = rw (transit, e)
 
-    pub transit_over : (r : NextHop) → S.hop h.egress ≡ Found r → transit S clock f h ≡ alerted S r clock f h (alert_of S f h)
+    pub transit_over : (r : NextHop) → S.hop h.egress ≡ Some r → transit S clock f h ≡ alerted S r clock f h (alert_of S f h)
     unfolding transit
     transit_over r e = rw (transit, e)
 
@@ -53,11 +51,11 @@ module _ (S : Ways) (f : List ℕ) (h : Header) where
     faulted_silent e = rw (faulted, e)
 
     module _ (heard : silenced code (inner_of f h) ≡ false) where
-      pub faulted_none : return_path S h.ingress ≡ Absent → faulted S f h code ≡ dropped 25
+      pub faulted_none : return_path S h.ingress ≡ None → faulted S f h code ≡ dropped 25
       unfolding faulted
       faulted_none e = rw (faulted, heard, e)
 
-      pub faulted_over : (r : NextHop) → return_path S h.ingress ≡ Found r → faulted S f h code ≡ wrote 53 (error_reply S r f h code) r.neighbour
+      pub faulted_over : (r : NextHop) → return_path S h.ingress ≡ Some r → faulted S f h code ≡ wrote 53 (error_reply S r f h code) r.neighbour
       unfolding faulted
       faulted_over r e = rw (faulted, heard, e)
 
@@ -67,11 +65,11 @@ module _ (S : Ways) (f : List ℕ) (h : Header) where
     echoed_mode e = simp tests
 
     module _ (asked : reply_mode (body_of (inner_of f h)) ≡ 2) where
-      pub echoed_none : return_path S h.ingress ≡ Absent → echoed S clock f h ≡ dropped 28
+      pub echoed_none : return_path S h.ingress ≡ None → echoed S clock f h ≡ dropped 28
       unfolding echoed
       echoed_none e = simp (tests, echoed, e)
 
-      pub echoed_over : (r : NextHop) → return_path S h.ingress ≡ Found r
+      pub echoed_over : (r : NextHop) → return_path S h.ingress ≡ Some r
           → echoed S clock f h ≡ wrote 54 (echo_reply S r h clock (body_of (inner_of f h))) r.neighbour
       unfolding echoed
       echoed_over r e = simp (tests, echoed, e)
@@ -103,7 +101,7 @@ pub channel_echo : (inner : List ℕ) → channel_read inner ≡ EchoRequest →
 unfolding channel_read
 channel_echo inner = search (either (λ c. c ≡ EchoRequest → echo_read (body_of inner) ≡ EchoRequest), fault, bad, heard) depth 12
   where
-    fault : (code : ℕ) → Fault code ≡ EchoRequest → echo_read (body_of inner) ≡ EchoRequest
+    fault : (code : ChannelFault) → Fault code ≡ EchoRequest → echo_read (body_of inner) ≡ EchoRequest
     fault code e = apart cc
 
     bad : BadErr ≡ EchoRequest → echo_read (body_of inner) ≡ EchoRequest
@@ -142,7 +140,7 @@ module _ (S : Ways) (clock f : List ℕ) (h : Header) where
         unfolding decapsulated
         inner_channel g = simp (tests, b, d, and_no)
 
-  pub routed_faulty : (number place : ℕ) → area_read S (area_of f h) ≡ Faulty number place → routed S clock f h ≡ dropped_at number place
+  pub routed_faulty : (number : Number) (place : ℕ) → area_read S (area_of f h) ≡ Faulty number place → routed S clock f h ≡ dropped_at (number_of number) place
   unfolding routed
   routed_faulty number place a = rw (routed, a)
 
@@ -160,15 +158,15 @@ module _ (S : Ways) (clock f : List ℕ) (h : Header) where
       unfolding routed
       routed_transit c = rw (routed, a, b, c)
 
-  pub handling_refused : read_frame f ≡ Trill h → (header_refusal S.mac f h ≡ 0 → ⊥) → handling S clock f ≡ dropped (header_refusal S.mac f h)
+  pub handling_refused : read_frame f ≡ Ok h → (header_refusal S.mac f h ≡ 0 → ⊥) → handling S clock f ≡ dropped (header_refusal S.mac f h)
   unfolding handling
   handling_refused e a = simp (tests, handling, e)
 
-  pub handling_routed : read_frame f ≡ Trill h → header_refusal S.mac f h ≡ 0 → handling S clock f ≡ routed S clock f h
+  pub handling_routed : read_frame f ≡ Ok h → header_refusal S.mac f h ≡ 0 → handling S clock f ≡ routed S clock f h
   unfolding handling
   handling_routed e a = simp (tests, handling, e)
 
-pub handling_unread : (S : Ways) (clock f : List ℕ) (n : ℕ) → read_frame f ≡ Unreadable n → handling S clock f ≡ dropped n
+pub handling_unread : (S : Ways) (clock f : List ℕ) (n : Number) → read_frame f ≡ Err n → handling S clock f ≡ dropped (number_of n)
 unfolding handling
 handling_unread S clock f n e = rw (handling, e)
 
@@ -198,13 +196,13 @@ module _ (S : Ways) (clock : List ℕ) (room beside_room : ℕ) (f : List ℕ) w
         frame_handled d = simp tests
 
 module _ (settings clock : List ℕ) (room beside_room : ℕ) (f : List ℕ) where
-  pub settings_bad_lem : settings_of settings ≡ none → handled settings clock room beside_room f ≡ dropped 1
+  pub settings_bad_lem : settings_of settings ≡ None → handled settings clock room beside_room f ≡ dropped 1
   unfolding handled
   settings_bad_lem e = rw (handled, e)
 
-  pub settings_good : (S : Settings) → settings_of settings ≡ some S → handled settings clock room beside_room f ≡ handled_with (ways_of S) clock room beside_room f
+  pub settings_good : (S : Settings) → settings_of settings ≡ Some S → handled settings clock room beside_room f ≡ handled_with (ways_of S) clock room beside_room f
   unfolding handled
   settings_good S e = rw (handled, e)
 
-pub unread_number : (f : List ℕ) (n : ℕ) → read_frame f ≡ Unreadable n → (10 ≤ n) × (n ≤ 11)
+pub unread_number : (f : List ℕ) (n : Number) → read_frame f ≡ Err n → (10 ≤ number_of n) × (number_of n ≤ 11)
 unread_number f n e = rw e at (frame_found f)

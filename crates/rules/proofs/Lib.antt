@@ -21,3 +21,5 @@ pub mod OutcomeLaws
 pub mod DemandLaws
 pub mod TextLaws
 pub mod Cases
+pub mod TriedLaws
+pub mod NumberLaws

@@ -15,6 +15,9 @@ use lib.Seq.{drop-append_seam, take_at, drop_at, take_all, length-take-le}
 use specs.Octets.{octet, be16, part}
 use specs.Options.{chbh, cite, key_of, length_of, ie, nc, option_size, option_at, TlvOption, Options, options, fault, option_first, options_from, options_of}
 use specs.Options.{hop_by_hop_critical, ingress_to_egress_critical, some_key, summarized, draft_read, strippable, kept_options, octets_of, stripped, OptionRead, Taken}
+use specs.Answer.{number_of}
+use specs.declared.Number.{Number}
+use specs.declared.Number.TheVariants.{ReservedLength, OptionCut, KeyBelow, KeyEqual}
 use specs.Options.{Fault, AreaRead, WellFormed, Faulty, Laid, none, one, WellFormedArea}
 use proofs.TestLaws.{tests, apart, by_test, by_order, either, and_left, and_right, and_no}
 use proofs.OctetLaws.{octet_part, be16_before, be16_at, be16_part, drop_part, length_part}
@@ -39,28 +42,28 @@ pub record Numbered (least most long n p : ℕ) : Type 0 where
 -- whatever is read: an option, or a fault of 30 to 33 at that place
 abbrev Found : List ℕ → ℕ → ℕ → OptionRead → Type 0
 Found area floor at (Taken key size next) = Read area floor at key size next
-Found area floor at (Fault n p) = Numbered 30 33 at n p
+Found area floor at (Fault n p) = Numbered 30 33 at (number_of n) p
 
 key_above : (key floor : ℕ) → ltb (key + 1) floor ≡ false → eqb (key + 1) floor ≡ false → floor ≤ key
 key_above key floor a b = omega (arith, ltb-false (key + 1) floor a, eqb-false (key + 1) floor b)
 
 -- one option, by outcome
 module _ (area : List ℕ) (floor at : ℕ) where
-  pub option_reserved : 119 ≤ length_of (be16 area at) → Fault 30 at ≡ option_at area floor at
+  pub option_reserved : 119 ≤ length_of (be16 area at) → Fault ReservedLength at ≡ option_at area floor at
   unfolding option_at
   option_reserved h = simp tests
 
   module _ (s : length_of (be16 area at) < 119) where
-    pub option_past : length area < at + option_size (length_of (be16 area at)) → Fault 31 at ≡ option_at area floor at
+    pub option_past : length area < at + option_size (length_of (be16 area at)) → Fault OptionCut at ≡ option_at area floor at
     unfolding option_at
     option_past h = simp tests
 
     module _ (p : at + option_size (length_of (be16 area at)) ≤ length area) where
-      pub option_below : key_of (be16 area at) + 1 < floor → Fault 32 at ≡ option_at area floor at
+      pub option_below : key_of (be16 area at) + 1 < floor → Fault KeyBelow at ≡ option_at area floor at
       unfolding option_at
       option_below h = simp tests
 
-      pub option_equal : key_of (be16 area at) + 1 ≡ floor → Fault 33 at ≡ option_at area floor at
+      pub option_equal : key_of (be16 area at) + 1 ≡ floor → Fault KeyEqual at ≡ option_at area floor at
       unfolding option_at
       option_equal h = let from : floor ≤ key_of (be16 area at) + 1 = omega arith in simp tests
 
@@ -88,7 +91,7 @@ pub data Walked (fuel : ℕ) (area : List ℕ) (floor at : ℕ) (os : List TlvOp
 
 abbrev Came : ℕ → List ℕ → ℕ → ℕ → Options → Type 0
 Came fuel area floor at (options os) = Walked fuel area floor at os
-Came fuel area floor at (fault n p) = Numbered 30 33 (length area) n p
+Came fuel area floor at (fault n p) = Numbered 30 33 (length area) (number_of n) p
 
 -- the walk, by what it meets
 module _ (fuel : ℕ) (area : List ℕ) (floor at : ℕ) where
@@ -96,7 +99,7 @@ module _ (fuel : ℕ) (area : List ℕ) (floor at : ℕ) where
   unfolding options_from
   options_end h = simp (options_from, tests)
 
-  pub options_fault : (number place : ℕ) → at < length area → option_at area floor at ≡ Fault number place
+  pub options_fault : (number : Number) (place : ℕ) → at < length area → option_at area floor at ≡ Fault number place
       → options_from (suc fuel) area floor at ≡ fault number place
   unfolding options_from
   options_fault number place h e = simp (options_from, tests, e)
@@ -108,7 +111,7 @@ module _ (fuel : ℕ) (area : List ℕ) (floor at : ℕ) where
   options_on key size next h e = simp (options_from, tests, e)
 
   -- whatever it comes to
-  came : ((key next n p : ℕ) → options_from fuel area (key + 1) next ≡ fault n p → Numbered 30 33 (length area) n p)
+  came : ((key next : ℕ) (n : Number) (p : ℕ) → options_from fuel area (key + 1) next ≡ fault n p → Numbered 30 33 (length area) (number_of n) p)
       → Came fuel area floor at (options_from (suc fuel) area floor at)
   came later =
       by_order at (length area)
@@ -125,7 +128,7 @@ module _ (fuel : ℕ) (area : List ℕ) (floor at : ℕ) where
       first key size next lt r (options os) f = took key size next os lt r refl f
       first key size next lt r (fault n p) f = later key next n p f
 
-options_number : (fuel : ℕ) (area : List ℕ) (floor at n p : ℕ) → options_from fuel area floor at ≡ fault n p → Numbered 30 33 (length area) n p
+options_number : (fuel : ℕ) (area : List ℕ) (floor at : ℕ) (n : Number) (p : ℕ) → options_from fuel area floor at ≡ fault n p → Numbered 30 33 (length area) (number_of n) p
 unfolding options_from
 options_number zero area floor at n p e = apart (cc e)
 options_number (suc fuel) area floor at n p e = rw e at (came fuel area floor at (λ key. options_number fuel area (key + 1)))
@@ -287,7 +290,7 @@ well_area area w = rw (w.are, w.hop_by_hop, w.ingress_to_egress)
 -- the answer numbers of an area, 30 to 33 of an option and 34 and 35 after all, and their places
 abbrev AreaFound : List ℕ → AreaRead → Type 0
 AreaFound area WellFormed = Well area
-AreaFound area (Faulty n p) = Numbered 30 35 (length area) n p
+AreaFound area (Faulty n p) = Numbered 30 35 (length area) (number_of n) p
 
 area_found : (area : List ℕ) → AreaFound area (draft_read area)
 unfolding draft_read summarized options_of
@@ -300,7 +303,7 @@ area_found area =
 pub area_well : (area : List ℕ) → draft_read area ≡ WellFormed → Well area
 area_well area e = rw e at (area_found area)
 
-pub area_number : (area : List ℕ) (n p : ℕ) → draft_read area ≡ Faulty n p → Numbered 30 35 (length area) n p
+pub area_number : (area : List ℕ) (n : Number) (p : ℕ) → draft_read area ≡ Faulty n p → Numbered 30 35 (length area) (number_of n) p
 area_number area n p e = rw e at (area_found area)
 
 -- a stripped area is well formed, with the same summary bits, no longer, of whole words; and stripping it changes nothing

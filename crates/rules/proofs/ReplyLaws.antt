@@ -1,5 +1,6 @@
 -- Laws of the two replies: they read back behind any link header, with hop count 63, and nothing answers one: an error is heard as an
 -- error, an echo reply as an echo reply. By computation on the octets written.
+use Rattle.std.specs.Prelude.{Ok}
 use mathlib.Core.Path.{◌≡◌, refl}
 use mathlib.Core.List.{List, [], ◌++◌}
 use mathlib.Core.Bool.{true}
@@ -11,7 +12,6 @@ use Rattle.rules.specs
 use specs.{Octets.be16, Settings.Ways, Link.link, Header.read_frame, Header.inner_of}
 use specs.Channel.{protocol_error, protocol_echo, protocol, na, spid, spid_reply, echo_read, channel_read, silenced, reply_inner, reply_rest, echo_body}
 use specs.declared.{NextHop.NextHop, Header.Header}
-use specs.declared.FrameRead.TheVariants.{Trill}
 use specs.declared.ChannelRead.TheVariants.{ErrorHeard, EchoHeard}
 use Rattle.rules.proofs
 use proofs.TestLaws.{tests, by_equal, or_yes}
@@ -21,7 +21,7 @@ module _ (S : Ways) (own : S.nickname < 65536) {ingress : ℕ} (hi : ingress < 6
   abbrev pub reply_header : Header
   reply_header = record { place = length l; word = 0x003F; egress = ingress; ingress = S.nickname }
 
-  pub reply_read : read_frame (l ++ reply_rest S ingress number code body) ≡ Trill reply_header
+  pub reply_read : read_frame (l ++ reply_rest S ingress number code body) ≡ Ok reply_header
   unfolding reply_rest
   reply_read = read_with_header is (omega arith) hi own (reply_inner S number code body)
 

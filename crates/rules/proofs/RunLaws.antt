@@ -1,10 +1,10 @@
 -- Laws of the plain run, whatever the editions: it has at most 65h + 1 handlings, so it ends; at most h replies arise and nothing answers one; every
 -- frame fits, and at most 63 replies wait, of 576 octets each at most. By induction on a run as it goes: a handling costs one, an original of
 -- hop count x has 65x + 1 to spend, a reply x + 1, and each reply that waits 64.
+use Rattle.std.specs.Prelude.{Some, None}
 use mathlib.Core.Path.{◌≡◌, refl, ap, ◌∙◌}
 use mathlib.Core.List.Memᴰ
 use mathlib.Core.List.{List, [], ◌∷◌, ◌++◌, Memᴰ}
-use mathlib.Core.Option.{none, some}
 use Prim.Native.Nat.{ℕ, zero, suc, ◌+◌, ◌*◌, ◌<◌, ◌≤◌, max}
 use native.Mathlib.Nat.{not-suc-le-zero}
 use native.Mathlib.Omega.{arith}
@@ -23,21 +23,21 @@ use Rattle.rules.specs
 use Rattle.rules.proofs
 
 -- a switch found by its nickname is one of the campus, and has it
-pub named : (switches : List Settings) (n : ℕ) (S : Settings) → switch_named switches n ≡ some S → Memᴰ S switches × (S.nickname ≡ n)
+pub named : (switches : List Settings) (n : ℕ) (S : Settings) → switch_named switches n ≡ Some S → Memᴰ S switches × (S.nickname ≡ n)
 unfolding switch_named
 named [] n S e = apart cc
 named (T ∷ switches) n S e =
     by_test (eqb T.nickname n)
     (λ c.
-    let same : some T ≡ some S = (rw (switch_named, c) at e) in
+    let same : Some T ≡ Some S = (rw (switch_named, c) at e) in
     let is : S ≡ T = cc in
     rw is (Memᴰ.head refl, eqb-true T.nickname n c))
     (λ c. let later = named switches n S (rw (switch_named, c) at e) in (Memᴰ.tail later.0, later.1))
 
-pub named_member : (switches : List Settings) (n : ℕ) (S : Settings) → switch_named switches n ≡ some S → Memᴰ S switches
+pub named_member : (switches : List Settings) (n : ℕ) (S : Settings) → switch_named switches n ≡ Some S → Memᴰ S switches
 named_member switches n S e = (named switches n S e).0
 
-pub named_nickname : (switches : List Settings) (n : ℕ) (S : Settings) → switch_named switches n ≡ some S → S.nickname ≡ n
+pub named_nickname : (switches : List Settings) (n : ℕ) (S : Settings) → switch_named switches n ≡ Some S → S.nickname ≡ n
 named_nickname switches n S e = (named switches n S e).1
 
 -- how many replies a handling makes: one at most, none to a reply, and none where no hop is left
@@ -107,11 +107,11 @@ module _ (switches : List Settings) (clock : List ℕ) where
   run_none i n kind f q = refl
 
   module _ (m i n : ℕ) (kind : Kind) (f : List ℕ) (q : List Waiting) where
-    pub run_unknown : switch_named switches n ≡ none → run (suc m) i n kind f q ≡ []
+    pub run_unknown : switch_named switches n ≡ None → run (suc m) i n kind f q ≡ []
     unfolding run_from
     run_unknown e = rw (run_from, e)
 
-    module _ (S : Settings) (e : switch_named switches n ≡ some S) where
+    module _ (S : Settings) (e : switch_named switches n ≡ Some S) where
       pub run_step : run (suc m) i n kind f q ≡ state i S kind f ∷ rest m i (next_after switches kind q (answer S f))
       unfolding run_from rest
       run_step = rw (run_from, e)

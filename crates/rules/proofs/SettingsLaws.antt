@@ -1,8 +1,8 @@
 -- Settings that are not bad are what their fields say, by induction on the fields.
+use Rattle.std.specs.Prelude.{Some, None}
 use mathlib.Core.Path.{◌≡◌, refl, sym, ◌∙◌}
 use mathlib.Core.List.{List, [], ◌∷◌, foldl}
 use mathlib.Core.Bool.{true, false}
-use mathlib.Core.Option.{none, some}
 use Prim.Native.Nat.{ℕ}
 use specs.Fields.{Field, fields}
 use specs.Settings.{Settings, with_field, opens, continues, opened, settings_from, settings_of, settings_read}
@@ -14,11 +14,11 @@ module _ (S : Settings) (f : Field) (fs : List Field) where
   unfolding settings_from
   from_on e = rw (settings_from, e)
 
-  pub from_bad : continues S f ≡ false → settings_from S (f ∷ fs) ≡ none
+  pub from_bad : continues S f ≡ false → settings_from S (f ∷ fs) ≡ None
   unfolding settings_from
   from_bad e = rw (settings_from, e)
 
-pub from_read : (S T : Settings) (fs : List Field) → settings_from S fs ≡ some T → foldl with_field S fs ≡ T
+pub from_read : (S T : Settings) (fs : List Field) → settings_from S fs ≡ Some T → foldl with_field S fs ≡ T
 unfolding settings_from
 from_read S T [] e = cc
 from_read S T (f ∷ fs) e =
@@ -26,7 +26,7 @@ from_read S T (f ∷ fs) e =
     (λ c. from_read (with_field S f) T fs (sym (from_on S f fs c) ∙ e))
     (λ c. apart (cc (from_bad S f fs c)))
 
-pub settings_read_lem : (octets : List ℕ) (T : Settings) → settings_of octets ≡ some T → settings_read octets ≡ T
+pub settings_read_lem : (octets : List ℕ) (T : Settings) → settings_of octets ≡ Some T → settings_read octets ≡ T
 unfolding settings_of settings_read
 settings_read_lem octets T e =
     elim (fields octets) as (λ w. fields octets ≡ w → settings_read octets ≡ T) [

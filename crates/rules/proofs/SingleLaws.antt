@@ -1,11 +1,11 @@
 -- A campus without an edition 2 switch: the plain run is the run that document 01 writes out, in which no reply waits, so it has at most 64 handlings
 -- and the smaller of the number of switches and the hop count, and at most one reply arises. By induction on the handlings looked at: the switches
 -- before one that replies differ.
+use Rattle.std.specs.Prelude.{Option, Some}
 use mathlib.Core.Path.{◌≡◌, ap, ◌∙◌}
 use mathlib.Core.List.Memᴰ
 use mathlib.Core.List.{List, [], ◌∷◌, Memᴰ}
 use mathlib.Core.Bool.{true, false}
-use mathlib.Core.Option.{Option, some}
 use Prim.Native.Nat.{ℕ, zero, suc, ◌+◌, ◌<◌, ◌≤◌, min}
 use native.Mathlib.Omega.{arith}
 use lib.ListN.{length}
@@ -57,7 +57,7 @@ module _ (switches : List Settings) (clock : List ℕ) where
   -- one turn, of both runs: they stop, or go on at a neighbour
   data Turn (S : Settings) (kind : Kind) (f : List ℕ) : Type 0 where
     stops : next_after switches kind [] (answer S f) ≡ over → ((m i : ℕ) → run (suc m) i S kind f ≡ state i S kind f ∷ []) → Turn S kind f
-    goes : (T : Settings) (kind' : Kind) → neighbour S f ≡ some T → Goes S f
+    goes : (T : Settings) (kind' : Kind) → neighbour S f ≡ Some T → Goes S f
         → next_after switches kind [] (answer S f) ≡ next (answer S f).via kind' (sent S f) []
         → ((m i : ℕ) → run (suc m) i S kind f ≡ state i S kind f ∷ run m (suc i) T kind' (sent S f)) → Turn S kind f
 
@@ -93,7 +93,7 @@ module _ (switches : List Settings) (clock : List ℕ) where
         ]
 
     -- the plain run is document 01's run
-    pub single : (m i n : ℕ) (S : Settings) → switch_named switches n ≡ some S → (kind : Kind) (f : List ℕ)
+    pub single : (m i n : ℕ) (S : Settings) → switch_named switches n ≡ Some S → (kind : Kind) (f : List ℕ)
         → run_from m i switches clock n kind f [] ≡ single_run m i switches clock S kind f
     unfolding single_run
     single zero i n S e kind f = rw run_none
@@ -108,7 +108,7 @@ module _ (switches : List Settings) (clock : List ℕ) where
               )
         ]
 
-    further : {S T : Settings} {f : List ℕ} {c : ℕ} → Memᴰ S switches → neighbour S f ≡ some T → Forwarded S f (answer S f)
+    further : {S T : Settings} {f : List ℕ} {c : ℕ} → Memᴰ S switches → neighbour S f ≡ Some T → Forwarded S f (answer S f)
         → Way (egress_received f) T (hop_received (sent S f)) c → Way (egress_received f) S (hop_received f) (suc c)
     further j n o (unanswered q) = unanswered (omega arith)
     further j n o (answered k a q c) = answered (suc k) (on j o.transit (o.goes switches ∙ n) a) (omega arith) (omega arith)

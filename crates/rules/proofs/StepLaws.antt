@@ -1,12 +1,12 @@
 -- What one handling does to a frame on its way, whatever the edition: forwarding takes one from its hop count and keeps egress and inner frame, a
 -- reply has hop count 63 and nothing replies to it, and the neighbour named is that of the record which rules for the written frame's egress; in
 -- edition 1 only the egress replies, and nothing stands beside what is forwarded. By reading back what is written.
+use Rattle.std.specs.Prelude.{Option, Some, None, Ok, Err}
 use mathlib.Core.Path.{◌≡◌, refl, sym, ap, ◌∙◌}
 use mathlib.Core.List.Memᴰ
 use mathlib.Core.List.{List, [], ◌∷◌, ◌++◌, Memᴰ}
 use mathlib.Core.Logic.{◌⊎◌, inl, inr}
 use mathlib.Core.Bool.{Bool, true, false, ◌||◌, true≢false}
-use mathlib.Core.Option.{Option, none}
 use Prim.Native.Nat.{ℕ, suc, ◌<◌, ◌≤◌}
 use native.Mathlib.Omega.{arith}
 use borrow.Author.Tests.{eq-eqb, ne_eqb, eqb-true, not-true}
@@ -19,9 +19,8 @@ use specs.Header.{hop_count, any_rbridge, read_frame, inner_of, we_are_egress}
 use specs.Channel.{protocol_error, protocol_echo, body_of, channel_read, return_path, reply_inner, reply_rest, error_body, echo_body, error_reply, echo_reply}
 use specs.Handling.{forwarded, beside_least, handling}
 use specs.Campus.{switch_named, Waiting, writes_reply, replies_made, hop_received, egress_received}
-use specs.declared.{NextHop.NextHop, Header.Header}
-use specs.declared.Ruling.TheVariants.{Found, Absent}
-use specs.declared.FrameRead.TheVariants.{Trill, Unreadable}
+use specs.Answer.{err_of}
+use specs.declared.{NextHop.NextHop, Header.Header, Number.Number, ChannelFault.ChannelFault}
 use specs.declared.ChannelRead.TheVariants.{Fault, ErrorHeard, EchoHeard, EchoRequest}
 use Rattle.rules.proofs
 use proofs.TestLaws.{apart, by_test, and_right, or_left, or_right}
@@ -33,23 +32,23 @@ use proofs.HandledLaws.{alone, replied, How, fault_small, how, echo_fits}
 
 -- hop count and egress of a frame
 module _ (f : List ℕ) where
-  pub hop_read : (h : Header) → read_frame f ≡ Trill h → hop_received f ≡ hop_count h.word
+  pub hop_read : (h : Header) → read_frame f ≡ Ok h → hop_received f ≡ hop_count h.word
   unfolding hop_received
   hop_read h e = rw (hop_received, e)
 
-  pub hop_unread : (n : ℕ) → read_frame f ≡ Unreadable n → hop_received f ≡ 0
+  pub hop_unread : (n : Number) → read_frame f ≡ Err n → hop_received f ≡ 0
   unfolding hop_received
   hop_unread n e = rw (hop_received, e)
 
-  pub egress_read : (h : Header) → read_frame f ≡ Trill h → egress_received f ≡ h.egress
+  pub egress_read : (h : Header) → read_frame f ≡ Ok h → egress_received f ≡ h.egress
   unfolding egress_received
   egress_read h e = rw (egress_received, e)
 
   pub hop_most : hop_received f ≤ 63
   hop_most =
       elim (read_frame f) as (λ w. read_frame f ≡ w → hop_received f ≤ 63) [
-        | Unreadable n ↦ λ e. omega (arith, hop_unread n e)
-        | Trill h ↦ λ e. omega (arith, hop_read h e)
+        | Err n ↦ λ e. omega (arith, hop_unread n e)
+        | Ok h ↦ λ e. omega (arith, hop_read h e)
       ] refl
 
 -- whether a switch is the egress of a frame, and where it forwards one: both by the frame's egress alone
@@ -57,9 +56,9 @@ unfoldable pub ours : ℕ → Settings → Bool
 ours egress S = eqb egress S.nickname || eqb egress any_rbridge
 
 unfoldable pub towards : List Settings → ℕ → Settings → Option Settings
-towards switches egress S = elim (next_hop S egress) [ Absent ↦ none | Found r ↦ switch_named switches r.neighbour ]
+towards switches egress S = elim (next_hop S egress) [ None ↦ None | Some r ↦ switch_named switches r.neighbour ]
 
-ours_role : (S : Settings) (f : List ℕ) (h : Header) → read_frame f ≡ Trill h → ours (egress_received f) S ≡ we_are_egress S.nickname h
+ours_role : (S : Settings) (f : List ℕ) (h : Header) → read_frame f ≡ Ok h → ours (egress_received f) S ≡ we_are_egress S.nickname h
 unfolding ours we_are_egress
 ours_role S f h e = rw (egress_read f h e)
 
@@ -69,29 +68,29 @@ Heard inner = (channel_read inner ≡ ErrorHeard) ⊎ (channel_read inner ≡ Ec
 
 pub record IsReply (f : List ℕ) : Type 0 where
   pub header : Header
-  pub read : read_frame f ≡ Trill header
+  pub read : read_frame f ≡ Ok header
   pub heard : Heard (inner_of f header)
 
-reply_heard : (f : List ℕ) {h : Header} → read_frame f ≡ Trill h → IsReply f → Heard (inner_of f h)
+reply_heard : (f : List ℕ) {h : Header} → read_frame f ≡ Ok h → IsReply f → Heard (inner_of f h)
 reply_heard f {h} e y = let same : y.header ≡ h = cc y.read in rw same at y.heard
 
 -- "the neighbour in the writing switch's ruling record for that frame's egress": of a frame written, and the neighbour that it goes to
 pub record NextSwitch (S : Settings) (written : List ℕ) (via : ℕ) : Type 0 where
   pub hop : NextHop
-  pub rules : ruling S.hops (egress_received written) ≡ Found hop
+  pub rules : ruling S.hops (egress_received written) ≡ Some hop
   pub neighbour : via ≡ hop.neighbour
 
 module _ (S : Settings) (d : ℕ) (r : NextHop) where
-  hop_rules : next_hop S d ≡ Found r → ruling S.hops d ≡ Found r
+  hop_rules : next_hop S d ≡ Some r → ruling S.hops d ≡ Some r
   unfolding next_hop
   hop_rules e =
-      elim (ruling S.hops d) as (λ w. ruling S.hops d ≡ w → ruling S.hops d ≡ Found r) [
-        | Absent ↦ λ is. apart (cc (rw (next_hop, is) at e))
-        | Found q ↦ λ is.
+      elim (ruling S.hops d) as (λ w. ruling S.hops d ≡ w → ruling S.hops d ≡ Some r) [
+        | None ↦ λ is. apart (cc (rw (next_hop, is) at e))
+        | Some q ↦ λ is.
             by_test (eqb q.neighbour 0) (λ b. apart (cc (rw (next_hop, is, b) at e))) (λ b. is ∙ (rw (next_hop, is, b) at e))
       ] refl
 
-  return_rules : return_path (ways_of S) d ≡ Found r → ruling S.hops d ≡ Found r
+  return_rules : return_path (ways_of S) d ≡ Some r → ruling S.hops d ≡ Some r
   unfolding return_path
   return_rules e = by_test (eqb d S.nickname) (λ b. apart (cc (rw b at e))) (λ b. hop_rules (rw b at e))
 
@@ -105,11 +104,11 @@ pub record Forwarded (S : Settings) (f : List ℕ) (a : Handled) : Type 0 where
   pub next : NextSwitch S a.octets a.via
   pub reply_kept : IsReply f → IsReply a.octets
 
-module _ (S : Settings) (f : List ℕ) (h : Header) (r : NextHop) (t : Cleared (ways_of S) f h false) (found : next_hop S h.egress ≡ Found r) where
+module _ (S : Settings) (f : List ℕ) (h : Header) (r : NextHop) (t : Cleared (ways_of S) f h false) (found : next_hop S h.egress ≡ Some r) where
   abbrev sent : Header
   sent = sent_header t (link_written (ways_of S) r)
 
-  sent_read : read_frame (forwarded (ways_of S) r f h) ≡ Trill sent
+  sent_read : read_frame (forwarded (ways_of S) r f h) ≡ Ok sent
   unfolding forwarded
   sent_read = forwarded_read t (link_written (ways_of S) r)
 
@@ -142,7 +141,7 @@ pub record Answered (S : Settings) (f written : List ℕ) (via : ℕ) : Type 0 w
   pub short : length written ≤ beside_least
 
 module _ (S : Settings) (own : S.nickname < 65536) (f : List ℕ) (h : Header) (r : NextHop) {egress : Bool} (t : Cleared (ways_of S) f h egress)
-    (found : return_path (ways_of S) h.ingress ≡ Found r) where
+    (found : return_path (ways_of S) h.ingress ≡ Some r) where
   -- either reply, as it is written
   module _ (number code : ℕ) (body : List ℕ) where
     abbrev written : List ℕ
@@ -164,10 +163,11 @@ module _ (S : Settings) (own : S.nickname < 65536) (f : List ℕ) (h : Header) (
           short = short;
         }
 
-  error_answered : (code : ℕ) → channel_read (inner_of f h) ≡ Fault code → Answered S f (error_reply (ways_of S) r f h code) r.neighbour
+  error_answered : (fault : ChannelFault) → channel_read (inner_of f h) ≡ Fault fault → Answered S f (error_reply (ways_of S) r f h (err_of fault)) r.neighbour
   unfolding error_reply
-  error_answered code c =
-      answered protocol_error code (error_body f h) (inl (error_heard (ways_of S) code (error_body f h) (fault_small (inner_of f h) code c)))
+  error_answered fault c =
+      let code = err_of fault in
+      answered protocol_error code (error_body f h) (inl (error_heard (ways_of S) code (error_body f h) (fault_small fault)))
       (λ w. elim w [ inl e ↦ apart cc | inr e ↦ apart cc ])
       (omega (arith, length_error (ways_of S) r f h code))
 
@@ -232,8 +232,8 @@ module _ (S : Settings) (clock f : List ℕ) (own : S.nickname < 65536) (six : l
       forwards (forwarded_on S f h r t found _ _)
       (rw (ne_eqb (length (echo_reply (ways_of S) q h clock body)) 0 (λ z. omega arith)) (one _ (echo_answered S own f h q t e clock six c)))
       (λ old. apart cc)
-  does_how (How.faults {egress = egress} h r code t two found c) =
-      replies refl refl (error_answered S own f h r t found code c) (at_egress egress h t two)
+  does_how (How.faults {egress = egress} h r fault t two found c) =
+      replies refl refl (error_answered S own f h r t found fault c) (at_egress egress h t two)
   does_how (How.echoes h r t found c) =
       replies refl refl (echo_answered S own f h r t found clock six c) (at_egress true h t (λ z. absurd (true≢false z)))
 

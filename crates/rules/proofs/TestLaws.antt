@@ -1,9 +1,9 @@
 -- Laws of tests: cases on one, what holds either way of it or down a chain of them, what a conjunction or a disjunction says of its parts, and what
 -- holds of each member of a list or each number below another. By cases.
+use Rattle.std.specs.Prelude.{Option, Some, None}
 use mathlib.Core.Path.{◌≡◌, refl}
 use mathlib.Core.Bool.{Bool, true, false, ◌&&◌, ◌||◌, cond}
 use mathlib.Core.List.{List, ◌∷◌, Memᴰ}
-use mathlib.Core.Option.{Option, none, some}
 use Prim.Native.Nat.{ℕ, zero, suc, ◌<◌, ◌≤◌}
 use native.Mathlib.Omega.{arith}
 use borrow.Author.Tests.{lt-ltb, le-ltb, le-leb, lt-leb, eq-eqb, ne_eqb, ltb-true, ltb-false, eqb-true, eqb-false}
@@ -37,9 +37,9 @@ abbrev pub IfNone : Type 0 → ℕ → Type 0
 IfNone X zero = X
 IfNone X (suc n) = Unit {0}
 
-pub by_option : {A X : Type 0} (w : Option A) → (w ≡ none → X) → ((a : A) → w ≡ some a → X) → X
-by_option none n s = n refl
-by_option (some a) n s = s a refl
+pub by_option : {A X : Type 0} (w : Option A) → (w ≡ None → X) → ((a : A) → w ≡ Some a → X) → X
+by_option None n s = n refl
+by_option (Some a) n s = s a refl
 
 pub and_true : (a b : Bool) → (a && b) ≡ true → (a ≡ true) × (b ≡ true)
 and_true true true e = (refl, refl)

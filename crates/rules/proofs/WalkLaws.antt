@@ -1,9 +1,9 @@
 -- A walk over members of a list that moves by a function until a test first holds is no longer than the list: each member on it has its own
 -- distance to the end, and a function takes no more values than it has arguments (pigeonhole).
+use Rattle.std.specs.Prelude.{Option, Some, None}
 use mathlib.Core.Path.{◌≡◌, sym, ◌∙◌, ap}
 use mathlib.Core.List.{List, Memᴰ}
 use mathlib.Core.Bool.{Bool, true, false, cond}
-use mathlib.Core.Option.{Option, none, some}
 use Prim.Native.Nat.{ℕ, zero, suc, ◌≤◌, ◌<◌}
 use native.Mathlib.Nat.{not-suc-le-zero}
 use native.Mathlib.Omega.{arith}
@@ -46,12 +46,12 @@ index d (Memᴰ.tail m) = let p = index d m in (suc p.0, omega arith, p.2)
 -- a walk that arrives, at its k-th member and not before, where the test `ours` holds
 pub data Arrives {A : Type 0} (l : List A) (ours : A → Bool) (next : A → Option A) : A → ℕ → Type 0 where
   here : {s : A} → Memᴰ s l → ours s ≡ true → Arrives l ours next s 1
-  on : {s t : A} {k : ℕ} → Memᴰ s l → ours s ≡ false → next s ≡ some t → Arrives l ours next t k → Arrives l ours next s (suc k)
+  on : {s t : A} {k : ℕ} → Memᴰ s l → ours s ≡ false → next s ≡ Some t → Arrives l ours next t k → Arrives l ours next s (suc k)
 
 -- how many moves from s to the first member where it holds, looking m moves ahead
 dist : {A : Type 0} → (A → Bool) → (A → Option A) → ℕ → A → ℕ
 dist ours next zero s = 0
-dist ours next (suc m) s = elim (ours s) [ true ↦ 0 | false ↦ elim (next s) [ none ↦ 0 | some t ↦ suc (dist ours next m t) ] ]
+dist ours next (suc m) s = elim (ours s) [ true ↦ 0 | false ↦ elim (next s) [ None ↦ 0 | Some t ↦ suc (dist ours next m t) ] ]
 
 module _ {A : Type 0} (l : List A) (ours : A → Bool) (next : A → Option A) where
   dist_is : {s : A} {k : ℕ} → Arrives l ours next s k → (m : ℕ) → k ≤ m → suc (dist ours next m s) ≡ k

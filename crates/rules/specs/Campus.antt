@@ -1,13 +1,11 @@
 -- "Campus description and run": what a description says or why it is refused, the plain run, its trace, and the whole call.
-use Rattle.std.specs.Prelude.{ℕ, zero, suc, List, [], ◌∷◌, ◌++◌, Bool, true, false, not, ◌&&◌, ◌||◌, length, drop, ltb, eqb, if◌then◌else◌}
-use Rattle.std.proofs.Math.Option.{Option, none, some}
+use Rattle.std.specs.Prelude.{ℕ, zero, suc, List, [], ◌∷◌, ◌++◌, Bool, true, false, not, ◌&&◌, ◌||◌, length, drop, ltb, eqb, if◌then◌else◌, Option, Some, None, Ok, Err}
 use Rattle.rules.specs.Octets.{be16, octets16, put}
 use Rattle.rules.specs.Fields.{Field, field, cut, fields, length_good}
 use Rattle.rules.specs.Settings.{Settings, hop_good, switch_good, serial_met, switch_of, hop_of, strip_good, edition_good, hops_most, with_field, ways_of}
 use Rattle.rules.specs.Header.{hop_count, read_frame}
 use Rattle.rules.specs.Answer.{Handled}
 use Rattle.rules.specs.Handling.{handling}
-use Rattle.rules.specs.declared.FrameRead.TheVariants.{Trill, Unreadable}
 
 -- A description as far as it is read. The latest switch stands first; tag 5 gives the entry switch and the frame.
 pub record Described : Type 0 where
@@ -17,15 +15,15 @@ pub record Described : Type 0 where
   pub frame : List ℕ
 
 abbrev pub nothing_yet : Described
-nothing_yet = record { switches = []; clock = none; entry = none; frame = [] }
+nothing_yet = record { switches = []; clock = None; entry = None; frame = [] }
 
 unfoldable pub switch_named : List Settings → ℕ → Option Settings
-switch_named [] nickname = none
-switch_named (S ∷ switches) nickname = if eqb S.nickname nickname then some S else switch_named switches nickname
+switch_named [] nickname = None
+switch_named (S ∷ switches) nickname = if eqb S.nickname nickname then Some S else switch_named switches nickname
 
 abbrev pub known : {A : Type 0} → Option A → Bool
-known none = false
-known (some a) = true
+known None = false
+known (Some a) = true
 
 -- 43: "tag out of place (2 or 3 before any tag 1, a second tag 4, anything after tag 5)"; T-09: tag 6 is "placed and counted as tag 3"
 unfoldable pub order_good : Described → ℕ → Bool
@@ -90,7 +88,7 @@ unfoldable pub with_next : Described → Field → Described
 with_next d cut = d
 with_next d (field tag v) =
     if eqb tag 1 then record { switches = switch_of v ∷ d.switches; clock = d.clock; entry = d.entry; frame = d.frame } else
-    if eqb tag 4 then record { switches = d.switches; clock = some v; entry = d.entry; frame = d.frame } else
+    if eqb tag 4 then record { switches = d.switches; clock = Some v; entry = d.entry; frame = d.frame } else
     if eqb tag 5 then record { switches = d.switches; clock = d.clock; entry = switch_named d.switches (be16 v 0); frame = drop 2 v }
     else record { switches = on_latest (λ S. with_field S (field tag v)) d.switches; clock = d.clock; entry = d.entry; frame = d.frame }
 
@@ -116,7 +114,7 @@ described file = if ltb file_most (length file) then refused 40 else described_f
 
 -- "clock, at most once, default zero"
 unfoldable pub clock_of : Described → List ℕ
-clock_of d = elim d.clock [ none ↦ 0 ∷ 0 ∷ 0 ∷ 0 ∷ 0 ∷ 0 ∷ [] | some clock ↦ clock ]
+clock_of d = elim d.clock [ None ↦ 0 ∷ 0 ∷ 0 ∷ 0 ∷ 0 ∷ 0 ∷ [] | Some clock ↦ clock ]
 
 -- "It holds a switch, a frame and whether that is original or reply": one handling of the run, with its answer
 pub data Kind : Type 0 where
@@ -183,8 +181,8 @@ unfoldable pub run_from : ℕ → ℕ → List Settings → List ℕ → ℕ →
 run_from zero i switches clock nickname kind f waiting = []
 run_from (suc fuel) i switches clock nickname kind f waiting =
     elim (switch_named switches nickname) [
-      | none ↦ []
-      | some S ↦
+      | None ↦ []
+      | Some S ↦
           let a = handling (ways_of S) clock f in
           record { handling_no = i; switch = S; kind = kind; frame = f; answer = a }
           ∷ elim (next_after switches kind waiting a) [
@@ -199,14 +197,14 @@ handlings_most = 4097
 
 -- the plain run of an accepted description
 unfoldable pub plain_run : Described → List State
-plain_run d = elim d.entry [ none ↦ [] | some S ↦ run_from handlings_most 1 d.switches (clock_of d) S.nickname original d.frame [] ]
+plain_run d = elim d.entry [ None ↦ [] | Some S ↦ run_from handlings_most 1 d.switches (clock_of d) S.nickname original d.frame [] ]
 
 -- "hop count and egress are zero for a frame unreadable as TRILL"
 unfoldable pub hop_received : List ℕ → ℕ
-hop_received f = elim (read_frame f) [ Unreadable number ↦ 0 | Trill h ↦ hop_count h.word ]
+hop_received f = elim (read_frame f) [ Err number ↦ 0 | Ok h ↦ hop_count h.word ]
 
 unfoldable pub egress_received : List ℕ → ℕ
-egress_received f = elim (read_frame f) [ Unreadable number ↦ 0 | Trill h ↦ h.egress ]
+egress_received f = elim (read_frame f) [ Err number ↦ 0 | Ok h ↦ h.egress ]
 
 abbrev pub kind_octet : Kind → ℕ
 kind_octet original = 0

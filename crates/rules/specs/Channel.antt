@@ -1,12 +1,11 @@
 -- "Channel messages" (RFC 7178; source document 004 for the echo body): what a message is found to be, and the two replies.
-use Rattle.std.specs.Prelude.{ℕ, ◌+◌, ◌-◌, ◌*◌, ◌/◌, ◌%◌, List, [], ◌∷◌, ◌++◌, Bool, not, ◌&&◌, ◌||◌, length, take, drop, ltb, eqb, if◌then◌else◌}
+use Rattle.std.specs.Prelude.{ℕ, ◌+◌, ◌-◌, ◌*◌, ◌/◌, ◌%◌, List, [], ◌∷◌, ◌++◌, Bool, not, ◌&&◌, ◌||◌, length, take, drop, ltb, eqb, if◌then◌else◌, Option, None}
 use Rattle.rules.specs.Octets.{octet, be16, octets16, octets48, part}
 use Rattle.rules.specs.Settings.{Ways}
 use Rattle.rules.specs.Link.{link, ethertype_tag}
 use Rattle.rules.specs.declared.NextHop.{NextHop}
 use Rattle.rules.specs.declared.Header.{Header}
-use Rattle.rules.specs.declared.Ruling.{Ruling}
-use Rattle.rules.specs.declared.Ruling.TheVariants.{Absent}
+use Rattle.rules.specs.declared.ChannelFault.TheVariants.{HeaderShort, OtherEthertype, OtherVersion, WrongNative, OtherProtocol}
 use Rattle.rules.specs.declared.ChannelRead.{ChannelRead}
 use Rattle.rules.specs.declared.ChannelRead.TheVariants.{Fault, BadErr, ErrorHeard, BadEcho, EchoHeard, EchoRequest}
 
@@ -77,11 +76,11 @@ echo_read body =
 -- "Faults, first one counts", then 26, 55 and the echo
 unfoldable pub channel_read : List ℕ → ChannelRead
 channel_read inner =
-    if not (eqb (inner_ethertype inner) ethertype_channel) && not (eqb (inner_ethertype inner) ethertype_is_is) then Fault 2 else
-    if ltb (length inner) 22 then Fault 1 else
-    if not (eqb (chv inner) 0) then Fault 3 else
-    if eqb (na inner) 1 then Fault 4 else
-    if not (eqb (protocol inner) protocol_error) && not (eqb (protocol inner) protocol_echo) then Fault 5 else
+    if not (eqb (inner_ethertype inner) ethertype_channel) && not (eqb (inner_ethertype inner) ethertype_is_is) then Fault OtherEthertype else
+    if ltb (length inner) 22 then Fault HeaderShort else
+    if not (eqb (chv inner) 0) then Fault OtherVersion else
+    if eqb (na inner) 1 then Fault WrongNative else
+    if not (eqb (protocol inner) protocol_error) && not (eqb (protocol inner) protocol_echo) then Fault OtherProtocol else
     if not (eqb (protocol inner) protocol_error) && not (eqb (err inner) 0) then BadErr else
     if eqb (protocol inner) protocol_error then ErrorHeard
     else echo_read (body_of inner)
@@ -93,8 +92,8 @@ silenced code inner =
     && (eqb (sl inner) 1 || eqb (protocol inner) protocol_error || not (eqb (err inner) 0))
 
 -- "No return path: the ingress is our own nickname or has no next hop."
-unfoldable pub return_path : Ways → ℕ → Ruling
-return_path S ingress = if eqb ingress S.nickname then Absent else S.hop ingress
+unfoldable pub return_path : Ways → ℕ → Option NextHop
+return_path S ingress = if eqb ingress S.nickname then None else S.hop ingress
 
 -- "Each reply: .. All-Egress-RBridges, own MAC, 0x8100, 0x0001, 0x8946, protocol word, flags and ERR word 0xC000 plus the code,
 -- body."

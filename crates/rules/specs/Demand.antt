@@ -1,14 +1,13 @@
 -- Demand 3 of the minutes as one claim about a call that runs a campus, in their order and with their words.
-use Rattle.std.specs.Prelude.{◌≡◌, false, ℕ, zero, suc, ◌+◌, ◌*◌, ◌≤◌, min, length, drop, eqb, if◌then◌else◌}
+use Rattle.std.specs.Prelude.{◌≡◌, false, ℕ, zero, suc, ◌+◌, ◌*◌, ◌≤◌, min, length, drop, eqb, if◌then◌else◌, Option, Some, None, Ok, Err}
 use mathlib.Core.List.{List, [], ◌∷◌, ◌++◌, Memᴰ}
-use Rattle.std.proofs.Math.Option.{Option, none, some}
 use Rattle.rules.specs.Settings.{Settings, ways_of}
 use Rattle.rules.specs.Header.{hop_count, read_frame}
 use Rattle.rules.specs.Handling.{handling}
 use Rattle.rules.specs.Campus.{Described, switch_named, State, Kind, reply, original, writes_reply, replies_made, run_from, handlings_most, plain_run, clock_of}
 use Rattle.rules.specs.Campus.{some_edition2, hop_received, trace_octets}
 use Rattle.rules.specs.declared.Header.{Header}
-use Rattle.rules.specs.declared.FrameRead.TheVariants.{Trill, Unreadable}
+use Rattle.rules.specs.declared.Number.{Number}
 
 -- how many replies arise in a run, those that leave the campus too
 unfoldable pub replies_in : List State → ℕ
@@ -30,9 +29,9 @@ handlings_bound d h = if some_edition2 d.switches then 65 * h + 1 else 64 + min 
 -- left and the run ends. Any other answer ends it."
 unfoldable pub kind_after : Kind → ℕ → Option Kind
 kind_after kind number =
-    if eqb number 50 then some kind else
-    if writes_reply number then some reply
-    else none
+    if eqb number 50 then Some kind else
+    if writes_reply number then Some reply
+    else None
 
 unfoldable pub single_run : ℕ → ℕ → List Settings → List ℕ → Settings → Kind → List ℕ → List State
 single_run zero i switches clock S kind f = []
@@ -40,11 +39,11 @@ single_run (suc fuel) i switches clock S kind f =
     let a = handling (ways_of S) clock f in
     record { handling_no = i; switch = S; kind = kind; frame = f; answer = a }
     ∷ elim (kind_after kind a.number) [
-      | none ↦ []
-      | some kind' ↦
+      | None ↦ []
+      | Some kind' ↦
           elim (switch_named switches a.via) [
-            | none ↦ []
-            | some T ↦ single_run fuel (suc i) switches clock T kind' a.octets
+            | None ↦ []
+            | Some T ↦ single_run fuel (suc i) switches clock T kind' a.octets
           ]
     ]
 
@@ -57,7 +56,7 @@ pub record Demand (d : Described) (trace trace' : List ℕ) (code count : ℕ) :
   pub frame_short : length d.frame ≤ 2048
   pub entry : Settings
   pub entry_known : Memᴰ entry d.switches
-  pub entered : d.entry ≡ some entry
+  pub entered : d.entry ≡ Some entry
   -- "Document 01 writes out the plain run of that campus and frame.": T-09 adds the replies that wait, and only for edition 2
   pub as_written : some_edition2 d.switches ≡ false → plain_run d ≡ single_run handlings_most 1 d.switches (clock_of d) entry original d.frame
   -- "The plain run ends.": given more handlings, it has the same.
@@ -72,8 +71,8 @@ pub record Demand (d : Described) (trace trace' : List ℕ) (code count : ℕ) :
   pub unanswered : (s : State) → Memᴰ s (plain_run d) → s.kind ≡ reply → replies_made s.answer ≡ []
   -- "For a frame readable as TRILL, received with hop count h of 1 or more, the handlings of frame and reply together are at most
   -- 64 plus the smaller of n and h;"; T-09: "at most 65h + 1 handlings"
-  pub bound : (h : Header) → read_frame d.frame ≡ Trill h → 1 ≤ hop_count h.word → count ≤ handlings_bound d (hop_count h.word)
+  pub bound : (h : Header) → read_frame d.frame ≡ Ok h → 1 ≤ hop_count h.word → count ≤ handlings_bound d (hop_count h.word)
   -- "for h = 0 there is one."
-  pub hop_0 : (h : Header) → read_frame d.frame ≡ Trill h → hop_count h.word ≡ 0 → count ≡ 1
+  pub hop_0 : (h : Header) → read_frame d.frame ≡ Ok h → hop_count h.word ≡ 0 → count ≡ 1
   -- "An unreadable frame is handled once."
-  pub unreadable : (number : ℕ) → read_frame d.frame ≡ Unreadable number → count ≡ 1
+  pub unreadable : (number : Number) → read_frame d.frame ≡ Err number → count ≡ 1

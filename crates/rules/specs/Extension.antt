@@ -3,6 +3,7 @@
 use Rattle.std.specs.Prelude.{ℕ, ◌/◌, ◌%◌, List, Bool, not, ◌&&◌, ◌||◌, length, eqb, if◌then◌else◌}
 use Rattle.rules.specs.Octets.{be32}
 use Rattle.rules.specs.Settings.{Ways}
+use Rattle.rules.specs.declared.Number.TheVariants.{BadFlags}
 use Rattle.rules.specs.Options.{AreaRead, WellFormed, Faulty, draft_read, draft_stops, stripped}
 
 -- the extended flags word; an empty area has no flag
@@ -59,7 +60,7 @@ summary_bare w =
 
 unfoldable pub extension_read : List ℕ → AreaRead
 extension_read area =
-    if flag_unsummarized (flags_word area) || (eqb (length area) 4 && summary_bare (flags_word area)) then Faulty 38 0 else WellFormed
+    if flag_unsummarized (flags_word area) || (eqb (length area) 4 && summary_bare (flags_word area)) then Faulty BadFlags 0 else WellFormed
 
 -- "20 is for a critical one that affects us, the alert apart"; "(in a longer area such a bit counts as an unknown critical flag)". CRHbH
 -- affects every switch and CRItE the egress; the class of switches that CRRsv affects is not specified, so it affects none.

@@ -1,20 +1,19 @@
 -- "Fields: one-byte tag, two-byte length, big-endian throughout." The layout that settings and descriptions share.
-use Rattle.std.specs.Prelude.{ℕ, zero, suc, ◌+◌, List, [], ◌∷◌, Bool, true, false, ◌&&◌, ◌||◌, length, ltb, leb, eqb, if◌then◌else◌}
+use Rattle.std.specs.Prelude.{Option, Some, None, ℕ, zero, suc, ◌+◌, List, [], ◌∷◌, Bool, true, false, ◌&&◌, ◌||◌, length, ltb, leb, eqb, if◌then◌else◌}
 use Rattle.rules.specs.Octets.{octet, be16, part}
 use Rattle.rules.specs.declared.FieldRead.{FieldRead}
-use Rattle.rules.specs.declared.FieldRead.TheVariants.{Taken, Cut}
 
 -- a field's tag and value, or a field cut short
 pub data Field : Type 0 where
   field : ℕ → List ℕ → Field
   cut : Field
 
--- the field at a place, with the next place
-unfoldable pub field_at : List ℕ → ℕ → FieldRead
+-- the field at a place, with the next place, or none where it is cut short
+unfoldable pub field_at : List ℕ → ℕ → Option FieldRead
 field_at s at =
-    if ltb (length s) (at + 3) then Cut else
-    if ltb (length s) (at + 3 + be16 s (at + 1)) then Cut
-    else Taken (octet s at) (be16 s (at + 1)) (at + 3 + be16 s (at + 1))
+    if ltb (length s) (at + 3) then None else
+    if ltb (length s) (at + 3 + be16 s (at + 1)) then None
+    else Some (record { tag = octet s at; length = be16 s (at + 1); next = at + 3 + be16 s (at + 1) })
 
 -- the fields from a place on; a cut one is the last. `fuel` bounds how many are read.
 unfoldable pub fields_from : ℕ → List ℕ → ℕ → List Field
@@ -24,8 +23,8 @@ fields_from (suc fuel) s at =
       | false ↦ []
       | true ↦
           elim (field_at s at) [
-            | Taken tag size next ↦ field tag (part s (at + 3) size) ∷ fields_from fuel s next
-            | Cut ↦ cut ∷ []
+            | Some f ↦ field f.tag (part s (at + 3) f.length) ∷ fields_from fuel s f.next
+            | None ↦ cut ∷ []
           ]
     ]
 

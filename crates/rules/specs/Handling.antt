@@ -1,6 +1,5 @@
 -- "Answers of one handling. .. Order is as listed." Then the whole call with its refusals, and the call for a delivered part.
-use Rattle.std.specs.Prelude.{ℕ, ◌+◌, ◌-◌, ◌/◌, ◌%◌, List, [], ◌++◌, Bool, true, not, ◌&&◌, ◌||◌, length, ltb, leb, eqb, if◌then◌else◌}
-use Rattle.std.proofs.Math.Option.{none, some}
+use Rattle.std.specs.Prelude.{ℕ, ◌+◌, ◌-◌, ◌/◌, ◌%◌, List, [], ◌++◌, Bool, true, not, ◌&&◌, ◌||◌, length, ltb, leb, eqb, if◌then◌else◌, Some, None, Ok, Err}
 use Rattle.rules.specs.Octets.{be16, be48, octets16, part, put}
 use Rattle.rules.specs.Settings.{Ways, ways_of, settings_of}
 use Rattle.rules.specs.Link.{link, ethertype_tag}
@@ -8,13 +7,11 @@ use Rattle.rules.specs.Header.{version, reserved, multi, hop_count, header_word,
 use Rattle.rules.specs.Header.{inner_start, area_of, inner_of, header_refusal, we_are_egress}
 use Rattle.rules.specs.Options.{WellFormed, Faulty}
 use Rattle.rules.specs.Extension.{flags_word, critical_alert, non_critical_alert, area_read, area_stops, area_sent}
-use Rattle.rules.specs.Answer.{Handled, dropped, dropped_at, wrote, wrote_both, delivered}
+use Rattle.rules.specs.Answer.{number_of, err_of, Handled, dropped, dropped_at, wrote, wrote_both, delivered}
 use Rattle.rules.specs.Channel.{ethertype_channel, ethertype_is_is, all_egress_rbridges, inner_ethertype, body_of}
 use Rattle.rules.specs.Channel.{reply_mode, channel_read, silenced, return_path, error_reply, echo_reply}
 use Rattle.rules.specs.declared.NextHop.{NextHop}
 use Rattle.rules.specs.declared.Header.{Header}
-use Rattle.rules.specs.declared.Ruling.TheVariants.{Found, Absent}
-use Rattle.rules.specs.declared.FrameRead.TheVariants.{Trill, Unreadable}
 use Rattle.rules.specs.declared.Alert.{Alert}
 use Rattle.rules.specs.declared.Alert.TheVariants.{NoAlert, AlertFault, AlertErr, AlertRequest}
 use Rattle.rules.specs.declared.ChannelRead.{ChannelRead}
@@ -42,8 +39,8 @@ unfoldable pub faulted : Ways → List ℕ → Header → ℕ → Handled
 faulted S f h code =
     if silenced code (inner_of f h) then dropped 25 else
     elim (return_path S h.ingress) [
-      | Absent ↦ dropped 25
-      | Found r ↦ wrote 53 (error_reply S r f h code) r.neighbour
+      | None ↦ dropped 25
+      | Some r ↦ wrote 53 (error_reply S r f h code) r.neighbour
     ]
 
 -- 54 and 28: "ours replies only to 2. So 28 is given for any other mode or without a return path, and only then."
@@ -51,12 +48,12 @@ unfoldable pub echoed : Ways → List ℕ → List ℕ → Header → Handled
 echoed S clock f h =
     if not (eqb (reply_mode (body_of (inner_of f h))) 2) then dropped 28 else
     elim (return_path S h.ingress) [
-      | Absent ↦ dropped 28
-      | Found r ↦ wrote 54 (echo_reply S r h clock (body_of (inner_of f h))) r.neighbour
+      | None ↦ dropped 28
+      | Some r ↦ wrote 54 (echo_reply S r h clock (body_of (inner_of f h))) r.neighbour
     ]
 
 unfoldable pub channelled : Ways → List ℕ → List ℕ → Header → ChannelRead → Handled
-channelled S clock f h (Fault code) = faulted S f h code
+channelled S clock f h (Fault fault) = faulted S f h (err_of fault)
 channelled S clock f h BadErr = dropped 26
 channelled S clock f h ErrorHeard = dropped 55
 channelled S clock f h BadEcho = dropped 27
@@ -98,7 +95,7 @@ channel_message inner =
 -- "With the critical alert a channel fault or a bad ERR discards it: 53, 25 or 26." "An echo request that we as its egress would give 54 (so
 -- not one we would give 20) is answered and also forwarded". "With only the non-critical one these are passed over." "all else is forwarded with no reply"
 unfoldable pub alert_to : Bool → Bool → ChannelRead → Alert
-alert_to critical answered (Fault code) = if critical then AlertFault code else NoAlert
+alert_to critical answered (Fault fault) = if critical then AlertFault fault else NoAlert
 alert_to critical answered BadErr = if critical then AlertErr else NoAlert
 alert_to critical answered ErrorHeard = NoAlert
 alert_to critical answered BadEcho = NoAlert
@@ -113,19 +110,19 @@ alert_of S f h =
 
 unfoldable pub alerted : Ways → NextHop → List ℕ → List ℕ → Header → Alert → Handled
 alerted S r clock f h NoAlert = onward S r f h [] 0
-alerted S r clock f h (AlertFault code) = faulted S f h code
+alerted S r clock f h (AlertFault fault) = faulted S f h (err_of fault)
 alerted S r clock f h AlertErr = dropped 26
 alerted S r clock f h AlertRequest = onward S r f h (echoed S clock f h).octets (echoed S clock f h).via
 
 -- 21; T-09: "Alerts act at transit, after test 21"; then 29 and 50
 unfoldable pub transit : Ways → List ℕ → List ℕ → Header → Handled
-transit S clock f h = elim (S.hop h.egress) [ Absent ↦ dropped 21 | Found r ↦ alerted S r clock f h (alert_of S f h) ]
+transit S clock f h = elim (S.hop h.egress) [ None ↦ dropped 21 | Some r ↦ alerted S r clock f h (alert_of S f h) ]
 
 -- 30 to 35 or 38, and 20, then by our role
 unfoldable pub routed : Ways → List ℕ → List ℕ → Header → Handled
 routed S clock f h =
     elim (area_read S (area_of f h)) [
-      | Faulty number place ↦ dropped_at number place
+      | Faulty number place ↦ dropped_at (number_of number) place
       | WellFormed ↦
           if area_stops S (we_are_egress S.nickname h) (area_of f h) then dropped 20 else
           if we_are_egress S.nickname h then decapsulated S clock f h
@@ -135,8 +132,8 @@ routed S clock f h =
 unfoldable pub handling : Ways → List ℕ → List ℕ → Handled
 handling S clock f =
     elim (read_frame f) [
-      | Unreadable number ↦ dropped number
-      | Trill h ↦
+      | Err number ↦ dropped (number_of number)
+      | Ok h ↦
           if eqb (header_refusal S.mac f h) 0 then routed S clock f h
           else dropped (header_refusal S.mac f h)
     ]
@@ -157,7 +154,7 @@ handled_with S clock room beside_room f =
 -- the whole call: settings octets, clock, the lengths of both output buffers, frame
 unfoldable pub handled : List ℕ → List ℕ → ℕ → ℕ → List ℕ → Handled
 handled settings clock room beside_room f =
-    elim (settings_of settings) [ none ↦ dropped 1 | some S ↦ handled_with (ways_of S) clock room beside_room f ]
+    elim (settings_of settings) [ None ↦ dropped 1 | Some S ↦ handled_with (ways_of S) clock room beside_room f ]
 
 -- "Answers 50, 53 and 54 write exactly the frame at the start of the output; later octets stay. All other answers write nothing."
 abbrev pub output_after : List ℕ → Handled → List ℕ

@@ -1,11 +1,11 @@
 -- "TRILL header, 6 octets: the first 16 bits split into V 2, R 2, M 1, Op-Length 5, Hop Count 6, high bits first;
 -- then egress nickname, ingress nickname." With the answers that the headers decide, in their order.
-use Rattle.std.specs.Prelude.{ℕ, ◌+◌, ◌*◌, ◌/◌, ◌%◌, List, Bool, not, ◌||◌, length, drop, ltb, leb, eqb, if◌then◌else◌}
+use Rattle.std.specs.Prelude.{ℕ, ◌+◌, ◌*◌, ◌/◌, ◌%◌, List, Bool, not, ◌||◌, length, drop, ltb, leb, eqb, if◌then◌else◌, Result, Ok, Err}
 use Rattle.rules.specs.Octets.{be16, be48, part}
 use Rattle.rules.specs.Link.{link_length, link_ethertype, ethertype_trill}
 use Rattle.rules.specs.declared.Header.{Header}
-use Rattle.rules.specs.declared.FrameRead.{FrameRead}
-use Rattle.rules.specs.declared.FrameRead.TheVariants.{Trill, Unreadable}
+use Rattle.rules.specs.declared.Number.{Number}
+use Rattle.rules.specs.declared.Number.TheVariants.{FrameShort, NotTrill}
 
 abbrev pub version : ℕ → ℕ
 version w = w / 16384 % 4
@@ -30,14 +30,14 @@ abbrev pub any_rbridge : ℕ
 any_rbridge = 0xFFC0
 
 -- 10, 11 and 10 again, or the header
-unfoldable pub read_frame : List ℕ → FrameRead
+unfoldable pub read_frame : List ℕ → Result Header Number
 read_frame f =
-    if ltb (length f) 14 then Unreadable 10 else
-    if ltb (length f) (link_length f) then Unreadable 10 else
-    if not (eqb (link_ethertype f) ethertype_trill) then Unreadable 11 else
-    if ltb (length f) (link_length f + 6) then Unreadable 10
+    if ltb (length f) 14 then Err FrameShort else
+    if ltb (length f) (link_length f) then Err FrameShort else
+    if not (eqb (link_ethertype f) ethertype_trill) then Err NotTrill else
+    if ltb (length f) (link_length f + 6) then Err FrameShort
     else
-    Trill
+    Ok
     (record { place = link_length f; word = be16 f (link_length f); egress = be16 f (link_length f + 2); ingress = be16 f (link_length f + 4) })
 
 -- where the options area and the inner frame begin

@@ -1,6 +1,8 @@
 -- "Options area (source document 001)", edition 1: one option, all of them, well formed, and what is left of an area once stripped.
 use Rattle.std.specs.Prelude.{ℕ, zero, suc, ◌+◌, ◌-◌, ◌*◌, ◌/◌, ◌%◌, ◌<◌, ◌≤◌, ◌≡◌, List, [], ◌∷◌, ◌++◌, Bool, true, false, not, ◌&&◌, ◌||◌, length, take, drop, ltb, leb, eqb, if◌then◌else◌}
 use Rattle.rules.specs.Octets.{octet, be16, part}
+use Rattle.rules.specs.declared.Number.{Number}
+use Rattle.rules.specs.declared.Number.TheVariants.{ReservedLength, OptionCut, KeyBelow, KeyEqual, ChbhMissing, CiteMissing}
 
 -- "First word: bit 0 CHbH, bit 1 CItE, 30 bit options." An empty area has both summary bits 0.
 abbrev pub chbh : List ℕ → Bool
@@ -35,17 +37,17 @@ option_size size = (2 + size + 3) / 4 * 4
 -- One option: its key, its Length and the place after it, or the answer number of what is wrong with it, and its place.
 pub data OptionRead : Type 0 where
   Taken : ℕ → ℕ → ℕ → OptionRead
-  Fault : ℕ → ℕ → OptionRead
+  Fault : Number → ℕ → OptionRead
 
 -- T-02: "30 reserved Length, 31 option past the area, 32 key below the one before, 33 key equal to it", "the tests of one option in
 -- the order 30 to 33". `floor` is one more than the key of the option before, and 0 at the first:
 -- "the nine high bits of each option are greater than those of the one before".
 unfoldable pub option_at : List ℕ → ℕ → ℕ → OptionRead
 option_at area floor at =
-    if leb 119 (length_of (be16 area at)) then Fault 30 at else
-    if ltb (length area) (at + option_size (length_of (be16 area at))) then Fault 31 at else
-    if ltb (key_of (be16 area at) + 1) floor then Fault 32 at else
-    if eqb (key_of (be16 area at) + 1) floor then Fault 33 at
+    if leb 119 (length_of (be16 area at)) then Fault ReservedLength at else
+    if ltb (length area) (at + option_size (length_of (be16 area at))) then Fault OptionCut at else
+    if ltb (key_of (be16 area at) + 1) floor then Fault KeyBelow at else
+    if eqb (key_of (be16 area at) + 1) floor then Fault KeyEqual at
     else Taken (key_of (be16 area at)) (length_of (be16 area at)) (at + option_size (length_of (be16 area at)))
 
 -- an option as it stands in the area: key, Length, and all its octets, padding included
@@ -61,7 +63,7 @@ octets_of (o ∷ os) = o.octets ++ octets_of os
 -- all options, or the first fault: "Options are judged from the first on"
 pub data Options : Type 0 where
   options : List TlvOption → Options
-  fault : ℕ → ℕ → Options
+  fault : Number → ℕ → Options
 
 abbrev pub option_first : TlvOption → Options → Options
 option_first o (options os) = options (o ∷ os)
@@ -98,15 +100,15 @@ some_key test (o ∷ os) = test o.key || some_key test os
 -- a well formed area, or the answer number of what is wrong with it, and the place
 pub data AreaRead : Type 0 where
   WellFormed : AreaRead
-  Faulty : ℕ → ℕ → AreaRead
+  Faulty : Number → ℕ → AreaRead
 
 -- "CHbH is 1 if some option has IE 0, NC 0; CItE is 1 if some option has IE 1, NC 0." Too many summary bits are allowed.
 -- T-02: "then 34, then 35", after all options: "34 CHbH missing, 35 CItE missing", at "0 for 34 and 35".
 unfoldable pub summarized : List ℕ → Options → AreaRead
 summarized area (fault number place) = Faulty number place
 summarized area (options os) =
-    if some_key hop_by_hop_critical os && not (chbh area) then Faulty 34 0 else
-    if some_key ingress_to_egress_critical os && not (cite area) then Faulty 35 0
+    if some_key hop_by_hop_critical os && not (chbh area) then Faulty ChbhMissing 0 else
+    if some_key ingress_to_egress_critical os && not (cite area) then Faulty CiteMissing 0
     else WellFormed
 
 unfoldable pub draft_read : List ℕ → AreaRead

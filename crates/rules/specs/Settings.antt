@@ -1,12 +1,9 @@
 -- "Settings": the settings of one switch, the record that rules for a destination, and the octets that the C driver gives.
-use Rattle.std.specs.Prelude.{ℕ, ◌/◌, ◌%◌, Bool, true, false, not, ◌&&◌, ◌||◌, length, ltb, leb, eqb, if◌then◌else◌}
+use Rattle.std.specs.Prelude.{ℕ, ◌/◌, ◌%◌, Bool, true, false, not, ◌&&◌, ◌||◌, length, ltb, leb, eqb, if◌then◌else◌, Option, Some, None}
 use mathlib.Core.List.{List, [], ◌∷◌, ◌++◌, foldl}
-use Rattle.std.proofs.Math.Option.{Option, none, some}
 use Rattle.rules.specs.Octets.{octet, be16, be32, be48}
 use Rattle.rules.specs.Fields.{Field, field, cut, fields, length_good}
 use Rattle.rules.specs.declared.NextHop.{NextHop}
-use Rattle.rules.specs.declared.Ruling.{Ruling}
-use Rattle.rules.specs.declared.Ruling.TheVariants.{Found, Absent}
 
 pub record Settings : Type 0 where
   pub nickname : ℕ
@@ -35,23 +32,23 @@ hop_good r =
 
 -- "For one destination the record with the greatest serial rules": the one that rules once `r` is seen too.
 -- Of equal serials, which good settings never have, the first stays.
-unfoldable pub newer : ℕ → Ruling → NextHop → Ruling
+unfoldable pub newer : ℕ → Option NextHop → NextHop → Option NextHop
 newer d best r =
     if not (eqb r.destination d) then best else
     elim best [
-      | Absent ↦ Found r
-      | Found q ↦ if ltb q.serial r.serial then Found r else Found q
+      | None ↦ Some r
+      | Some q ↦ if ltb q.serial r.serial then Some r else Some q
     ]
 
-unfoldable pub ruling : List NextHop → ℕ → Ruling
-ruling hops d = foldl (newer d) Absent hops
+unfoldable pub ruling : List NextHop → ℕ → Option NextHop
+ruling hops d = foldl (newer d) None hops
 
 -- "if it is a withdrawal, there is no next hop"
-unfoldable pub next_hop : Settings → ℕ → Ruling
+unfoldable pub next_hop : Settings → ℕ → Option NextHop
 next_hop S d =
     elim (ruling S.hops d) [
-      | Absent ↦ Absent
-      | Found r ↦ if eqb r.neighbour 0 then Absent else Found r
+      | None ↦ None
+      | Some r ↦ if eqb r.neighbour 0 then None else Some r
     ]
 
 -- "Two records of one destination with equal serials make the settings bad."
@@ -120,15 +117,15 @@ opened cut = switch_of []
 opened (field tag v) = switch_of v
 
 unfoldable pub settings_from : Settings → List Field → Option Settings
-settings_from S [] = some S
-settings_from S (f ∷ fs) = elim (continues S f) [ true ↦ settings_from (with_field S f) fs | false ↦ none ]
+settings_from S [] = Some S
+settings_from S (f ∷ fs) = elim (continues S f) [ true ↦ settings_from (with_field S f) fs | false ↦ None ]
 
 -- settings octets to settings, or bad
 unfoldable pub settings_of : List ℕ → Option Settings
 settings_of octets =
     elim (fields octets) [
-      | [] ↦ none
-      | f ∷ fs ↦ elim (opens f) [ true ↦ settings_from (opened f) fs | false ↦ none ]
+      | [] ↦ None
+      | f ∷ fs ↦ elim (opens f) [ true ↦ settings_from (opened f) fs | false ↦ None ]
     ]
 
 -- what the fields say, without a judgement: of settings that are not bad, the settings
@@ -141,7 +138,7 @@ pub record Ways : Type 0 where
   pub mac : ℕ
   pub strip : Bool
   pub rfc7179 : Bool
-  pub hop : ℕ → Ruling
+  pub hop : ℕ → Option NextHop
 
 abbrev pub ways_of : Settings → Ways
 ways_of S = record { nickname = S.nickname; mac = S.mac; strip = S.strip; rfc7179 = S.rfc7179; hop = next_hop S }

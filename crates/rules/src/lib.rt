@@ -39,18 +39,12 @@ pub struct NextHop {
     pub vlan: u16,
 }
 
-// The record that rules for a destination, or none.
-#[derive(Clone, Copy)]
-pub enum Ruling {
-    Found(NextHop),
-    Absent,
-}
-
 // A field of settings or of a description: its value starts three octets after its place.
 #[derive(Clone, Copy)]
-pub enum FieldRead {
-    Taken { tag: u8, length: usize, next: usize },
-    Cut,
+pub struct FieldRead {
+    pub tag: u8,
+    pub length: usize,
+    pub next: usize,
 }
 
 // A TRILL header (RFC 6325, 3): where it starts, its first 16 bits, and the two nicknames.
@@ -62,17 +56,79 @@ pub struct Header {
     pub ingress: u16,
 }
 
-// A frame readable as TRILL, or the answer number of one that is not.
-#[derive(Clone, Copy)]
-pub enum FrameRead {
-    Trill(Header),
-    Unreadable(u8),
+// The number of an answer (document 01, "Answers of one handling"; document 02).
+#[derive(Clone, Copy, PartialEq, Eq)]
+pub enum Number {
+    BadSettings = 1,
+    OutputShort = 2,
+    FrameLong = 3,
+    CounterFull = 4,
+    FrameShort = 10,
+    NotTrill = 11,
+    NotToUs = 12,
+    BadVersion = 13,
+    MultiDestination = 14,
+    BadIngress = 15,
+    BadEgress = 16,
+    HopCountZero = 17,
+    AreaCut = 18,
+    CriticalOption = 20,
+    NoNextHop = 21,
+    InnerShort = 22,
+    BadTag = 23,
+    NotToAllEgress = 24,
+    NoErrorReply = 25,
+    BadErr = 26,
+    BadEcho = 27,
+    NoEchoReply = 28,
+    ForwardedLong = 29,
+    ReservedLength = 30,
+    OptionCut = 31,
+    KeyBelow = 32,
+    KeyEqual = 33,
+    ChbhMissing = 34,
+    CiteMissing = 35,
+    FrameEnded = 36,
+    BesideShort = 37,
+    BadFlags = 38,
+    Forwarded = 50,
+    Delivered = 51,
+    HandedUp = 52,
+    ErrorReply = 53,
+    EchoReply = 54,
+    ErrorHeard = 55,
+    EchoHeard = 56,
+}
+
+// The code that refuses a description (document 01, "Campus description and run").
+#[derive(Clone, Copy, PartialEq, Eq)]
+pub enum Refusal {
+    FileLong = 40,
+    FieldCut = 41,
+    BadLength = 42,
+    OutOfPlace = 43,
+    BadValue = 44,
+    NicknameMet = 45,
+    TooMany = 46,
+    SerialMet = 47,
+    EntryUnknown = 48,
+    TraceShort = 49,
+}
+
+// What is wrong with a channel message, by its code in an error reply (RFC 7178, 3.2).
+#[derive(Clone, Copy, PartialEq, Eq)]
+pub enum ChannelFault {
+    HeaderShort = 1,
+    OtherEthertype = 2,
+    OtherVersion = 3,
+    WrongNative = 4,
+    OtherProtocol = 5,
 }
 
 // What a channel message is found to be (RFC 7178, 3.2; document 01, "Channel messages").
 #[derive(Clone, Copy)]
 pub enum ChannelRead {
-    Fault { code: u8 },
+    Fault(ChannelFault),
     BadErr,
     ErrorHeard,
     BadEcho,
@@ -85,7 +141,7 @@ pub enum ChannelRead {
 #[derive(Clone, Copy)]
 pub enum Alert {
     NoAlert,
-    AlertFault { code: u8 },
+    AlertFault(ChannelFault),
     AlertErr,
     AlertRequest,
 }

@@ -1,4 +1,5 @@
 -- What a good store has, where a search or a hint leads, and that there is no record for others: one law for each test of the definitions. By computation.
+use Rattle.std.specs.Prelude.{None}
 use Prim.Native.Nat.{ℕ, ◌+◌, ◌*◌, ◌≤◌, ◌<◌}
 use mathlib.Core.Path.{◌≡◌}
 use mathlib.Core.List.{List}
@@ -7,7 +8,6 @@ use native.Mathlib.Omega.{arith}
 use borrow.Author.Tests.{leb-true}
 use lib.ListN.{length}
 use Rattle.rules.proofs.TestLaws.{tests, and_left, and_right}
-use Rattle.rules.specs.declared.Ruling.TheVariants.{Absent}
 use Rattle.stores.specs.Halving.{halved}
 use Rattle.stores.specs.Store.{nickname_in, count_in, dest_at, up_to, stepped, searched, last_at, hint_at, index_in, hop_for, store_good, Whole}
 
@@ -48,11 +48,11 @@ module _ (w : List ℕ) (n d i : ℕ) (e : i ≡ hint_at w d) (last : Bool) (is 
 
 -- the record there
 module _ (w : List ℕ) (n d i : ℕ) where
-  pub for_past : n ≤ i → Absent ≡ hop_for w n d i
+  pub for_past : n ≤ i → None ≡ hop_for w n d i
   unfolding hop_for
   for_past h = simp tests
 
   module _ (a : i < n) (dest : ℕ) (is : dest ≡ dest_at w i) where
-    pub for_other : (dest ≡ d → ⊥) → Absent ≡ hop_for w n d i
+    pub for_other : (dest ≡ d → ⊥) → None ≡ hop_for w n d i
     unfolding hop_for
     for_other h = simp (← is, tests)

@@ -1,4 +1,5 @@
 -- Records in order give each destination the record that rules for it, whatever the hints. By what each step of the search keeps.
+use Rattle.std.specs.Prelude.{Option, Some, None}
 use Prim.Native.Nat.{ℕ, suc, ◌+◌, ◌-◌, ◌%◌, ◌≤◌, ◌<◌}
 use mathlib.Core.Path.{◌≡◌, refl, ◌∙◌}
 use mathlib.Core.List.{List}
@@ -7,9 +8,8 @@ use native.Mathlib.Omega.{arith}
 use borrow.Author.Tests.{ltb-true, leb-true, leb-false}
 use lib.Dec.{ltb, leb, eqb}
 use Rattle.rules.proofs.TestLaws.{by_test, by_order, by_equal, and_true, tests}
-use Rattle.rules.specs.declared.Ruling.{Ruling}
-use Rattle.rules.specs.declared.Ruling.TheVariants.{Found, Absent}
 use Rattle.rules.specs.Settings as S
+use Rattle.rules.specs.declared.NextHop.{NextHop}
 use Rattle.stores.specs
 use specs.Store.{second_at, dest_at, hop_at, hops_from, unless_withdrawn, up_to, stepped, searched, last_at, hint_at, index_in, hop_for, Ordered, StandsFor}
 use Rattle.stores.proofs.HalvingLaws.{reached, beyond}
@@ -20,11 +20,11 @@ pub next_hop_lem : (T : S.Settings) (d : ℕ) → S.next_hop T d ≡ unless_with
 unfolding S.next_hop unless_withdrawn
 next_hop_lem T d = go (S.ruling T.hops d) refl
   where
-    go : (x : Ruling) → S.ruling T.hops d ≡ x → S.next_hop T d ≡ unless_withdrawn (S.ruling T.hops d)
-    go Absent e = rw (S.next_hop, e)
-    go (Found r) e = rw (S.next_hop, e)
+    go : (x : Option NextHop) → S.ruling T.hops d ≡ x → S.next_hop T d ≡ unless_withdrawn (S.ruling T.hops d)
+    go None e = rw (S.next_hop, e)
+    go (Some r) e = rw (S.next_hop, e)
 
-for_it : (w : List ℕ) (n d i : ℕ) → i < n → dest_at w i ≡ d → hop_for w n d i ≡ unless_withdrawn (Found (hop_at w i))
+for_it : (w : List ℕ) (n d i : ℕ) → i < n → dest_at w i ≡ d → hop_for w n d i ≡ unless_withdrawn (Some (hop_at w i))
 unfolding hop_for unless_withdrawn hop_at
 for_it w n d i h e = by_test (eqb (second_at w i % 65536) 0) (λ t. simp (tests, t)) (λ f. simp (tests, f))
 
@@ -83,15 +83,15 @@ module _ (w : List ℕ) (n : ℕ) (o : Ordered w n) where
           (λ same. absurd (false≢true (simp tests at t)))
           (λ other. omega (arith, other, dest_rises p (p + 1) (omega arith) l, dest_rises (p + 1) j (omega arith) v))
 
-  ruling_none : (d : ℕ) → ((j : ℕ) → j < n → dest_at w j ≡ d → ⊥) → S.ruling (hops_from w 0 n) d ≡ Absent
+  ruling_none : (d : ℕ) → ((j : ℕ) → j < n → dest_at w j ≡ d → ⊥) → S.ruling (hops_from w 0 n) d ≡ None
   unfolding S.ruling hop_at
-  ruling_none d h = row_others d w n 0 Absent (λ j a b. h j (omega arith))
+  ruling_none d h = row_others d w n 0 None (λ j a b. h j (omega arith))
 
   -- the last record of its destination rules
-  ruling_at : (d p : ℕ) → p < n → dest_at w p ≡ d → ((j : ℕ) → p < j → j < n → dest_at w j ≡ d → ⊥) → S.ruling (hops_from w 0 n) d ≡ Found (hop_at w p)
+  ruling_at : (d p : ℕ) → p < n → dest_at w p ≡ d → ((j : ℕ) → p < j → j < n → dest_at w j ≡ d → ⊥) → S.ruling (hops_from w 0 n) d ≡ Some (hop_at w p)
   unfolding S.ruling hop_at
   ruling_at d p h e last =
-      let before = row_below d w p 0 Absent (hop_at w p).serial tt (λ j u v g. omega (arith, o.rises j p (omega arith) h)) in
+      let before = row_below d w p 0 None (hop_at w p).serial tt (λ j u v g. omega (arith, o.rises j p (omega arith) h)) in
       rw (hops_at w n p h, fold_append)
       (row_others d w (n - suc p) (suc p) _ (λ j u v. last j (omega arith) (omega arith)) ∙ newer_rules d _ (hop_at w p) e before)
 

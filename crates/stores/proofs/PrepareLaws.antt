@@ -1,18 +1,18 @@
 -- Settings octets into a store as the code does it: one law for each need of the loops, of one more field, and of the whole. By position, and by the
 -- laws of insertion, of fields and of settings for each step.
-use Rattle.std.specs.Prelude.{if◌then◌else◌}
+use Rattle.std.proofs.lemmas.Option.{same_Some}
+use Rattle.std.specs.Prelude.{if◌then◌else◌, Option, Some, None}
 use Prim.Native.Nat.{ℕ, ◌+◌, ◌-◌, ◌*◌, ◌/◌, ◌%◌, ◌≤◌, ◌<◌}
 use mathlib.Core.Path.{◌≡◌, refl, sym, ap, ◌∙◌}
 use mathlib.Core.List.{List, [], ◌∷◌, ◌++◌}
 use mathlib.Core.Bool.{Bool, true, false, not, ◌&&◌, not-not, false≢true}
-use mathlib.Core.Option.{Option, none, some}
 use native.Mathlib.Omega.{arith}
 use native.Mathlib.Nat.{zero-add, lt_of_lt_of_le}
 use borrow.Author.Rules.{rules}
 use borrow.Author.Tests.{ne_eqb, eq-eqb, not-true, not-false}
 use lib.Dec.{ltb, eqb}
-use lib.ListN.{length, get_or, set, drop, length-set, get_or-append}
-use lib.Seq.{get_or-set_other, sets-eq, drop_at}
+use lib.ListN.{length, get_or, set, take, drop, length-set, length-append, length-drop, get_or-append}
+use lib.Seq.{get_or-set_other, sets-eq, drop_at, length-take-le}
 use Rattle.octets.specs.Words.{be64}
 use Rattle.octets.proofs.{Hops.hop_same, WordLaws.first_part, WordLaws.rest_part}
 use Rattle.rules.specs as rules
@@ -21,10 +21,10 @@ use rules.Fields.{Field, field, cut, field_at, fields_at, fields, hop_size, leng
 use rules.Settings.{Settings, hop_good, with_field, continues, settings_from, settings_of, opens, opened, switch_of, ways_of, nickname_valid, mac_good}
 use rules.{Settings.hop_of, Settings.switch_good, Campus.known}
 use rules.declared.{FieldRead.FieldRead, NextHop.NextHop}
-use rules.declared.FieldRead.TheVariants.{Taken, Cut}
 use Rattle.rules.proofs as rule_laws
-use rule_laws.TestLaws.{by_test, and_true, tests}
-use rule_laws.{OctetLaws.put_front, OctetLaws.length_put, HandlingLaws.settings_good, Taken.taken, Taken.taken_first}
+use rule_laws.TriedLaws.{tried}
+use rule_laws.TestLaws.{apart, by_test, and_true, tests}
+use rule_laws.{HandlingLaws.settings_good, Taken.taken, Taken.taken_first}
 use rule_laws.FieldLaws.{IsField, field_read, fields_at_end, fields_at_cut, fields_at_on}
 use rule_laws.SettingsLaws.{from_on, from_bad, from_read}
 use Rattle.stores.specs
@@ -41,19 +41,19 @@ use proofs.ExtendLaws.{Ample, record_long, extending_continues, extended_stands,
 use proofs.ExtendLaws.{switch_counts, switch_long, says, room_parts, is_good, stands_too}
 
 -- what the number of records says of the room for one more
-module _ (w : List ℕ) (n : ℕ) (is : n ≡ count_by w) where
-  full_so : n ≡ 64 → room_in w ≡ false
+module _ (w : List ℕ) (o : Option ℕ) (is : o ≡ count_by w) where
+  full_so : o ≡ None → room_in w ≡ false
   unfolding count_by
-  full_so e = by_test (room_in w) (λ t. absurd (omega (arith, rw t at is, room_parts w t))) (λ f. f)
+  full_so e = by_test (room_in w) (λ t. apart (cc (rw t at is, e))) (λ f. f)
 
-  module _ (h : n ≡ 64 → ⊥) where
+  module _ (n : ℕ) (h : o ≡ Some n) where
     room_so : room_in w ≡ true
     unfolding count_by
-    room_so = by_test (room_in w) (λ t. t) (λ f. absurd (h (rw f at is)))
+    room_so = by_test (room_in w) (λ t. t) (λ f. apart (cc (rw f at is, h)))
 
     pub admit_count : n ≡ count_in w
     unfolding count_by
-    admit_count = rw room_so at is
+    admit_count = same_Some n (count_in w) (sym h ∙ rw room_so at is)
 
     pub admit_few : n < 64
     admit_few = omega (arith, admit_count, room_parts w room_so)
@@ -91,11 +91,11 @@ module _ (w v : List ℕ) where
     pub admit_bad : not ok ≡ true → Extends w 2 v 44 w
     admit_bad n = by_code 44 w (rw (code_is, n)) refl
 
-    module _ (n : not ok ≡ false) (i : ℕ) (c : i ≡ count_by w) where
-      pub admit_full : i ≡ 64 → Extends w 2 v 46 w
-      admit_full f = by_code 46 w (rw (code_is, n, full_so w i c f)) refl
+    module _ (n : not ok ≡ false) (o : Option ℕ) (c : o ≡ count_by w) where
+      pub admit_full : o ≡ None → Extends w 2 v 46 w
+      admit_full f = by_code 46 w (rw (code_is, n, full_so w o c f)) refl
 
-      module _ (f : i ≡ 64 → ⊥) (put : Bool) (p : put ≡ not (met_by w (hop_by r))) (u : List ℕ) (q : u ≡ added_to w (hop_by r)) where
+      module _ (i : ℕ) (f : o ≡ Some i) (put : Bool) (p : put ≡ not (met_by w (hop_by r))) (u : List ℕ) (q : u ≡ added_to w (hop_by r)) where
         met_not : met_by w (hop_of v) ≡ not put
         met_not = ap (λ (x : NextHop). met_by w x) (sym hop_is) ∙ rw (p, not-not)
 
@@ -103,10 +103,10 @@ module _ (w v : List ℕ) where
         added = q ∙ ap (λ (x : NextHop). added_to w x) hop_is ∙ rw met_not
 
         pub admit_met : not put ≡ true → Extends w 2 v 47 u
-        admit_met t = by_code 47 u (rw (code_is, n, room_so w i c f, met_not, t)) (added ∙ rw t)
+        admit_met t = by_code 47 u (rw (code_is, n, room_so w o c i f, met_not, t)) (added ∙ rw t)
 
         pub admit_taken : not put ≡ false → Extends w 2 v 0 u
-        admit_taken t = by_code 0 u (rw (code_is, n, room_so w i c f, met_not, t)) (added ∙ rw t)
+        admit_taken t = by_code 0 u (rw (code_is, n, room_so w o c i f, met_not, t)) (added ∙ rw t)
 
 pub ruleset admit_laws = (rules, admit_long, admit_bad, admit_full, admit_met, admit_taken, admit_count, admit_few, admit_room, added_long)
 
@@ -161,10 +161,10 @@ module _ (w : List ℕ) (tag : ℕ) (v : List ℕ) (code : ℕ) (is : code ≡ f
 
     pub flag_taken : 4 ≤ length w → (c : ℕ) → c ≡ flag_word (get_or w 2 0) tag (octet v 0) → FlagIn w tag v 0 (set w 2 c)
     flag_taken l c q =
-        let none : flag_code w tag v ≡ 0 = by_room ∙ simp (z, tests) in
-        record { code = sym none; words = rw (q, none) }
+        let taken : flag_code w tag v ≡ 0 = by_room ∙ simp (z, tests) in
+        record { code = sym taken; words = rw (q, taken) }
 
-pub ruleset flag_laws = (rules, flag_refused, flag_short, flag_taken)
+pub ruleset flag_laws = (rules, tried, flag_refused, flag_short, flag_taken)
 
 -- the word of the flags
 module _ (x tag : ℕ) (v : List ℕ) (o : ℕ) (is : o ≡ octet v 0) where
@@ -240,49 +240,49 @@ module _ (s : List ℕ) (from : ℕ) (w : List ℕ) where
           roomy = λ e. absurd (false≢true e);
         }
 
-    module _ (h : at < length s) (read : FieldRead) (q : read ≡ field_at s at) where
-      pub filling_cut : read ≡ Cut → Fills s from w false v
+    module _ (h : at < length s) (read : Option FieldRead) (q : read ≡ field_at s at) where
+      pub filling_cut : read ≡ None → Fills s from w false v
       filling_cut c = stopped cut [] (fields_at_cut s at h (sym q ∙ c)) (λ T t. continues_cut T) v
 
-      module _ (tag size next : ℕ) (t : read ≡ Taken tag size next) (r : ℕ) (u : List ℕ) (step : Extends v tag (part s (at + 3) (next - (at + 3))) r u) where
+      module _ (e : FieldRead) (t : read ≡ Some e) (r : ℕ) (u : List ℕ) (step : Extends v e.tag (part s (at + 3) (e.next - (at + 3))) r u) where
         abbrev value : List ℕ
-        value = part s (at + 3) size
+        value = part s (at + 3) e.length
 
-        its : IsField s at tag size next
-        its = field_read s at tag size next (sym q ∙ t)
+        its : IsField s at e
+        its = field_read s at e (sym q ∙ t)
 
-        on : fields_at s at ≡ field tag value ∷ fields_at s next
-        on = fields_at_on s at tag size next h (sym q ∙ t)
+        on : fields_at s at ≡ field e.tag value ∷ fields_at s e.next
+        on = fields_at_on s at e h (sym q ∙ t)
 
-        stepped : Extends v tag value r u
+        stepped : Extends v e.tag value r u
         stepped =
-            let same : next - (at + 3) ≡ size = omega (arith, its) in
+            let same : e.next - (at + 3) ≡ e.length = omega (arith, its) in
             rw same at step
 
-        checks : (T : Settings) → Stands v T → eqb r 0 ≡ continues T (field tag value)
-        checks T st = rw stepped.code (extending_continues v T st (roomy_ample l.roomy) tag value)
+        checks : (T : Settings) → Stands v T → eqb r 0 ≡ continues T (field e.tag value)
+        checks T st = rw stepped.code (extending_continues v T st (roomy_ample l.roomy) e.tag value)
 
         pub filling_bad : (r ≡ 0 → ⊥) → Fills s from w false u
-        filling_bad n = stopped (field tag value) (fields_at s next) on (λ T st. sym (checks T st) ∙ ne_eqb r 0 n) u
+        filling_bad n = stopped (field e.tag value) (fields_at s e.next) on (λ T st. sym (checks T st) ∙ ne_eqb r 0 n) u
 
-        pub filling_on : r ≡ 0 → Filling s from w u next
+        pub filling_on : r ≡ 0 → Filling s from w u e.next
         filling_on n =
             record {
               within = its.within;
               roomy =
                   rw stepped.words
-                  (record { size = extended_long v tag value ∙ l.roomy.size; most = extended_few v tag value l.roomy.most });
+                  (record { size = extended_long v e.tag value ∙ l.roomy.size; most = extended_few v e.tag value l.roomy.most });
               left = λ T st.
                   let x = l.left T st in
-                  let ok : continues x.read (field tag value) ≡ true = sym (checks x.read x.stands) ∙ eq-eqb r 0 n in
+                  let ok : continues x.read (field e.tag value) ≡ true = sym (checks x.read x.stands) ∙ eq-eqb r 0 n in
                   record {
-                    read = with_field x.read (field tag value);
-                    decides = rw (← from_on x.read (field tag value) (fields_at s next) ok, ← on) x.decides;
-                    stands = rw stepped.words (extended_stands v x.read x.stands (roomy_ample l.roomy) value tag (sym stepped.code ∙ n));
+                    read = with_field x.read (field e.tag value);
+                    decides = rw (← from_on x.read (field e.tag value) (fields_at s e.next) ok, ← on) x.decides;
+                    stands = rw stepped.words (extended_stands v x.read x.stands (roomy_ample l.roomy) value e.tag (sym stepped.code ∙ n));
                   };
             }
 
-pub ruleset fill_from_laws = (rules, taken, extend_long, filling_begin, filling_end, filling_cut, filling_bad, filling_on)
+pub ruleset fill_from_laws = (rules, tried, taken, extend_long, filling_begin, filling_end, filling_cut, filling_bad, filling_on)
 
 -- the switch alone
 pub open_is : (w v : List ℕ) (n : ℕ) → 4 ≤ length w → n ≡ be64 v 0
@@ -330,36 +330,36 @@ module _ (s : List ℕ) (from : ℕ) (w : List ℕ) (r : Bool) (u : List ℕ) (f
       }
     where
       hinted : Roomy u → (o : Option Settings) → Filled u o true → Filled y o true
-      hinted roomy none e = e
-      hinted roomy (some T) e = (e.0, stands_too u y T (λ j b. h.before j (omega (arith, roomy.most))) e.1)
+      hinted roomy None e = e
+      hinted roomy (Some T) e = (e.0, stands_too u y T (λ j b. h.before j (omega (arith, roomy.most))) e.1)
 
 pub ruleset fill_laws = (rules, fill_bad, fill_hinted, fills_roomy)
 
 -- the whole: one law for each way out
 unknown : (w : List ℕ) (o : Option Settings) → false ≡ known o → Filled w o false
-unknown w none e = refl
-unknown w (some T) e = absurd (false≢true e)
+unknown w None e = refl
+unknown w (Some T) e = absurd (false≢true e)
 
-module _ (s : List ℕ) (read : FieldRead) (q : read ≡ field_at s 0) where
-  pub prepare_cut : (w : List ℕ) → read ≡ Cut → Filled w (settings_of s) false
+module _ (s : List ℕ) (read : Option FieldRead) (q : read ≡ field_at s 0) where
+  pub prepare_cut : (w : List ℕ) → read ≡ None → Filled w (settings_of s) false
   prepare_cut w c = unknown w (settings_of s) (settings_cut s (sym q ∙ c))
 
-  module _ (tag size next : ℕ) (t : read ≡ Taken tag size next) (v : List ℕ) (held : v ≡ part s 3 (next - 3)) (o : Bool) (is : o ≡ opens (field tag v)) where
-    opens_by : {b : Bool} → o ≡ b → opens (field tag (part s 3 (next - 3))) ≡ b
-    opens_by e = sym (rw held at is) ∙ e
+  module _ (e : FieldRead) (t : read ≡ Some e) (v : List ℕ) (held : v ≡ part s 3 (e.next - 3)) (o : Bool) (is : o ≡ opens (field e.tag v)) where
+    opens_by : {b : Bool} → o ≡ b → opens (field e.tag (part s 3 (e.next - 3))) ≡ b
+    opens_by b = sym (rw held at is) ∙ b
 
     pub prepare_shut : (w : List ℕ) → not o ≡ true → Filled w (settings_of s) false
     prepare_shut w n = unknown w (settings_of s) (settings_bad_lem s (sym q ∙ t) (opens_by (not-true o n)))
 
-    pub prepare_filled : not o ≡ false → (w : List ℕ) → Stands w (switch_of v) → (r : Bool) (u : List ℕ) → Fills s next w r u → Filled u (settings_of s) r
+    pub prepare_filled : not o ≡ false → (w : List ℕ) → Stands w (switch_of v) → (r : Bool) (u : List ℕ) → Fills s e.next w r u → Filled u (settings_of s) r
     prepare_filled n w stands r u fills =
-        let open_so = settings_open s (field tag (part s 3 (next - 3))) (fields_at s next) (first s (sym q ∙ t)) (opens_by (not-false o n)) in
+        let open_so = settings_open s (field e.tag (part s 3 (e.next - 3))) (fields_at s e.next) (first s (sym q ∙ t)) (opens_by (not-false o n)) in
         rw (open_so, opened_field, ← held) (fills.filled (switch_of v) stands)
 
-pub ruleset prepare_laws = (rules, taken, taken_first, open_stands, open_roomy, prepare_cut, prepare_shut, prepare_filled)
+pub ruleset prepare_laws = (rules, tried, taken, taken_first, open_stands, open_roomy, prepare_cut, prepare_shut, prepare_filled)
 
 -- a store that stands for good settings says what they say
-settings_named : (s : List ℕ) (T : Settings) → settings_of s ≡ some T → nickname_valid T.nickname ≡ true
+settings_named : (s : List ℕ) (T : Settings) → settings_of s ≡ Some T → nickname_valid T.nickname ≡ true
 unfolding settings_of opens opened switch_good
 settings_named s T e = go (fields s) refl
   where
@@ -377,43 +377,44 @@ settings_named s T e = go (fields s) refl
 -- the call: one law for each way out
 record Known (w : List ℕ) (o : Option Settings) : Type 0 where
   pub its : Settings
-  pub is : o ≡ some its
+  pub is : o ≡ Some its
   pub stands : Stands w its
 
 known_so : (w : List ℕ) (o : Option Settings) (ok : Bool) → Filled w o ok → ok ≡ true → Known w o
-known_so w none ok f t = absurd (false≢true (sym f ∙ t))
-known_so w (some T) ok f t = record { its = T; is = refl; stands = f.1 }
+known_so w None ok f t = absurd (false≢true (sym f ∙ t))
+known_so w (Some T) ok f t = record { its = T; is = refl; stands = f.1 }
 
 module _ (s store w : List ℕ) (ok : Bool) (f : Filled w (settings_of s) ok) where
   refusal : (r : ℕ) → 0 < r → r ≡ preparing s (length store) → Prepared s store store r
   refusal r z e =
       record { answered = e; refused = λ n. refl; says = λ T n. absurd (omega arith); handles = λ n. absurd (omega arith); beyond = refl }
 
-  pub prepared_bad : not ok ≡ true → Prepared s store store 1
+  pub prepared_bad : ok ≡ false → Prepared s store store 1
   unfolding preparing
   prepared_bad n = refusal 1 (omega arith) (answered (settings_of s) refl f)
     where
       answered : (o : Option Settings) → settings_of s ≡ o → Filled w o ok → 1 ≡ preparing s (length store)
-      answered none e g = rw (preparing, e)
-      answered (some T) e g = cc (not-true ok n, g.0)
+      answered None e g = rw (preparing, e)
+      answered (Some T) e g = cc (n, g.0)
 
-  module _ (n : not ok ≡ false) where
+  module _ (n : ok ≡ true) where
     its_known : Known w (settings_of s)
-    its_known = known_so w (settings_of s) ok f (not-false ok n)
+    its_known = known_so w (settings_of s) ok f n
 
     pub prepared_short : length store < 164 → Prepared s store store 2
     unfolding preparing
     prepared_short h = refusal 2 (omega arith) (simp (preparing, its_known.is, tests))
 
-    pub prepared_so : (out : List ℕ) → out ≡ put store 0 w → length w ≡ 164 → 164 ≤ length store → Prepared s store out 0
+    pub prepared_so : (now : List ℕ) → now ≡ w → length w ≡ 164 → 164 ≤ length store → Prepared s store (now ++ drop 164 store) 0
     unfolding preparing handled_in
-    prepared_so out p long room =
+    prepared_so now same long room =
         let T = its_known.its in
         let e = its_known.is in
-        let whole : out ≡ w ++ drop 164 store = p ∙ (rw long at (put_front store w)) in
+        let out : List ℕ = now ++ drop 164 store in
+        let whole : out ≡ w ++ drop 164 store = rw same in
         let word : (j : ℕ) → j < 164 → get_or out j 0 ≡ get_or w j 0 = λ j h. rw whole (get_or-append w (drop 164 store) 0 j (omega arith)) in
         let st = stands_too w out T (λ j h. word j (omega (arith, its_known.stands.records.ordered.few))) its_known.stands in
-        let size : length out ≡ length store = rw p (length_put store 0 w (omega arith)) in
+        let size : length out ≡ length store = rw (whole, length-append, length-drop) (omega arith) in
         let good = is_good out T st (settings_named s T e) (omega (arith, st.records.ordered.few)) in
         record {
           answered = simp (preparing, e, tests);
@@ -423,7 +424,10 @@ module _ (s store w : List ℕ) (ok : Bool) (f : Filled w (settings_of s) ok) wh
           beyond = rw whole (drop_at w (drop 164 store) 164 long);
         }
 
-pub ruleset trill_prepare_laws = (rules, prepared_bad, prepared_short, prepared_so)
+pub store_begins : (store w : List ℕ) → 164 ≤ length store → length w ≡ 164 → length (take 164 store) ≡ length w
+store_begins store w h long = length-take-le 164 store h ∙ sym long
+
+pub ruleset trill_prepare_laws = (rules, tried, prepared_bad, prepared_short, prepared_so, store_begins)
 
 -- a store opened by a caller: one law for each way out
 module _ (w v : List ℕ) where

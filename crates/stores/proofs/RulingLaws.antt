@@ -1,5 +1,6 @@
 -- The record that rules among records in a row: those of other destinations count for nothing, the last of a rising row rules, and the order
 -- in which two that differ are seen is no matter. By induction on the row.
+use Rattle.std.specs.Prelude.{Option, Some, None}
 use Prim.Native.Nat.{ℕ, zero, suc, ◌+◌, ◌-◌, ◌≤◌, ◌<◌}
 use mathlib.Core.Path.{◌≡◌, refl, sym, ap, ◌∙◌}
 use mathlib.Core.List.{List, [], ◌∷◌, ◌++◌, foldl}
@@ -7,8 +8,7 @@ use native.Mathlib.Omega.{arith}
 use native.Mathlib.Nat.{zero-add, add-zero}
 use borrow.Author.Tests.{ne_eqb}
 use Rattle.rules.proofs.TestLaws.{by_order, by_equal, tests}
-use Rattle.rules.specs.declared.{NextHop.NextHop, Ruling.Ruling}
-use Rattle.rules.specs.declared.Ruling.TheVariants.{Found, Absent}
+use Rattle.rules.specs.declared.{NextHop.NextHop}
 use Rattle.stores.specs.Store.{rank_at, hop_at, hops_from, Ordered}
 use Rattle.rules.specs.Settings as S
 
@@ -20,36 +20,36 @@ rank_rises o i j h b =
     rw e (omega arith))
 
 module _ (d : ℕ) where
-  pub newer_other : (best : Ruling) (r : NextHop) → (r.destination ≡ d → ⊥) → S.newer d best r ≡ best
+  pub newer_other : (best : Option NextHop) (r : NextHop) → (r.destination ≡ d → ⊥) → S.newer d best r ≡ best
   unfolding S.newer
   newer_other best r h = rw (S.newer, ne_eqb)
 
   -- no record yet, or one with a serial below m
-  abbrev pub Below : ℕ → Ruling → Type 0
-  Below m Absent = Unit {0}
-  Below m (Found q) = q.serial < m
+  abbrev pub Below : ℕ → Option NextHop → Type 0
+  Below m None = Unit {0}
+  Below m (Some q) = q.serial < m
 
-  pub newer_rules : (best : Ruling) (r : NextHop) → r.destination ≡ d → Below r.serial best → S.newer d best r ≡ Found r
+  pub newer_rules : (best : Option NextHop) (r : NextHop) → r.destination ≡ d → Below r.serial best → S.newer d best r ≡ Some r
   unfolding S.newer
-  newer_rules Absent r e h = simp (S.newer, tests)
-  newer_rules (Found q) r e h = simp (S.newer, tests)
+  newer_rules None r e h = simp (S.newer, tests)
+  newer_rules (Some q) r e h = simp (S.newer, tests)
 
-  newer_mine : (m : ℕ) (best : Ruling) (r : NextHop) → Below m best → r.destination ≡ d → r.serial < m → Below m (S.newer d best r)
+  newer_mine : (m : ℕ) (best : Option NextHop) (r : NextHop) → Below m best → r.destination ≡ d → r.serial < m → Below m (S.newer d best r)
   unfolding S.newer
-  newer_mine m Absent r h e k = simp (S.newer, tests) k
-  newer_mine m (Found q) r h e k = by_order q.serial r.serial (λ l. simp (S.newer, tests) k) (λ l. simp (S.newer, tests) h)
+  newer_mine m None r h e k = simp (S.newer, tests) k
+  newer_mine m (Some q) r h e k = by_order q.serial r.serial (λ l. simp (S.newer, tests) k) (λ l. simp (S.newer, tests) h)
 
-  pub newer_below : (m : ℕ) (best : Ruling) (r : NextHop) → Below m best → (r.destination ≡ d → r.serial < m) → Below m (S.newer d best r)
+  pub newer_below : (m : ℕ) (best : Option NextHop) (r : NextHop) → Below m best → (r.destination ≡ d → r.serial < m) → Below m (S.newer d best r)
   newer_below m best r h k = by_equal r.destination d (λ e. newer_mine m best r h e (k e)) (λ n. rw newer_other h)
 
   -- two that differ may be seen in either order
-  newer_turn : (best : Ruling) (r q : NextHop) → r.destination ≡ d → q.destination ≡ d → r.serial < q.serial
+  newer_turn : (best : Option NextHop) (r q : NextHop) → r.destination ≡ d → q.destination ≡ d → r.serial < q.serial
       → S.newer d (S.newer d best r) q ≡ S.newer d (S.newer d best q) r
   unfolding S.newer
-  newer_turn Absent r q er eq h =
+  newer_turn None r q er eq h =
       let k : r.serial ≤ q.serial = omega arith in
       simp (S.newer, tests)
-  newer_turn (Found b) r q er eq h =
+  newer_turn (Some b) r q er eq h =
       let k : r.serial ≤ q.serial = omega arith in
       by_order b.serial r.serial
       (λ l.
@@ -57,7 +57,7 @@ module _ (d : ℕ) where
       simp (S.newer, tests))
       (λ l. by_order b.serial q.serial (λ m. simp (S.newer, tests)) (λ m. simp (S.newer, tests)))
 
-  pub newer_swap : (best : Ruling) (r q : NextHop) → (q.destination ≡ r.destination → q.serial ≡ r.serial → ⊥)
+  pub newer_swap : (best : Option NextHop) (r q : NextHop) → (q.destination ≡ r.destination → q.serial ≡ r.serial → ⊥)
       → S.newer d (S.newer d best r) q ≡ S.newer d (S.newer d best q) r
   newer_swap best r q h =
       by_equal r.destination d
@@ -69,9 +69,9 @@ module _ (d : ℕ) where
       (λ n. simp newer_other)
 
   -- what each record of a row keeps of two rulings, the whole row keeps
-  module _ (w : List ℕ) (R : Ruling → Ruling → Type 0) where
-    pub row_keeps : (k i : ℕ) (x y : Ruling) → R x y
-        → ((j : ℕ) → i ≤ j → j < i + k → (x y : Ruling) → R x y → R (S.newer d x (hop_at w j)) (S.newer d y (hop_at w j)))
+  module _ (w : List ℕ) (R : Option NextHop → Option NextHop → Type 0) where
+    pub row_keeps : (k i : ℕ) (x y : Option NextHop) → R x y
+        → ((j : ℕ) → i ≤ j → j < i + k → (x y : Option NextHop) → R x y → R (S.newer d x (hop_at w j)) (S.newer d y (hop_at w j)))
         → R (foldl (S.newer d) x (hops_from w i k)) (foldl (S.newer d) y (hops_from w i k))
     unfolding hops_from
     row_keeps zero i x y r step = r
@@ -79,7 +79,7 @@ module _ (d : ℕ) where
         row_keeps k (suc i) (S.newer d x (hop_at w i)) (S.newer d y (hop_at w i)) (step i (omega arith) (omega arith) x y r)
         (λ j a b. step j (omega arith) (omega arith))
 
-  module _ (w : List ℕ) (k i : ℕ) (best : Ruling) where
+  module _ (w : List ℕ) (k i : ℕ) (best : Option NextHop) where
     pub row_others : ((j : ℕ) → i ≤ j → j < i + k → (hop_at w j).destination ≡ d → ⊥) → foldl (S.newer d) best (hops_from w i k) ≡ best
     row_others h = row_keeps w (λ x y. x ≡ best) k i best best refl (λ j a b x y e. newer_other x (hop_at w j) (h j a b) ∙ e)
 

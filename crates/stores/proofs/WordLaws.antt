@@ -1,15 +1,15 @@
 -- A record put into a store as the code does it, where records are counted by their words: one law for each need. By arithmetic and by position.
 use Prim.Native.Nat.{ℕ, ◌+◌, ◌-◌, ◌*◌, ◌/◌, ◌%◌, ◌≤◌, ◌<◌}
-use mathlib.Core.Path.{◌≡◌, refl, sym, ◌∙◌}
+use mathlib.Core.Path.{◌≡◌, sym, ◌∙◌}
 use mathlib.Core.List.{List}
-use mathlib.Core.Bool.{Bool, true, false, not}
+use mathlib.Core.Bool.{Bool, true, false, not, ◌&&◌}
 use native.Mathlib.Omega.{arith}
 use borrow.Author.Rules.{rules}
 use borrow.Author.Tests.{lt-leb, le-leb, lt-ltb, le-ltb}
-use lib.Dec.{ltb, eqb}
-use lib.ListN.{length, get_or, set, drop, replicate, length-set}
-use lib.Seq.{get_or-take, get_or-drop, paste-zero}
-use Rattle.octets.proofs.Ends.{block_all, fill_on, fill_end}
+use lib.Dec.{ltb, leb}
+use lib.ListN.{length, get_or, set, drop}
+use lib.Seq.{get_or-take, get_or-drop}
+use Rattle.std.specs.List.{copy_within}
 use Rattle.rules.specs.Octets.{part, put}
 use Rattle.rules.proofs.OctetLaws.{length_put, length_part}
 use Rattle.rules.proofs.TestLaws.{by_order}
@@ -27,21 +27,15 @@ below_bound x bound z =
     (λ l. rw (lt-ltb x bound l, lt-ltb (x / 65536) (bound / 65536) (omega arith)))
     (λ l. rw (le-ltb x bound l, le-ltb (x / 65536) (bound / 65536) (omega arith)))
 
-module _ (w : List ℕ) (end bound i : ℕ) (c : Counted w end bound) (even : i % 2 ≡ 0) where
-  pub below_past : end < i → false ≡ below_at w (end / 2) (bound / 65536) (i / 2)
-  unfolding below_at
-  below_past h = rw (lt-leb (i / 2) (end / 2) (omega (arith, c.records)))
-
-  pub below_there : i ≤ end → ltb (get_or w (2 + i) 0) bound ≡ below_at w (end / 2) (bound / 65536) (i / 2)
-  unfolding below_at
-  below_there h =
-      let e : 2 + 2 * (i / 2) ≡ 2 + i = omega arith in
-      rw (le-leb (i / 2) (end / 2) (omega arith), e) (below_bound (get_or w (2 + i) 0) bound c.rank)
-
-  pub below_within : i ≤ end → 2 + i < length w
-  below_within h = omega (arith, c.there)
-
-pub ruleset below_laws = (rules, below_past, below_there, below_within)
+pub below_is : (w : List ℕ) (end bound i : ℕ) → Counted w end bound → i % 2 ≡ 0
+    → below_at w (end / 2) (bound / 65536) (i / 2) ≡ (leb i end && ltb (get_or w (2 + i) 0) bound)
+unfolding below_at
+below_is w end bound i c even =
+    let e : 2 + 2 * (i / 2) ≡ 2 + i = omega arith in
+    rw (e, below_bound (get_or w (2 + i) 0) bound c.rank)
+    (by_order end i
+    (λ l. rw (lt-leb i end l, lt-leb (i / 2) (end / 2) (omega (arith, c.records))))
+    (λ l. rw (le-leb i end l, le-leb (i / 2) (end / 2) (omega arith))))
 
 pub doubled_even : (r x : ℕ) → r ≡ 2 * x → r % 2 ≡ 0
 doubled_even r x e = omega arith
@@ -111,146 +105,32 @@ module _ (w : List ℕ) (end bound : ℕ) (c : Counted w end bound) where
 
 pub ruleset index_for_laws = (rules, index_behind, index_halved, end_even, doubled_even)
 
--- words read into an array of our own
-module _ (k : ℕ) (w : List ℕ) (at : ℕ) (h : at + k ≤ length w) where
-  pub lent_count : length (part w at (at + k - at)) ≡ k
-  lent_count = let e : at + k - at ≡ k = omega arith in rw e (length_part w at k h)
+-- records moved up by one: a part of the words written again two words on
+module _ (w : List ℕ) (from to : ℕ) (h : from ≤ to) (room : to + 2 ≤ length w) where
+  abbrev moved : List ℕ
+  moved = part w from (to - from)
 
-  pub read_words : (b : List ℕ) → b ≡ put (replicate k 0) 0 (part w at (at + k - at)) → b ≡ part w at k
-  read_words b is = let e : at + k - at ≡ k = omega arith in rw e at (block_all k (part w at (at + k - at)) b lent_count is)
+  moved_long : length moved ≡ to - from
+  moved_long = length_part w from (to - from) (omega arith)
 
-pub ruleset words_at_laws = (rules, lent_count, read_words)
+  fits : from + 2 + length moved ≤ length w
+  fits = omega (arith, moved_long)
 
--- the words moved, from behind, in blocks
-pub record Moving (w : List ℕ) (from to i : ℕ) (v : List ℕ) : Type 0 where
-  pub least : from ≤ i
-  pub most : i ≤ to
-  pub records : (i - from) % 2 ≡ 0
-  pub shifted : Shifted w i to v
+  up : (j : ℕ) → from ≤ j → j < to → get_or (put w (from + 2) moved) (j + 2) 0 ≡ get_or w j 0
+  up j a b =
+      let e : from + (j - from) ≡ j = omega arith in
+      put_inside w (from + 2) moved fits (j + 2) (j - from) (omega arith) (omega (arith, moved_long))
+      ∙ get_or-take (to - from) (drop from w) (j - from) 0 (omega arith)
+      ∙ (rw e at (get_or-drop from w (j - from) 0))
 
-module _ (w : List ℕ) (from to : ℕ) where
-  pub moving_begin : from ≤ to → (to - from) % 2 ≡ 0 → Moving w from to to w
-  moving_begin h even =
+  pub moved_up : Shifted w from to (put w (from + 2) moved)
+  moved_up =
       record {
-        least = h;
-        most = omega arith;
-        records = even;
-        shifted = record { size = refl; before = λ j b. refl; moved = λ j a b. absurd (omega arith); beyond = λ j b. refl };
+        size = length_put w (from + 2) moved fits;
+        before = λ j b. put_before w (from + 2) moved fits j (omega arith);
+        moved = up;
+        beyond = λ j b. put_beyond w (from + 2) moved fits j (j - (to + 2)) (omega (arith, moved_long));
       }
-
-  module _ (i : ℕ) (v : List ℕ) (m : Moving w from to i v) (room : to + 2 ≤ length w) where
-    block_on : (k : ℕ) → k % 2 ≡ 0 → k ≤ i - from → (v' : List ℕ) → v' ≡ put v (i - k + 2) (part v (i - k) k) → Moving w from to (i - k) v'
-    block_on k even h v' is =
-        record { least = omega (arith, m.least); most = omega (arith, m.most); records = omega (arith, m.records, m.least); shifted = rw is moved_on }
-      where
-        s : Shifted w i to v
-        s = m.shifted
-
-        block : List ℕ
-        block = part v (i - k) k
-
-        long : length block ≡ k
-        long = length_part v (i - k) k (omega (arith, m.most, s.size))
-
-        fits : i - k + 2 + length block ≤ length v
-        fits = omega (arith, m.most, m.least, s.size, long)
-
-        up : (j : ℕ) → i - k ≤ j → j < i → get_or (put v (i - k + 2) block) (j + 2) 0 ≡ get_or w j 0
-        up j a b =
-            let e : i - k + (j - (i - k)) ≡ j = omega arith in
-            put_inside v (i - k + 2) block fits (j + 2) (j - (i - k)) (omega arith) (omega (arith, long))
-            ∙ get_or-take k (drop (i - k) v) (j - (i - k)) 0 (omega arith)
-            ∙ (rw e at (get_or-drop (i - k) v (j - (i - k)) 0))
-            ∙ s.before j b
-
-        moved_on : Shifted w (i - k) to (put v (i - k + 2) block)
-        moved_on =
-            record {
-              size = length_put v (i - k + 2) block fits ∙ s.size;
-              before = λ j b. put_before v (i - k + 2) block fits j (omega arith) ∙ s.before j (omega arith);
-              moved = λ j a b.
-                  by_order j i (up j a)
-                  (λ l. put_beyond v (i - k + 2) block fits (j + 2) (j - i) (omega (arith, long, m.least)) ∙ s.moved j l b);
-              beyond = λ j b. put_beyond v (i - k + 2) block fits j (j - (i + 2)) (omega (arith, long, m.least, m.most)) ∙ s.beyond j b;
-            }
-
-    module _ (h : from + 8 ≤ i) where
-      pub eight_there : i - 8 + 8 ≤ length v
-      eight_there = omega (arith, m.most, m.shifted.size)
-
-      module _ (b : List ℕ) (is : b ≡ part v (i - 8) 8) where
-        pub eight_room : i - 8 + 2 + length b ≤ length v
-        eight_room = rw (is, length_part v (i - 8) 8 eight_there) (omega (arith, m.most, m.shifted.size))
-
-        pub eight_on : (v' : List ℕ) → v' ≡ put v (i - 8 + 2) b → Moving w from to (i - 8) v'
-        eight_on v' e = block_on 8 refl (omega arith) v' (rw is at e)
-
-    module _ (h : from < i) where
-      pub two_there : i - 2 + 2 ≤ length v
-      two_there = omega (arith, m.records, m.most, m.shifted.size)
-
-      module _ (b : List ℕ) (is : b ≡ part v (i - 2) 2) where
-        pub two_room : i - 2 + 2 + length b ≤ length v
-        two_room = rw (is, length_part v (i - 2) 2 two_there) (omega (arith, m.records, m.most, m.shifted.size))
-
-        pub two_on : (v' : List ℕ) → v' ≡ put v (i - 2 + 2) b → Moving w from to (i - 2) v'
-        two_on v' e = block_on 2 refl (omega (arith, m.records)) v' (rw is at e)
-
-    pub rest_room : i + 2 ≤ length v
-    rest_room = omega (arith, m.most, m.shifted.size)
-
-    -- the rest, behind the blocks
-    pub rest_moved : (v' : List ℕ) → Shifted v from i v' → Shifted w from to v'
-    rest_moved v' r =
-        let s = m.shifted in
-        record {
-          size = r.size ∙ s.size;
-          before = λ j b. r.before j b ∙ s.before j (omega (arith, m.least));
-          moved = λ j a b.
-              by_order j i (λ l. r.moved j a l ∙ s.before j l) (λ l. r.beyond (j + 2) (omega arith) ∙ s.moved j l b);
-          beyond = λ j b. r.beyond j (omega (arith, m.most)) ∙ s.beyond j b;
-        }
-
-    pub moving_end : i ≤ from → Shifted w from to v
-    moving_end h =
-        let e : i ≡ from = omega (arith, m.least) in
-        rw e at m.shifted
-
-  pub moving_least : (i : ℕ) (v : List ℕ) → Moving w from to i v → from ≤ i
-  moving_least i v m = m.least
-
-  pub moving_even : (i : ℕ) (v : List ℕ) → Moving w from to i v → (i - from) % 2 ≡ 0
-  moving_even i v m = m.records
-
-pub ruleset shift_laws = (
-  rules,
-  moving_begin,
-  eight_there,
-  eight_room,
-  eight_on,
-  two_there,
-  two_room,
-  two_on,
-  rest_room,
-  rest_moved,
-  moving_end,
-  moving_least,
-  moving_even,
-)
-
--- whether the rank was met
-module _ (w : List ℕ) (end rank p : ℕ) (a : end % 2 ≡ 0) (b : p % 2 ≡ 0) where
-  pub met_past : end ≤ p → false ≡ met_at w (end / 2) rank (p / 2)
-  unfolding met_at
-  met_past h = rw (le-ltb (p / 2) (end / 2) (omega arith))
-
-  pub met_there : p < end → eqb (get_or w (4 + p) 0 / 65536) rank ≡ met_at w (end / 2) rank (p / 2)
-  unfolding met_at
-  met_there h =
-      let e : 4 + 2 * (p / 2) ≡ 4 + p = omega arith in
-      rw (lt-ltb (p / 2) (end / 2) (omega arith), e)
-
-pub ruleset met_laws = (rules, met_past, met_there)
 
 -- where there is room for it
 pub insert_room : (w : List ℕ) (n end bound p : ℕ) → p ≡ 2 * index_for w (bound / 65536) (end / 2) → end ≡ 2 * n → n ≤ 64 → 6 + 2 * n ≤ length w
@@ -305,31 +185,18 @@ pub ruleset insert_laws =
 
 -- the words moved and the two written
 module _ (w : List ℕ) (end first second p : ℕ) (x : RoomAt w end p) where
-  pub put_before_end : 4 + p ≤ 4 + end
-  put_before_end = omega (arith, x.within)
+  moved_is : {v : List ℕ} → v ≡ copy_within w (4 + p) (4 + end) (6 + p) → Shifted w (4 + p) (4 + end) v
+  unfolding put
+  moved_is is =
+      let before : 4 + p ≤ 4 + end = omega (arith, x.within) in
+      let room : 4 + end + 2 ≤ length w = omega (arith, x.room) in
+      let here : 4 + p + 2 ≡ 6 + p = omega arith in
+      rw is (rw (here, moved_long w (4 + p) (4 + end) before room) at (moved_up w (4 + p) (4 + end) before room))
 
-  pub put_few : 4 + end ≤ 132
-  put_few = omega (arith, x.few)
-
-  pub put_even : (4 + end - (4 + p)) % 2 ≡ 0
-  put_even = omega (arith, x.within, x.records, x.even)
-
-  pub put_fits : 4 + end + 2 ≤ length w
-  put_fits = omega (arith, x.room)
-
-  pub put_at_once : (v : List ℕ) → Shifted w (4 + p) (4 + end) v → 4 + p < length v
-  put_at_once v s = omega (arith, s.size, x.within, x.room)
-
-  pub put_words : (v : List ℕ) → Shifted w (4 + p) (4 + end) v → set (set v (4 + p) first) (5 + p) second ≡ put_in w (end / 2) first second (p / 2)
-  put_words v s =
+  pub put_words : (v : List ℕ) → v ≡ copy_within w (4 + p) (4 + end) (6 + p) → set (set v (4 + p) first) (5 + p) second ≡ put_in w (end / 2) first second (p / 2)
+  put_words v is =
       let ep : 2 * (p / 2) ≡ p = omega (arith, x.even) in
       let ee : 2 * (end / 2) ≡ end = omega (arith, x.records) in
-      rw ep at (put_at_is w (end / 2) first second (p / 2) (omega (arith, x.within)) (omega (arith, x.room)) v (rw (ep, ee) s))
+      rw ep at (put_at_is w (end / 2) first second (p / 2) (omega (arith, x.within)) (omega (arith, x.room)) v (rw (ep, ee) (moved_is is)))
 
-  pub put_room : (v : List ℕ) → Shifted w (4 + p) (4 + end) v → 5 + p < length (set v (4 + p) first)
-  put_room v s = rw length-set (omega (arith, s.size, x.within, x.room))
-
-pub ruleset put_at_laws = (rules, put_before_end, put_few, put_even, put_fits, put_at_once, put_words, put_room)
-
--- what is copied
-pub ruleset copy_laws = (rules, paste-zero, fill_on, fill_end)
+pub ruleset put_at_laws = (rules, put_words)

@@ -1,5 +1,5 @@
 -- A store made field by field, from any words: opened for a switch, and extended by a record, a strip flag or an edition.
-use Rattle.std.specs.Prelude.{ℕ, ◌+◌, ◌*◌, ◌/◌, ◌%◌, ◌≡◌, List, [], ◌∷◌, Bool, not, ◌&&◌, ltb, leb, eqb, length, get_or, set, if◌then◌else◌}
+use Rattle.std.specs.Prelude.{ℕ, ◌+◌, ◌*◌, ◌/◌, ◌%◌, ◌≡◌, List, [], ◌∷◌, Bool, not, ◌&&◌, ltb, leb, eqb, length, get_or, set, if◌then◌else◌, Option, Some, None}
 use Rattle.rules.specs.Octets.{octet, put}
 use Rattle.rules.specs.Fields.{field, length_good}
 use Rattle.rules.specs.Settings as S
@@ -28,9 +28,9 @@ pub record Opens (w v : List ℕ) (r : Bool) (w' : List ℕ) : Type 0 where
 unfoldable pub room_in : List ℕ → Bool
 room_in w = leb 4 (length w) && (ltb (count_in w) S.hops_most && leb (6 + 2 * count_in w) (length w))
 
--- the number of records as the code holds it: 64 where there is no room for one more
-unfoldable pub count_by : List ℕ → ℕ
-count_by w = if room_in w then count_in w else S.hops_most
+-- the number of records, if there is room for one more
+unfoldable pub count_by : List ℕ → Option ℕ
+count_by w = if room_in w then Some (count_in w) else None
 
 -- whether a record of its destination has its serial
 abbrev pub met_by : List ℕ → NextHop → Bool

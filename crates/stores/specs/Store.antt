@@ -1,14 +1,11 @@
 -- A prepared store: the settings of one switch in words. What any words at all mean: `store_good`, and of good ones `ways_in`.
-use Rattle.std.specs.Prelude.{ℕ, zero, suc, ◌+◌, ◌*◌, ◌/◌, ◌%◌, ◌^◌, ◌≤◌, ◌<◌, ◌≡◌, List, [], ◌∷◌, Bool, true, false, not, ◌&&◌, length, get_or, drop, ltb, leb, eqb, if◌then◌else◌}
-use Rattle.std.proofs.Math.Option.{Option, none, some}
+use Rattle.std.specs.Prelude.{ℕ, zero, suc, ◌+◌, ◌*◌, ◌/◌, ◌%◌, ◌^◌, ◌≤◌, ◌<◌, ◌≡◌, List, [], ◌∷◌, Bool, true, false, not, ◌&&◌, length, get_or, drop, ltb, leb, eqb, if◌then◌else◌, Option, Some, None}
 use Rattle.rules.specs.Fields.{fields_at}
 use Rattle.rules.specs.Settings as S
 use Rattle.rules.specs.Handling.{handled_with, handled}
 use Rattle.rules.specs.Answer as A
 use Rattle.rules.specs.WayOut.{WayOut, no_way, way_out_by}
 use Rattle.rules.specs.declared.NextHop.{NextHop}
-use Rattle.rules.specs.declared.Ruling.{Ruling}
-use Rattle.rules.specs.declared.Ruling.TheVariants.{Found, Absent}
 use Rattle.stores.specs.Halving.{halved}
 
 -- a store as `trill_prepare` asks for it: 4 words of the switch, 64 records of two words, 32 words of hints
@@ -46,9 +43,9 @@ unfoldable pub hop_at : List ℕ → ℕ → NextHop
 hop_at w i = hop_of (first_at w i) (second_at w i)
 
 -- "if it is a withdrawal, there is no next hop"
-unfoldable pub unless_withdrawn : Ruling → Ruling
-unless_withdrawn Absent = Absent
-unless_withdrawn (Found r) = if eqb r.neighbour 0 then Absent else Found r
+unfoldable pub unless_withdrawn : Option NextHop → Option NextHop
+unless_withdrawn None = None
+unless_withdrawn (Some r) = if eqb r.neighbour 0 then None else Some r
 
 -- a search among n records: one step takes the upper half if it does not begin above d
 unfoldable pub up_to : List ℕ → ℕ → ℕ → ℕ → Bool
@@ -73,8 +70,8 @@ unfoldable pub index_in : List ℕ → ℕ → ℕ → ℕ
 index_in w n d = if last_at w n d (hint_at w d) then hint_at w d else searched w n d
 
 -- the record at an index if it is for d and no withdrawal
-unfoldable pub hop_for : List ℕ → ℕ → ℕ → ℕ → Ruling
-hop_for w n d i = if ltb i n && (eqb (dest_at w i) d && not (eqb (second_at w i % 65536) 0)) then Found (hop_at w i) else Absent
+unfoldable pub hop_for : List ℕ → ℕ → ℕ → ℕ → Option NextHop
+hop_for w n d i = if ltb i n && (eqb (dest_at w i) d && not (eqb (second_at w i % 65536) 0)) then Some (hop_at w i) else None
 
 -- word 0 own nickname, word 1 own MAC above 16 bits unused here, word 2 strip flag and above it the edition, word 3 number of records
 abbrev pub ways_in : List ℕ → S.Ways
@@ -133,8 +130,8 @@ pub record Roomy (w : List ℕ) : Type 0 where
 
 -- the words once settings octets were read whole, if they are good
 abbrev pub Filled : List ℕ → Option S.Settings → Bool → Type 0
-Filled w none r = r ≡ false
-Filled w (some T) r = (r ≡ true) × Stands w T
+Filled w None r = r ≡ false
+Filled w (Some T) r = (r ≡ true) × Stands w T
 
 -- the fields from a place on
 pub record Fills (s : List ℕ) (from : ℕ) (w : List ℕ) (r : Bool) (v : List ℕ) : Type 0 where
@@ -148,14 +145,14 @@ pub record Hinted (w v : List ℕ) : Type 0 where
 
 -- what preparing answers: 1 for bad settings, 2 for too few words, else 0
 unfoldable pub preparing : List ℕ → ℕ → ℕ
-preparing settings words = elim (S.settings_of settings) [ none ↦ 1 | some T ↦ if ltb words store_words then 2 else 0 ]
+preparing settings words = elim (S.settings_of settings) [ None ↦ 1 | Some T ↦ if ltb words store_words then 2 else 0 ]
 
 -- and what it leaves. A refusal leaves the words as they were. Else the first 164 words are free but for what they mean: the store is good, says
 -- what the settings say, and so handles every frame as the settings octets do; the words behind them stay.
 pub record Prepared (settings store store' : List ℕ) (r : ℕ) : Type 0 where
   pub answered : r ≡ preparing settings (length store)
   pub refused : (r ≡ 0 → ⊥) → store' ≡ store
-  pub says : (T : S.Settings) → r ≡ 0 → S.settings_of settings ≡ some T → (store_good store' ≡ true) × (ways_in store' ≡ S.ways_of T)
+  pub says : (T : S.Settings) → r ≡ 0 → S.settings_of settings ≡ Some T → (store_good store' ≡ true) × (ways_in store' ≡ S.ways_of T)
   pub handles : r ≡ 0 → (clock : List ℕ) (room beside_room : ℕ) (f : List ℕ)
       → handled_in store' clock room beside_room f ≡ handled settings clock room beside_room f
   pub beyond : drop store_words store' ≡ drop store_words store

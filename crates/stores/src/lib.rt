@@ -4,21 +4,24 @@
 
 mod preparing;
 
+ghost use Rattle.rules.specs.Answer.{code_by};
 ghost use Rattle.stores.specs.Store.{Prepared};
 ghost use Rattle.stores.specs.Extend.{Opens, Extends};
+
+use rules::Refusal;
 
 // Settings octets into a store of 164 words or more, once for all frames: 0, 1 for bad settings, 2 for too few words.
 pub fn trill_prepare(settings: &[u8], store: &mut [u64]) -> u32
     ensures { Prepared settings.now store.old store.new result }
 {
     let mut w = [0u64; 164];
-    if !preparing::prepare(settings, &mut w) {
+    if preparing::prepare(settings, &mut w).is_none() {
         return 1;
     }
     if store.len() < 164 {
         return 2;
     }
-    preparing::copy(store, 0, &w);
+    store[..164].copy_from_slice(&w);
     0
 }
 
@@ -36,9 +39,9 @@ pub fn store_open(store: &mut [u64], v: &[u8]) -> bool
     true
 }
 
-// One more field into a store: 0, or the code of a description that refuses it.
-pub fn store_extend(store: &mut [u64], tag: u8, v: &[u8]) -> u32
-    ensures { Extends store.old tag v.now result store.new }
+// One more field into a store, or what refuses it.
+pub fn store_extend(store: &mut [u64], tag: u8, v: &[u8]) -> Result<(), Refusal>
+    ensures { Extends store.old tag v.now (code_by result) store.new }
 {
     preparing::extend(store, tag, v)
 }

@@ -1,109 +1,71 @@
 // Settings octets into a store: the fields checked and written in one pass, each record put in its order.
-ghost use Rattle.std.specs.Prelude.{◌≡◌, not, ◌+◌, ◌-◌, ◌*◌, ◌/◌, ◌%◌, ◌≤◌, ◌<◌, length};
-ghost use Rattle.rules.specs.Octets.{part, put, octet};
+ghost use Rattle.std.specs.Prelude.{◌≡◌, is_some, not, ◌+◌, ◌-◌, ◌*◌, ◌/◌, ◌%◌, ◌≤◌, ◌<◌, length};
+ghost use Rattle.rules.specs.Octets.{octet};
+ghost use Rattle.rules.specs.Answer.{code_by};
 ghost use Rattle.rules.specs.Settings as S;
 ghost use Rattle.stores.specs.Store.{count_in, Roomy, Filled, Fills, Hinted};
 ghost use Rattle.octets.specs.Records.{hop_by};
 ghost use Rattle.stores.specs.Halving.{twice_halved};
-ghost use Rattle.stores.specs.Insert.{first_word, second_word, below_at, index_for, met_at, met_in, put_in, inserted_in, Shifted, Counted, RoomAt};
+ghost use Rattle.stores.specs.Insert.{first_word, second_word, below_at, index_for, met_at, met_in, put_in, inserted_in, Counted, RoomAt};
 ghost use Rattle.stores.specs.Extend.{with_switch, count_by, met_by, added_to, flag_word, FlagIn, Extends};
 
 use octets::Record;
-use rules::FieldRead;
+use rules::{FieldRead, Refusal};
 
-// Records are counted by their words from here on, two each, and a rank is compared as the least word that has it: a read then waits for fewer
-// instructions. Whether there are so many words and the record that ends there is below the bound.
-fn below(w: &[u64], end: usize, bound: u64, i: usize) -> bool
-    requires { Counted w.now end bound × (i % 2 ≡ 0) }
-    ensures { result ≡ below_at w.now (end / 2) (bound / 65536) (i / 2) }
-{
-    if end < i {
-        return false;
+// The records among which a rank is looked up. They are counted by their words, two each, and the rank is the least word that has it: a read then
+// waits for fewer instructions.
+#[derive(Clone, Copy)]
+struct Ranks<'a> {
+    w: &'a [u64],
+    end: usize,
+    bound: u64,
+    ghost counted: { Counted w.now end bound },
+}
+
+impl<'a> Ranks<'a> {
+    // Whether there are so many words and the record that ends there is below the bound.
+    #[tactic(auto, using(crate::proofs::WordLaws::below_is), unfolding(crate::specs::Insert::below_at))]
+    fn below(&self, i: usize) -> bool
+        requires { i % 2 ≡ 0 }
+        ensures { result ≡ below_at self.now.w.now (self.now.end / 2) (self.now.bound / 65536) (i / 2) }
+    {
+        i <= self.end && self.w[2 + i] < self.bound
     }
-    w[2 + i] < bound
-}
 
-// Two steps at once: three records are read, and no read waits for another.
-fn steps(w: &[u64], end: usize, bound: u64, at: usize, half: usize) -> usize
-    requires { Counted w.now end bound × (at % 2 ≡ 0) × (half % 2 ≡ 0) × (at + 3 * half ≤ 128) }
-    ensures { (result ≡ 2 * twice_halved (below_at w.now (end / 2) (bound / 65536)) (at / 2) (half / 2)) × (result ≤ at + 3 * half) }
-{
-    let low = below(w, end, bound, at + half);
-    let middle = below(w, end, bound, at + 2 * half);
-    let high = below(w, end, bound, at + 3 * half);
-    if middle {
-        if high { at + 3 * half } else { at + 2 * half }
-    } else {
-        if low { at + half } else { at }
+    // Two steps at once: three records are read, and no read waits for another.
+    fn steps(&self, at: usize, half: usize) -> usize
+        requires { (at % 2 ≡ 0) × (half % 2 ≡ 0) × (at + 3 * half ≤ 128) }
+        ensures { (result ≡ 2 * twice_halved (below_at self.now.w.now (self.now.end / 2) (self.now.bound / 65536)) (at / 2) (half / 2)) × (result ≤ at + 3 * half) }
+    {
+        let low = self.below(at + half);
+        let middle = self.below(at + 2 * half);
+        let high = self.below(at + 3 * half);
+        if middle {
+            if high { at + 3 * half } else { at + 2 * half }
+        } else {
+            if low { at + half } else { at }
+        }
     }
-}
 
-// The last record first: records in order take one comparison each.
-fn index_for(w: &[u64], end: usize, bound: u64) -> usize
-    requires { Counted w.now end bound }
-    ensures { result ≡ 2 * index_for w.now (bound / 65536) (end / 2) }
-{
-    if below(w, end, bound, end) {
-        return end;
-    }
-    let a = steps(w, end, bound, 0, 32);
-    let b = steps(w, end, bound, a, 8);
-    steps(w, end, bound, b, 2)
-}
-
-fn eight_at(w: &[u64], at: usize) -> [u64; 8]
-    requires { at + 8 ≤ length w.now }
-    ensures { result ≡ part w.now at 8 }
-{
-    let mut words = [0u64; 8];
-    copy(&mut words, 0, &w[at..at + 8]);
-    words
-}
-
-fn two_at(w: &[u64], at: usize) -> [u64; 2]
-    requires { at + 2 ≤ length w.now }
-    ensures { result ≡ part w.now at 2 }
-{
-    let mut words = [0u64; 2];
-    copy(&mut words, 0, &w[at..at + 2]);
-    words
-}
-
-// Moves the records from `from` up to `to` two words up, four at a time, all read before one is written.
-fn shift(w: &mut [u64], from: usize, to: usize)
-    requires { (from ≤ to) × (to ≤ 132) × ((to - from) % 2 ≡ 0) × (to + 2 ≤ length w.old) }
-    ensures { Shifted w.old from to w.new }
-{
-    let mut i = to;
-    while from + 8 <= i {
-        i -= 8;
-        let words = eight_at(w, i);
-        copy(w, i + 2, &words);
-    }
-    shift_rest(w, from, i);
-}
-
-// One by one.
-fn shift_rest(w: &mut [u64], from: usize, to: usize)
-    requires { (from ≤ to) × ((to - from) % 2 ≡ 0) × (to + 2 ≤ length w.old) }
-    ensures { Shifted w.old from to w.new }
-{
-    let mut i = to;
-    while from < i {
-        i -= 2;
-        let words = two_at(w, i);
-        copy(w, i + 2, &words);
+    // The last record first: records in order take one comparison each.
+    fn index(&self) -> usize
+        ensures { result ≡ 2 * index_for self.now.w.now (self.now.bound / 65536) (self.now.end / 2) }
+    {
+        if self.below(self.end) {
+            return self.end;
+        }
+        let a = self.steps(0, 32);
+        let b = self.steps(a, 8);
+        self.steps(b, 2)
     }
 }
 
+#[tactic(auto, unfolding(crate::specs::Insert::met_at))]
 fn met(w: &[u64], end: usize, rank: u64, p: usize) -> bool
     requires { (4 + end ≤ length w.now) × (end % 2 ≡ 0) × (p % 2 ≡ 0) }
     ensures { result ≡ met_at w.now (end / 2) rank (p / 2) }
 {
-    if end <= p {
-        return false;
-    }
-    w[4 + p] >> 16 == rank
+    p < end && w[4 + p] >> 16 == rank
 }
 
 // Whether the record could be put in: not where one of its destination has its serial.
@@ -112,7 +74,8 @@ fn insert(w: &mut [u64], n: usize, first: u64, second: u64) -> bool
     ensures { (result ≡ not (met_in w.old n (first / 65536))) × (w.new ≡ inserted_in w.old n first second) }
 {
     let end = 2 * n;
-    let p = index_for(w, end, first >> 16 << 16);
+    let bound = first >> 16 << 16;
+    let p = Ranks { w, end, bound }.index();
     if met(w, end, first >> 16, p) {
         return false;
     }
@@ -120,12 +83,12 @@ fn insert(w: &mut [u64], n: usize, first: u64, second: u64) -> bool
     true
 }
 
-// Among the first records.
+// Among the first records: those from there on move up.
 fn put_at(w: &mut [u64], end: usize, first: u64, second: u64, p: usize)
     requires { RoomAt w.old end p }
     ensures { w.new ≡ put_in w.old (end / 2) first second (p / 2) }
 {
-    shift(w, 4 + p, 4 + end);
+    w.copy_within(4 + p..4 + end, 6 + p);
     w[4 + p] = first;
     w[5 + p] = second;
 }
@@ -133,7 +96,7 @@ fn put_at(w: &mut [u64], end: usize, first: u64, second: u64, p: usize)
 fn first_word(r: Record) -> u64
     ensures { result ≡ first_word (hop_by r) }
 {
-    (r.head >> 48 << 48) + r.tail % 4294967296 * 65536 + r.vlan as u64
+    (r.head >> 48 << 48) + r.tail % 4294967296 * 65536 + u64::from(r.vlan)
 }
 
 fn second_word(r: Record) -> u64
@@ -142,21 +105,21 @@ fn second_word(r: Record) -> u64
     (r.head << 32) + (r.tail >> 32) % 65536 * 65536 + (r.head >> 32) % 65536
 }
 
-// The number of records, or 64 where there is no room for one more.
-fn count(w: &[u64]) -> usize
+// The number of records, if there is room for one more.
+fn count(w: &[u64]) -> Option<usize>
     ensures { result ≡ count_by w.now }
 {
     if w.len() < 4 {
-        return 64;
+        return None;
     }
     if 64 <= w[3] {
-        return 64;
+        return None;
     }
     let n = w[3] as usize;
     if w.len() < 6 + 2 * n {
-        return 64;
+        return None;
     }
-    n
+    Some(n)
 }
 
 // The record put in and counted, unless its serial was met.
@@ -172,24 +135,23 @@ fn add(w: &mut [u64], n: usize, r: Record) -> bool
 }
 
 // One more record.
-fn admit(w: &mut [u64], v: &[u8]) -> u32
-    ensures { Extends w.old 2 v.now result w.new }
+fn admit(w: &mut [u64], v: &[u8]) -> Result<(), Refusal>
+    ensures { Extends w.old 2 v.now (code_by result) w.new }
 {
     if !octets::hop_size(v.len()) {
-        return 42;
+        return Err(Refusal::BadLength);
     }
     let r = octets::record_of(v);
     if !octets::record_good(r) {
-        return 44;
+        return Err(Refusal::BadValue);
     }
-    let n = count(w);
-    if n == 64 {
-        return 46;
-    }
+    let Some(n) = count(w) else {
+        return Err(Refusal::TooMany);
+    };
     if !add(w, n, r) {
-        return 47;
+        return Err(Refusal::SerialMet);
     }
-    0
+    Ok(())
 }
 
 // The word of the flags with one set anew: the strip flag, or above it the edition less 1.
@@ -198,7 +160,7 @@ fn flag_word(x: u64, tag: u8, v: &[u8]) -> u64
 {
     let o = octets::octet(v, 0);
     if tag == 3 {
-        return x / 2 % 2 * 2 + o as u64;
+        return x / 2 % 2 * 2 + u64::from(o);
     }
     if o == 2 {
         return 2 + x % 2;
@@ -207,23 +169,20 @@ fn flag_word(x: u64, tag: u8, v: &[u8]) -> u64
 }
 
 // A strip flag or an edition.
-fn flag(w: &mut [u64], tag: u8, v: &[u8]) -> u32
-    ensures { FlagIn w.old tag v.now result w.new }
+fn flag(w: &mut [u64], tag: u8, v: &[u8]) -> Result<(), Refusal>
+    ensures { FlagIn w.old tag v.now (code_by result) w.new }
 {
-    let code = octets::flag_code(tag, v);
-    if code != 0 {
-        return code;
-    }
+    octets::check_flag(tag, v)?;
     if w.len() < 4 {
-        return 46;
+        return Err(Refusal::TooMany);
     }
     w[2] = flag_word(w[2], tag, v);
-    0
+    Ok(())
 }
 
 // One more field of settings.
-pub fn extend(w: &mut [u64], tag: u8, v: &[u8]) -> u32
-    ensures { Extends w.old tag v.now result w.new }
+pub fn extend(w: &mut [u64], tag: u8, v: &[u8]) -> Result<(), Refusal>
+    ensures { Extends w.old tag v.now (code_by result) w.new }
 {
     if tag == 2 {
         return admit(w, v);
@@ -231,21 +190,19 @@ pub fn extend(w: &mut [u64], tag: u8, v: &[u8]) -> u32
     flag(w, tag, v)
 }
 
-fn fill_from(s: &[u8], from: usize, w: &mut [u64]) -> bool
+fn fill_from(s: &[u8], from: usize, w: &mut [u64]) -> Option<()>
     requires { (from ≤ length s.now) × Roomy w.old }
-    ensures { Fills s.now from w.old result w.new }
+    ensures { Fills s.now from w.old (is_some result) w.new }
 {
     let mut at = from;
     while at < s.len() {
-        let FieldRead::Taken { tag, next, .. } = octets::field_at(s, at) else {
-            return false;
-        };
-        if extend(w, tag, &s[at + 3..next]) != 0 {
-            return false;
+        let FieldRead { tag, next, .. } = octets::field_at(s, at)?;
+        if extend(w, tag, &s[at + 3..next]).is_err() {
+            return None;
         }
         at = next;
     }
-    true
+    Some(())
 }
 
 // The switch, with no record and no flag yet.
@@ -255,7 +212,7 @@ pub fn open(w: &mut [u64], v: &[u8])
 {
     let switch = octets::be64(v, 0);
     w[0] = switch >> 48;
-    w[1] = (switch << 16) + rules::ETHERTYPE_TRILL as u64;
+    w[1] = (switch << 16) + u64::from(rules::ETHERTYPE_TRILL);
     w[2] = 0;
     w[3] = 0;
 }
@@ -272,52 +229,33 @@ fn hint_all(w: &mut [u64])
     requires { Roomy w.old }
     ensures { Hinted w.old w.new }
 {
-    let n = w[3];
-    let mut i = 0;
-    while i < n {
+    for i in 0..w[3] {
         let d = w[4 + 2 * i as usize] >> 48;
         let k = 132 + (d % 256 / 8) as usize;
         w[k] = hinted(w[k], (d % 8 * 8) as u32, i);
-        i += 1;
     }
 }
 
-// Whether the settings are good; then the words stand for them.
-pub fn prepare(s: &[u8], w: &mut [u64]) -> bool
+// The words stand for the settings, if these are good.
+pub fn prepare(s: &[u8], w: &mut [u64]) -> Option<()>
     requires { length w.old ≡ 164 }
-    ensures { Filled w.new (S.settings_of s.now) result × (length w.new ≡ 164) }
+    ensures { Filled w.new (S.settings_of s.now) (is_some result) × (length w.new ≡ 164) }
 {
-    let FieldRead::Taken { tag, next, .. } = octets::field_at(s, 0) else {
-        return false;
-    };
+    let FieldRead { tag, next, .. } = octets::field_at(s, 0)?;
     let v = &s[3..next];
     if !octets::opens(tag, v) {
-        return false;
+        return None;
     }
     open(w, v);
     fill(s, next, w)
 }
 
 // The fields from a place on, and the hints.
-fn fill(s: &[u8], from: usize, w: &mut [u64]) -> bool
+fn fill(s: &[u8], from: usize, w: &mut [u64]) -> Option<()>
     requires { (from ≤ length s.now) × Roomy w.old }
-    ensures { Fills s.now from w.old result w.new }
+    ensures { Fills s.now from w.old (is_some result) w.new }
 {
-    if !fill_from(s, from, w) {
-        return false;
-    }
+    fill_from(s, from, w)?;
     hint_all(w);
-    true
-}
-
-// Writes the words `s` into `w` from `at` on.
-pub fn copy(w: &mut [u64], at: usize, s: &[u64])
-    requires { at + length s.now ≤ length w.old }
-    ensures { w.new ≡ put w.old at s.now }
-{
-    let mut i = 0;
-    while i < s.len() {
-        w[at + i] = s[i];
-        i += 1;
-    }
+    Some(())
 }

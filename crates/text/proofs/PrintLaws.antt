@@ -1,18 +1,20 @@
 -- The text as the code makes it, digit by digit, piece by piece and line by line. By computation and the laws of buffers; one law for each
 -- need, for `search` to cite.
-use mathlib.Core.Path.{◌≡◌, refl}
-use mathlib.Core.List.{List, [], ◌∷◌, ◌++◌, append_assoc, append-nil}
-use Prim.Native.Nat.{ℕ, suc, ◌+◌, ◌-◌, ◌*◌, ◌/◌, ◌%◌, ◌<◌, ◌≤◌}
+use mathlib.Core.Path.{◌≡◌, refl, sym}
+use mathlib.Core.List.{List, [], ◌∷◌, ◌++◌}
+use Prim.Native.Nat.{ℕ, zero, suc, ◌+◌, ◌*◌, ◌/◌, ◌%◌, ◌<◌, ◌≤◌}
 use native.Mathlib.Omega.{arith}
 use borrow.Author.Rules.{rules}
 use borrow.Author.Tests.{eq-eqb, ne_eqb, lt-ltb, le-ltb}
-use lib.ListN.{length, get_or, take, drop, length-drop}
-use lib.Seq.{drop-drop}
+use lib.ListN.{length, get_or, take, drop}
+use lib.Seq.{get_or-take, take-length}
 use Rattle.rules.specs.Text.{ascii, line_feed, hex_digit, decimal}
 use Rattle.rules.proofs.TextLaws.{decimal_one, decimal_two, decimal_three, decimal_four}
 use Rattle.octets.specs.Copy.{Wrote, fitting}
 use Rattle.octets.proofs.Ends.{copied, joined, wrote_none, wrote_long}
-use Rattle.campus.proofs.StoresLaws.{lent}
+use Rattle.std.specs.List.{flat_map}
+use Rattle.std.specs.Simd.{first_chunks}
+use Rattle.std.proofs.lemmas.List.{flat_map_more, take_more}
 use Rattle.text.specs.Print.{PutAt, letter_of, head_of, tail_of, line_of, lines_of, text_of}
 
 -- digits and letters
@@ -104,59 +106,50 @@ put_line e p h t q = rw (h, t, q) at p
 pub ruleset put_line_laws = (rules, put_line)
 
 -- what the loop over the entries keeps
-pub record Writing (out₀ trace : List ℕ) (count : ℕ) (out : List ℕ) (at k : ℕ) : Type 0 where
-  pub done : List ℕ
-  pub so_far : PutAt out₀ out 0 at (k * 20) done
-  pub rest : done ++ lines_of (count - k) (drop (k * 8) trace) ≡ lines_of count trace
-  pub most : k ≤ count
+pub record Writing (out₀ : List ℕ) (entries : List (List ℕ)) (out : List ℕ) (at k : ℕ) : Type 0 where
+  pub so_far : PutAt out₀ out 0 at (k * 20) (flat_map line_of (take k entries))
+  pub within : k ≤ length entries
   pub same : length out ≡ length out₀
 
-line_none : (trace : List ℕ) → lines_of 0 trace ≡ []
-unfolding lines_of
-line_none trace = refl
+module _ {out₀ : List ℕ} {entries : List (List ℕ)} where
+  pub writing_begin : Writing out₀ entries out₀ 0 0
+  writing_begin = record { so_far = record { wrote = wrote_none out₀ 0; short = omega arith }; within = omega arith; same = refl }
 
-line_first : (count : ℕ) (trace : List ℕ) → lines_of (suc count) trace ≡ line_of trace ++ lines_of count (drop 8 trace)
-unfolding lines_of
-line_first count trace = refl
+  module _ {out : List ℕ} {at k : ℕ} (l : Writing out₀ entries out at k) where
+    pub writing_end : length entries ≤ k → PutAt out₀ out 0 at (length entries * 20) (flat_map line_of entries)
+    writing_end over =
+        let e : k ≡ length entries = omega (arith, l.within) in
+        rw (e, take-length) at l.so_far
 
-pub writing_begin : (out₀ trace : List ℕ) (count : ℕ) → Writing out₀ trace count out₀ 0 0
-writing_begin out₀ trace count =
-    let e : count - 0 ≡ count = omega arith in
-    record {
-      done = [];
-      so_far = record { wrote = wrote_none out₀ 0; short = omega arith };
-      rest = rw e;
-      most = omega arith;
-      same = refl;
-    }
-
-module _ {out₀ trace : List ℕ} {count : ℕ} {out : List ℕ} {at k : ℕ} (l : Writing out₀ trace count out at k) where
-  pub writing_end : count ≤ k → PutAt out₀ out 0 at (count * 20) (lines_of count trace)
-  writing_end over =
-      let z : count - k ≡ 0 = omega arith in
-      rw (← (rw (z, line_none, append-nil) at l.rest))
-      (search (arith, l.so_far))
-
-  module _ (few : count ≤ 4096) (traced : count * 8 ≤ length trace) (room : count * 20 ≤ length out₀) (more : k < count) where
-    pub line_entry : 8 ≤ length (take (length trace - k * 8) (drop (k * 8) trace))
-    line_entry = rw (lent, length-drop) (omega arith)
-
-    pub writing_on : (out' : List ℕ) (end : ℕ) → PutAt out out' at end 20 (line_of (take (length trace - k * 8) (drop (k * 8) trace)))
-        → Writing out₀ trace count out' end (k + 1)
-    writing_on out' end p =
-        let e : count - k ≡ suc (count - (k + 1)) = omega arith in
-        let q : (k + 1) * 8 ≡ k * 8 + 8 = omega arith in
+    pub writing_on : length entries * 20 ≤ length out₀ → k < length entries → (out' : List ℕ) (end : ℕ)
+        → PutAt out out' at end 20 (line_of (get_or entries k [])) → Writing out₀ entries out' end (k + 1)
+    writing_on room more out' end p =
         let n : (k + 1) * 20 ≡ k * 20 + 20 = omega arith in
-        let w = put_on l.so_far (rw lent at p) in
-        record {
-          done = l.done ++ line_of (drop (k * 8) trace);
-          so_far = rw n w;
-          rest = rw (append_assoc, q, ← drop-drop 8 (k * 8) trace) (rw (e, line_first) at l.rest);
-          most = omega arith;
-          same = wrote_long w.wrote (omega arith);
-        }
+        let t : flat_map line_of (take (k + 1) entries) ≡ flat_map line_of (take k entries) ++ line_of (get_or entries k []) =
+        rw (take_more entries k [] more) (sym (flat_map_more line_of [] (take k entries) (get_or entries k []))) in
+        record { so_far = rw (n, t) (put_on l.so_far p); within = omega arith; same = wrote_long (put_on l.so_far p).wrote (omega arith) }
 
-pub ruleset put_lines_laws = (rules, writing_begin, writing_end, line_entry, writing_on)
+pub ruleset put_lines_laws = (rules, writing_begin, writing_end, writing_on)
+
+-- the entries of a trace are eight octets each
+entry_line : (e : List ℕ) → line_of (take 8 e) ≡ line_of e
+unfolding line_of
+entry_line e =
+    rw (
+      get_or-take 8 e 0 0 (omega arith),
+      get_or-take 8 e 1 0 (omega arith),
+      get_or-take 8 e 2 0 (omega arith),
+      get_or-take 8 e 3 0 (omega arith),
+      get_or-take 8 e 4 0 (omega arith),
+      get_or-take 8 e 6 0 (omega arith),
+      get_or-take 8 e 7 0 (omega arith),
+    )
+
+lines_entries : (count n : ℕ) (trace : List ℕ) → count ≤ n → flat_map line_of (take count (first_chunks 8 n trace)) ≡ lines_of count trace
+unfolding lines_of
+lines_entries zero n trace h = refl
+lines_entries (suc count) zero trace h = absurd (omega arith)
+lines_entries (suc count) (suc n) trace h = rw (entry_line trace, lines_entries count n (drop 8 trace) (omega arith))
 
 -- the whole text, by the code
 module _ (code count : ℕ) (trace : List ℕ) where
@@ -182,8 +175,10 @@ module _ (code count : ℕ) (trace : List ℕ) where
     put_refused p h = rw (← text_refused h) (search (arith, p))
 
     pub put_handled : (mid : List ℕ) (here : ℕ) → PutAt mid out' here end 13 (handled_octets ++ decimal count ++ (10 ∷ []))
-        → PutAt out mid 0 here (count * 20) (lines_of count trace) → code ≡ 0 → PutAt out out' 0 end (count * 20 + 13) (text_of code count trace)
+        → (entries : List (List ℕ)) (n : ℕ) → entries ≡ take count (first_chunks 8 n trace) → count ≤ n → length entries ≡ count
+        → PutAt out mid 0 here (length entries * 20) (flat_map line_of entries) → code ≡ 0
+        → PutAt out out' 0 end (count * 20 + 13) (text_of code count trace)
     unfolding ascii
-    put_handled mid here q p h = rw (← text_handled h) (put_on p q)
+    put_handled mid here q entries n e few whole p h = rw (← text_handled h, ← lines_entries count n trace few, ← e) (put_on (rw whole at p) q)
 
 pub ruleset put_text_laws = (rules, put_refused, put_handled)

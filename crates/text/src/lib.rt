@@ -7,6 +7,8 @@ mod printing;
 ghost use Rattle.std.specs.Prelude.{◌+◌, ◌*◌, ◌≤◌, length};
 ghost use Rattle.text.specs.Print.{text_of, Printable, Written, TextDone};
 
+use rules::Refusal;
+
 // What is written, 0 where the text does not fit, and how long the text is.
 #[repr(C)]
 #[derive(Clone, Copy)]
@@ -69,7 +71,7 @@ pub fn campus_text(description: &[u8], text: &mut [u8]) -> Printed
 {
     let mut trace = [0u8; 640];
     let o = campus::campus_run(description, &mut trace);
-    if o.code == 49 {
+    if o.code == Refusal::TraceShort as u32 {
         return text_of(description, text);
     }
     put_printed(o.code, o.count, &trace, text)

@@ -1,7 +1,8 @@
 // The printed text of a run, from its outcome and its trace.
 ghost use Rattle.std.specs.Prelude.{◌≡◌, ◌++◌, ◌+◌, ◌*◌, ◌%◌, ◌≤◌, ◌<◌, length};
 ghost use Rattle.rules.specs.Text.{hex_digit, decimal};
-ghost use Rattle.text.specs.Print.{PutAt, letter_of, head_of, tail_of, line_of, lines_of, text_of, Printable};
+ghost use Rattle.text.specs.Print.{PutAt, letter_of, head_of, tail_of, line_of, text_of, Printable};
+ghost use Rattle.std.specs.List.{flat_map};
 
 // The low four bits in hex, upper case.
 fn hex_digit(n: u8) -> u8
@@ -21,8 +22,7 @@ fn letter(kind: u8) -> u8
 }
 
 // A line before its answer.
-fn line_head(e: &[u8]) -> [u8; 7]
-    requires { 8 ≤ length e.now }
+fn line_head(e: &[u8; 8]) -> [u8; 7]
     ensures { result ≡ head_of e.now }
 {
     [
@@ -37,8 +37,7 @@ fn line_head(e: &[u8]) -> [u8; 7]
 }
 
 // A line after its answer.
-fn line_tail(e: &[u8]) -> [u8; 9]
-    requires { 8 ≤ length e.now }
+fn line_tail(e: &[u8; 8]) -> [u8; 9]
     ensures { result ≡ tail_of e.now }
 {
     [
@@ -92,32 +91,24 @@ fn put_number(out: &mut [u8], at: usize, before: &[u8], n: u16, after: &[u8]) ->
     octets::copy(out, at, after)
 }
 
-fn wide(n: u8) -> u16
-    ensures { (result ≡ n) × (result < 10000) }
-{
-    n as u16
-}
-
-// Writes the line of the trace entry that `e` begins with.
-fn put_line(out: &mut [u8], at: usize, e: &[u8]) -> usize
-    requires { (8 ≤ length e.now) × (at + 20 ≤ length out.old) }
+// Writes the line of a trace entry.
+fn put_line(out: &mut [u8], at: usize, e: &[u8; 8]) -> usize
+    requires { at + 20 ≤ length out.old }
     ensures { PutAt out.old out.new at result 20 (line_of e.now) }
 {
     let head = line_head(e);
     let tail = line_tail(e);
-    put_number(out, at, &head, wide(e[3]), &tail)
+    put_number(out, at, &head, u16::from(e[3]), &tail)
 }
 
-// Writes the lines of the first `count` entries of a trace.
-fn put_lines(out: &mut [u8], trace: &[u8], count: usize) -> usize
-    requires { (count ≤ 4096) × (count * 8 ≤ length trace.now) × (count * 20 ≤ length out.old) }
-    ensures { PutAt out.old out.new 0 result (count * 20) (lines_of count trace.now) }
+// Writes the lines of trace entries.
+fn put_lines(out: &mut [u8], entries: &[[u8; 8]]) -> usize
+    requires { length entries.now * 20 ≤ length out.old }
+    ensures { PutAt out.old out.new 0 result (length entries.now * 20) (flat_map line_of entries.now) }
 {
     let mut at = 0;
-    let mut k = 0;
-    while k < count {
-        at = put_line(out, at, &trace[k * 8..]);
-        k += 1;
+    for entry in entries {
+        at = put_line(out, at, entry);
     }
     at
 }
@@ -130,6 +121,7 @@ pub fn put_text(out: &mut [u8], code: u32, count: u32, trace: &[u8]) -> usize
     if code != 0 {
         return put_number(out, 0, b"refused ", code as u16, b"\n");
     }
-    let end = put_lines(out, trace, count as usize);
+    let (entries, _) = trace.as_chunks::<8>();
+    let end = put_lines(out, &entries[..count as usize]);
     put_number(out, end, b"handled ", count as u16, b"\n")
 }

@@ -2,11 +2,8 @@
 use Rattle.delivered.proofs.PartLaws.{part_laws as laws}
 use Rattle.delivered.proofs.part.Goals as goal
 
-pub returns-then-frame-start : goal.returns-then-frame-start
-returns-then-frame-start c = search laws
-
-pub returns-then-frame-start-2 : goal.returns-then-frame-start-2
-returns-then-frame-start-2 c = search laws
+pub returns-in_default : goal.returns-in_default
+returns-in_default c = search laws
 
 pub returns : goal.returns
 returns c = search laws

@@ -5,14 +5,11 @@ use Rattle.handler.proofs.handle_prepared.Goals as goal
 pub returns-then-not-good : goal.returns-then-not-good
 returns-then-not-good c = search laws
 
-pub own_of-own-requires : goal.own_of-own-requires
-own_of-own-requires c = search laws
+pub invariant_of-switch : goal.invariant_of-switch
+invariant_of-switch c = search laws
 
-pub handle_in-requires : goal.handle_in-requires
-handle_in-requires c = search laws
+pub returns-in-Err : goal.returns-in-Err
+returns-in-Err c = search laws
 
-pub returns-in-Refused : goal.returns-in-Refused
-returns-in-Refused c = search laws
-
-pub returns-in-Trill : goal.returns-in-Trill
-returns-in-Trill c = search laws
+pub returns-in-Ok : goal.returns-in-Ok
+returns-in-Ok c = search laws

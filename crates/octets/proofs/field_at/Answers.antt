@@ -8,8 +8,8 @@ returns-then-s-at c = search laws
 pub returns-then-left-lt3 : goal.returns-then-left-lt3
 returns-then-left-lt3 c = search laws
 
-pub returns-then-le64-eq-RECORD : goal.returns-then-le64-eq-RECORD
-returns-then-le64-eq-RECORD c = search laws
+pub returns-then-be64-eq-RECORD : goal.returns-then-be64-eq-RECORD
+returns-then-be64-eq-RECORD c = search laws
 
 pub returns-then-left-length : goal.returns-then-left-length
 returns-then-left-length c = search laws

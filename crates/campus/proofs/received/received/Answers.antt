@@ -1,6 +1,9 @@
--- Its contract: an answer above 11 says that the frame is readable.
+-- Its contract, by what the frame is read as.
 use Rattle.campus.proofs.RunLaws.{received_laws as laws}
 use Rattle.campus.proofs.received.received.Goals as goal
 
-pub in_header-requires : goal.in_header-requires
-in_header-requires c = search laws
+pub returns-in_default : goal.returns-in_default
+returns-in_default c = search laws
+
+pub returns : goal.returns
+returns c = search laws

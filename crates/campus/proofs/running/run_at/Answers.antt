@@ -2,8 +2,8 @@
 use Rattle.campus.proofs.DoneLaws.{run_at_laws as laws}
 use Rattle.campus.proofs.running.run_at.Goals as goal
 
-pub clock_of-clock-requires : goal.clock_of-clock-requires
-clock_of-clock-requires c = search laws
+pub clock_of-octets-requires : goal.clock_of-octets-requires
+clock_of-octets-requires c = search laws
 
 pub run_from-requires : goal.run_from-requires
 run_from-requires c = search laws

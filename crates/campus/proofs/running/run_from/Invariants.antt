@@ -1,11 +1,7 @@
 -- The states so far are traced, and the run from here, with the replies that wait, is the rest of the whole.
-use Rattle.std.proofs.Common.{◌-◌}
 use Rattle.campus.proofs.RunLaws.{RunSoFar}
 use Rattle.campus.proofs.running.run_from.Given as goal
 
 abbrev pub invariant-loop-k : goal.invariant-loop-k
 invariant-loop-k l =
-    RunSoFar l.w l.starts l.n l.first l.clock l.frame l.initial.waiting l.initial.trace l.waiting l.trace l.cur l.at l.k
-
-abbrev pub decreases-loop-k : goal.decreases-loop-k
-decreases-loop-k l = 4096 - l.k
+    RunSoFar l.switches l.first l.clock l.frame l.initial.waiting l.initial.trace l.waiting l.trace l.frames.current.now l.at l.k

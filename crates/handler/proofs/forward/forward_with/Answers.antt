@@ -5,8 +5,5 @@ use Rattle.handler.proofs.forward.forward_with.Goals as goal
 pub write_header-at-requires : goal.write_header-at-requires
 write_header-at-requires c = search laws
 
-pub inner_start-inner-requires : goal.inner_start-inner-requires
-inner_start-inner-requires c = search laws
-
 pub returns : goal.returns
 returns c = search laws

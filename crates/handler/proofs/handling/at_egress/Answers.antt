@@ -5,8 +5,5 @@ use Rattle.handler.proofs.handling.at_egress.Goals as goal
 pub returns-then-op_length-eq0 : goal.returns-then-op_length-eq0
 returns-then-op_length-eq0 c = search laws
 
-pub inner_start-inner-requires : goal.inner_start-inner-requires
-inner_start-inner-requires c = search laws
-
-pub returns-in-Faulty : goal.returns-in-Faulty
-returns-in-Faulty c = search laws
+pub returns-in-Err : goal.returns-in-Err
+returns-in-Err c = search laws

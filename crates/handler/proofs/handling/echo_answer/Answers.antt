@@ -2,9 +2,6 @@
 use Rattle.handler.proofs.StageLaws.{echo_answer_laws as laws}
 use Rattle.handler.proofs.handling.echo_answer.Goals as goal
 
-pub inner_start-start-requires : goal.inner_start-start-requires
-inner_start-start-requires c = search laws
-
 pub slice_bounds-body-count : goal.slice_bounds-body-count
 slice_bounds-body-count c = search laws
 

@@ -2,9 +2,6 @@
 use Rattle.handler.proofs.StageLaws.{error_answer_laws as laws}
 use Rattle.handler.proofs.handling.error_answer.Goals as goal
 
-pub inner_start-start-requires : goal.inner_start-start-requires
-inner_start-start-requires c = search laws
-
 pub returns-then-silenced : goal.returns-then-silenced
 returns-then-silenced c = search laws
 

@@ -2,9 +2,6 @@
 use Rattle.handler.proofs.TaskLaws.{message_laws as laws}
 use Rattle.handler.proofs.handling.message.Goals as goal
 
-pub inner_start-start-requires : goal.inner_start-start-requires
-inner_start-start-requires c = search laws
-
 pub echo_answer-requires : goal.echo_answer-requires
 echo_answer-requires c = search laws
 

@@ -5,8 +5,5 @@ use Rattle.handler.proofs.handling.route_read.Goals as goal
 pub returns-then-area_stops : goal.returns-then-area_stops
 returns-then-area_stops c = search laws
 
-pub inner_start-inner-requires : goal.inner_start-inner-requires
-inner_start-inner-requires c = search laws
-
 pub returns : goal.returns
 returns c = search laws

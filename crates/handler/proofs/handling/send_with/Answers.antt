@@ -2,9 +2,6 @@
 use Rattle.handler.proofs.StageLaws.{send_with_laws as laws}
 use Rattle.handler.proofs.handling.send_with.Goals as goal
 
-pub inner_start-inner-requires : goal.inner_start-inner-requires
-inner_start-inner-requires c = search laws
-
 pub returns-then-link_length-size-gt-FRAME_MOST : goal.returns-then-link_length-size-gt-FRAME_MOST
 returns-then-link_length-size-gt-FRAME_MOST c = search laws
 

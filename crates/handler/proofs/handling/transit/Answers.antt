@@ -5,8 +5,8 @@ use Rattle.handler.proofs.handling.transit.Goals as goal
 pub returns-in_default : goal.returns-in_default
 returns-in_default c = search laws
 
-pub returns-in-Refused : goal.returns-in-Refused
-returns-in-Refused c = search laws
+pub returns-in-Err : goal.returns-in-Err
+returns-in-Err c = search laws
 
-pub returns-in-Passed : goal.returns-in-Passed
-returns-in-Passed c = search laws
+pub returns-in-Ok : goal.returns-in-Ok
+returns-in-Ok c = search laws

@@ -6,10 +6,10 @@ use lib.Bits.{bit_or}
 use Rattle.octets.proofs.Bits.{or_add}
 use Rattle.handler.proofs.header.header_word.Goals as goal
 
-word-or : (v r m op hop : ℕ) → (v < 4) × (r < 4) × (m < 2) × (op < 32) × (hop < 64)
+word-or : (v r m op hop : ℕ) → v < 4 → r < 4 → m < 2 → op < 32 → hop < 64
     → bit_or (bit_or (bit_or (bit_or (v * 16384 % 65536) (r * 4096 % 65536)) (m * 2048 % 65536)) (op * 64 % 65536)) hop
     ≡ v * 16384 + r * 4096 + m * 2048 + op * 64 + hop
-word-or v r m op hop h =
+word-or v r m op hop few_v few_r few_m few_op few_hop =
     let a = v * 16384 % 65536 in
     let b = r * 4096 % 65536 in
     let c = m * 2048 % 65536 in

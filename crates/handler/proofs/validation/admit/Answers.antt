@@ -5,12 +5,6 @@ use Rattle.handler.proofs.validation.admit.Goals as goal
 pub returns-then-not-hop_size : goal.returns-then-not-hop_size
 returns-then-not-hop_size c = search laws
 
-pub returns-then-not-record_good : goal.returns-then-not-record_good
-returns-then-not-record_good c = search laws
-
-pub returns-then-n-ge64 : goal.returns-then-n-ge64
-returns-then-n-ge64 c = search laws
-
 pub returns-then-old-eq0 : goal.returns-then-old-eq0
 returns-then-old-eq0 c = search laws
 

@@ -1,4 +1,4 @@
--- Its contract. The invariant: what was read is validated, and folded to the record that rules and the flags.
+-- Its contract, by one law for each way out.
 use Rattle.handler.proofs.ScanLaws.{scan_laws as laws}
 use Rattle.handler.proofs.validation.scan_from.Goals as goal
 
@@ -26,8 +26,8 @@ loop-at-smaller-then-tag-eq2 c = search laws
 pub loop-at-preserved-then-tag-eq2 : goal.loop-at-preserved-then-tag-eq2
 loop-at-preserved-then-tag-eq2 c = search laws
 
-pub returns-then-flag_code-ne0 : goal.returns-then-flag_code-ne0
-returns-then-flag_code-ne0 c = search laws
+pub returns-then-is_err : goal.returns-then-is_err
+returns-then-is_err c = search laws
 
 pub loop-at-preserved : goal.loop-at-preserved
 loop-at-preserved c = search laws

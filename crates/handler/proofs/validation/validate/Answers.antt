@@ -17,8 +17,11 @@ slice_bounds-opens-end c = search laws
 pub returns-then-not-opens : goal.returns-then-not-opens
 returns-then-not-opens c = search laws
 
-pub scan_from-r-requires : goal.scan_from-r-requires
-scan_from-r-requires c = search laws
+pub scan_from-requires : goal.scan_from-requires
+scan_from-requires c = search laws
+
+pub returns-in_err-scan : goal.returns-in_err-scan
+returns-in_err-scan c = search laws
 
 pub returns : goal.returns
-returns c = search laws
+returns c = let found = c.in_ok-scan.ensures in search laws

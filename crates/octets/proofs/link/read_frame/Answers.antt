@@ -2,8 +2,8 @@
 use Rattle.octets.proofs.WordLaws.{read_laws as laws}
 use Rattle.octets.proofs.link.read_frame.Goals as goal
 
-pub returns-then-head : goal.returns-then-head
-returns-then-head c = search laws
+pub returns-then-head-from : goal.returns-then-head-from
+returns-then-head-from c = search laws
 
 pub returns-then-f-lt14 : goal.returns-then-f-lt14
 returns-then-f-lt14 c = search laws

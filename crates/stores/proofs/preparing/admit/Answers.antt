@@ -8,8 +8,8 @@ returns-then-not-hop_size c = search laws
 pub returns-then-not-record_good : goal.returns-then-not-record_good
 returns-then-not-record_good c = search laws
 
-pub returns-then-n-eq64 : goal.returns-then-n-eq64
-returns-then-n-eq64 c = search laws
+pub returns-in_default : goal.returns-in_default
+returns-in_default c = search laws
 
 pub add-requires : goal.add-requires
 add-requires c = search laws

@@ -2,8 +2,8 @@
 use Rattle.stores.proofs.PrepareLaws.{fill_from_laws as laws}
 use Rattle.stores.proofs.preparing.fill_from.Goals as goal
 
-pub returns-in_default : goal.returns-in_default
-returns-in_default c = search laws
+pub returns-in_err-tag : goal.returns-in_err-tag
+returns-in_err-tag c = search laws
 
 pub slice_bounds-extend-count : goal.slice_bounds-extend-count
 slice_bounds-extend-count c = search laws
@@ -14,8 +14,8 @@ slice_bounds-extend-start c = search laws
 pub slice_bounds-extend-end : goal.slice_bounds-extend-end
 slice_bounds-extend-end c = search laws
 
-pub returns-then-extend-ne0 : goal.returns-then-extend-ne0
-returns-then-extend-ne0 c = search laws
+pub returns-then-is_err : goal.returns-then-is_err
+returns-then-is_err c = search laws
 
 pub loop-at-smaller : goal.loop-at-smaller
 loop-at-smaller c = search laws

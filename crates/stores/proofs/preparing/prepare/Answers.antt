@@ -2,8 +2,8 @@
 use Rattle.stores.proofs.PrepareLaws.{prepare_laws as laws}
 use Rattle.stores.proofs.preparing.prepare.Goals as goal
 
-pub returns-in_default : goal.returns-in_default
-returns-in_default c = search laws
+pub returns-in_err-tag : goal.returns-in_err-tag
+returns-in_err-tag c = search laws
 
 pub slice_bounds-v-count : goal.slice_bounds-v-count
 slice_bounds-v-count c = search laws

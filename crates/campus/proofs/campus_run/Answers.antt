@@ -1,6 +1,0 @@
--- Its contract, by one law for each need.
-use Rattle.campus.proofs.DoneLaws.{campus_run_laws as laws}
-use Rattle.campus.proofs.campus_run.Goals as goal
-
-pub returns-then-trace-lt-TRACE_LEAST : goal.returns-then-trace-lt-TRACE_LEAST
-returns-then-trace-lt-TRACE_LEAST c = search laws
