@@ -86,6 +86,7 @@ $(addprefix build/,$(PROGRAMS) $(TESTS)): build/%: $$(addprefix build/plain/,$$(
 	$(LINK)
 
 $(addprefix build/sanitized/,$(PROGRAMS) $(TESTS)): LDFLAGS += $(SANITIZERS)
+build/selftest build/sanitized/selftest: LDFLAGS += -pthread
 $(addprefix build/sanitized/,$(PROGRAMS) $(TESTS)): build/sanitized/%: $$(addprefix build/sanitized/,$$($$*)) $(LIBRARY)
 	$(LINK)
 

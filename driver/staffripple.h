@@ -17,7 +17,7 @@
  *     file take null with length 0 too.
  *
  * Numbers within octets are big-endian. The compiled library is for x86-64-v2, that is with SSE4.2, and the System V
- * calling convention; it needs memcpy, memmove and memset and nothing else.
+ * calling convention; it needs memcpy and memset and nothing else.
  */
 #ifndef STAFFRIPPLE_H
 #define STAFFRIPPLE_H

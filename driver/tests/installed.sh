@@ -88,6 +88,12 @@ $(sed -n 's/^    \(own.hex:.*\)/\1/p' "$root/../README.md")" sh -c '"$1" own.hex
 
 # ---- The library ----
 
+# needed LIBRARY: the names that it takes from outside, as staffripple.h lists them
+needed() {
+    nm -u "$1" | awk 'NF == 2 { print $2 }' | sort -u | tr '\n' ' '
+}
+prints 'what it needs' 'memcpy memset ' needed "$prefix/lib/libstaffripple.a"
+
 # example COMMAND..: compiles and runs the example as a user does
 example() {
     rm -f example && "$@" -o example && ./example

@@ -4,6 +4,7 @@
  */
 #include "staffripple.h"
 
+#include <pthread.h>
 #include <stdarg.h>
 #include <stdbool.h>
 #include <stdio.h>
@@ -1107,6 +1108,33 @@ static void try_texts(void)
     try_text("the text of a refusal", "01 0008 0001 0200", CAMPUS_TEXT_MOST, "refused 41\n");
 }
 
+/* ---- On a thread with little stack ---- */
+
+static struct octets file_apart;
+static uint8_t text_apart[CAMPUS_TEXT_MOST];
+static struct campus_text_answer answer_apart;
+
+static void *print_apart(void *unused)
+{
+    (void)unused;
+    answer_apart = campus_text(file_apart.at, file_apart.length, text_apart, sizeof text_apart);
+    return NULL;
+}
+
+static void try_little_stack(void)
+{
+    const char *name = "C1 the text, with 128 KiB of stack";
+    file_apart = from_hex(FILE_C1);
+    pthread_attr_t little;
+    pthread_t thread;
+    if (pthread_attr_init(&little) || pthread_attr_setstacksize(&little, 128 * 1024) ||
+        pthread_create(&thread, &little, print_apart, NULL) || pthread_join(thread, NULL))
+        result(name, false, "there is no such thread");
+    else
+        result(name, answer_apart.written == strlen(TEXT_C1) && !memcmp(text_apart, TEXT_C1, strlen(TEXT_C1)),
+               "written %u, and not the text", answer_apart.written);
+}
+
 /* ---- The helpers ---- */
 
 static void try_null(void)
@@ -1190,6 +1218,7 @@ int main(void)
     try_campuses();
     try_editions();
     try_texts();
+    try_little_stack();
     try_null();
     try_parts();
     try_numbers();

@@ -6,8 +6,8 @@
 mod link;
 mod values;
 
-ghost use Rattle.std.specs.Prelude.{ℕ, ◌≡◌, ◌++◌, ◌*◌, ◌+◌, ◌/◌, ◌%◌, ◌<◌, length, get_or};
-ghost use Rattle.rules.specs.Octets.{octet as octet_of, be16 as be16_of, be32 as be32_of, be48 as be48_of, octets16, octets48};
+ghost use Rattle.std.specs.Prelude.{ℕ, ◌≡◌, ◌++◌, ◌*◌, ◌+◌, ◌/◌, ◌%◌, ◌<◌, ◌≤◌, length, get_or};
+ghost use Rattle.rules.specs.Octets.{octet as octet_of, be16 as be16_of, be32 as be32_of, be48 as be48_of, octets16, octets48, put};
 ghost use Rattle.rules.specs.Fields.{field_at};
 ghost use Rattle.octets.specs.Copy.{Wrote, fitting};
 ghost use Rattle.octets.specs.Words.{be64 as be64_of, octets64};
@@ -183,6 +183,80 @@ pub fn copy(out: &mut [u8], at: usize, s: &[u8]) -> usize
     if out.len() - at < s.len() {
         return at;
     }
-    out[at..at + s.len()].copy_from_slice(s);
+    fill(out, at, s);
     at + s.len()
+}
+
+// By blocks where there is one: the test that a loop over octets needs for what may overlap would cost more than a short copy.
+fn fill(out: &mut [u8], at: usize, s: &[u8])
+    requires { at + length s.now ≤ length out.old }
+    ensures { out.new ≡ put out.old at s.now }
+{
+    if s.len() < 16 {
+        fill_octets(out, at, s);
+        return;
+    }
+    if s.len() <= 64 {
+        fill_blocks(out, at, s);
+        return;
+    }
+    fill_long(out, at, s);
+}
+
+// By four blocks in a turn, the last four over the end of those before.
+fn fill_long(out: &mut [u8], at: usize, s: &[u8])
+    requires { (64 ≤ length s.now) × (at + length s.now ≤ length out.old) }
+    ensures { out.new ≡ put out.old at s.now }
+{
+    let last = s.len() - 64;
+    let mut done = 0;
+    while done < last {
+        fill_four(out, at + done, &s[done..done + 64]);
+        done += 64;
+    }
+    fill_four(out, at + last, &s[last..]);
+}
+
+// Four blocks, one behind the other: read all at once they would be written last one first, which is slower.
+fn fill_four(out: &mut [u8], at: usize, s: &[u8])
+    requires { (length s.now ≡ 64) × (at + 64 ≤ length out.old) }
+    ensures { out.new ≡ put out.old at s.now }
+{
+    fill_block(out, at, &s[..16]);
+    fill_block(out, at + 16, &s[16..32]);
+    fill_block(out, at + 32, &s[32..48]);
+    fill_block(out, at + 48, &s[48..]);
+}
+
+fn fill_octets(out: &mut [u8], at: usize, s: &[u8])
+    requires { at + length s.now ≤ length out.old }
+    ensures { out.new ≡ put out.old at s.now }
+{
+    for i in 0..s.len() {
+        out[at + i] = s[i];
+    }
+}
+
+// Sixteen octets, read before one is written, as they then move in one.
+fn fill_block(out: &mut [u8], at: usize, s: &[u8])
+    requires { (length s.now ≡ 16) × (at + 16 ≤ length out.old) }
+    ensures { out.new ≡ put out.old at s.now }
+{
+    let mut block = [0u8; 16];
+    fill_octets(&mut block, 0, s);
+    fill_octets(out, at, &block);
+}
+
+// The last block ends where `s` does, and may write some octets a second time.
+fn fill_blocks(out: &mut [u8], at: usize, s: &[u8])
+    requires { (16 ≤ length s.now) × (at + length s.now ≤ length out.old) }
+    ensures { out.new ≡ put out.old at s.now }
+{
+    let last = s.len() - 16;
+    let mut done = 0;
+    while done < last {
+        fill_block(out, at + done, &s[done..done + 16]);
+        done += 16;
+    }
+    fill_block(out, at + last, &s[last..]);
 }

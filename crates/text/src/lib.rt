@@ -36,7 +36,9 @@ fn put_apart(code: u32, count: u32, trace: &[u8], out: &mut [u8], text: &mut [u8
     }
 }
 
-// Writes the text of an outcome: at once where no text of so many lines is too long.
+// Writes the text of an outcome: at once where no text of so many lines is too long. A function of its own: inlined it would have a run use
+// its stack too.
+#[inline(never)]
 fn put_printed(code: u32, count: u32, trace: &[u8], text: &mut [u8]) -> Printed
     requires { Printable code count trace.now }
     ensures { Written (text_of code count trace.now) text.old text.new result.written result.needed }

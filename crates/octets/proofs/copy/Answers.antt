@@ -1,4 +1,4 @@
--- Its contract, by whether all of it fits.
+-- Its contract, by arithmetic.
 use Rattle.octets.proofs.Ends.{copy_laws as laws}
 use Rattle.octets.proofs.copy.Goals as goal
 
