@@ -2,24 +2,47 @@
 -- induction over the counters.
 use mathlib.Core.Path.{◌≡◌, refl, sym, ◌∙◌}
 use mathlib.Core.List.{List, [], ◌∷◌}
-use mathlib.Core.Bool.{Bool, true, false}
+use mathlib.Core.Bool.{Bool, true, false, ◌||◌}
 use Prim.Native.Nat.{ℕ, zero, suc, ◌+◌, ◌<◌, ◌≤◌}
 use native.Mathlib.Omega.{arith}
+use native.Mathlib.Numerals.{add-one}
 use borrow.Author.Rules.{rules}
 use borrow.Author.Tests.{eqb-true, eqb-false, ne_eqb, lt-leb}
 use lib.Bits.{bit_or, or_add_and, and_le_l, and_le_r}
 use lib.Dec.{eqb, leb}
 use mir.Val.{Fits}
 use mir.Syntax.{w64}
-use lib.ListN.{length, get_or, set}
+use lib.ListN.{length, get_or, set, drop}
+use lib.Seq.{drop-cons, drop-length}
 use Rattle.rules.specs.{Answer.dropped, Handling.handled}
-use Rattle.rules.proofs.TestLaws.{by_test, or_false}
+use Rattle.rules.proofs.TestLaws.{by_test, or_false, or_no, or_assoc}
 use Rattle.rules.proofs.{OctetLaws.put_none, HandledLaws.handled_bounded}
 use Rattle.handler.specs.{Shapes.answer_of, Tasks.Both}
 use Rattle.handler.specs.declared.answers.Answer.{Answer}
 use Rattle.counters.specs
 use specs.Counting.{greatest, Above, some_greatest, full, one_more, Call, uncounted, counted, CallDone}
 use specs.declared.Counters.{Counters}
+
+-- the scan: what was found so far and the counters from the i-th on hold make up the whole
+pub record Scanning (c : Counters) (found : Bool) (i : ℕ) : Type 0 where
+  pub within : i ≤ 64
+  pub rest : (found || some_greatest (drop i c.by_answer)) ≡ full c
+
+module _ (c : Counters) where
+  pub scan_begins : Scanning c (eqb c.total greatest) 0
+  unfolding full
+  scan_begins = record { within = omega arith; rest = refl }
+
+  module _ (found : Bool) (i : ℕ) (s : Scanning c found i) (whole : length c.by_answer ≡ 64) where
+    pub scan_goes_on : i < 64 → Scanning c (found || eqb (get_or c.by_answer i 0) greatest) (i + 1)
+    scan_goes_on h = record { within = omega arith; rest = rw (add-one, or_assoc) (rw (drop-cons c.by_answer i 0 (omega (arith, whole))) at s.rest) }
+
+    pub scan_ends : 64 ≤ i → found ≡ full c
+    scan_ends h =
+        let e : i ≡ length c.by_answer = omega (arith, s.within, whole) in
+        rw (e, drop-length, or_no) at s.rest
+
+pub ruleset some_greatest_laws = (rules, scan_begins, scan_goes_on, scan_ends)
 
 -- the bits met: what was met so far is above the total and the counters passed
 pub record Meeting (c : Counters) (met i : ℕ) : Type 0 where
@@ -59,15 +82,7 @@ module _ (c : Counters) where
   none_full r a whole h =
       rw (lt-leb 9223372036854775808 r h, ne_eqb c.total greatest (omega (arith, a.over)), none_above c.by_answer r (omega arith) (λ i k. a.each i (omega (arith, whole))))
 
-  pub total_full : eqb c.total greatest ≡ true → eqb c.total greatest ≡ full c
-  unfolding full
-  total_full e = rw e
-
-  pub counters_full : eqb c.total greatest ≡ false → (r : Bool) → r ≡ some_greatest c.by_answer → r ≡ full c
-  unfolding full
-  counters_full n r e = rw n e
-
-pub ruleset full_laws = (rules, none_full, total_full, counters_full)
+pub ruleset full_laws = (rules, none_full)
 
 -- no counter at its greatest value
 none_greatest : (ns : List ℕ) (i : ℕ) → some_greatest ns ≡ false → i < length ns → get_or ns i 0 ≡ greatest → ⊥
