@@ -30,7 +30,8 @@ impl Counters {
         met
     }
 
-    // Whether some counter or the total is at its greatest value. Seldom called, and kept apart: inlined, a refused call takes a quarter longer.
+    // Whether some counter or the total is at its greatest value. Seldom called, so kept apart: if it is inlined, a refused call takes a quarter
+    // longer.
     #[inline(never)]
     fn some_greatest(&self) -> bool
         ensures { result ≡ full_of self.now }

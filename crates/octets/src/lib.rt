@@ -187,7 +187,7 @@ pub fn copy(out: &mut [u8], at: usize, s: &[u8]) -> usize
     at + s.len()
 }
 
-// By blocks where there is one: the test that a loop over octets needs for what may overlap would cost more than a short copy.
+// By blocks where one fits: a loop over octets first tests whether the buffers overlap, which costs more than a short copy.
 fn fill(out: &mut [u8], at: usize, s: &[u8])
     requires { at + length s.now ≤ length out.old }
     ensures { out.new ≡ put out.old at s.now }

@@ -36,8 +36,8 @@ fn put_apart(code: u32, count: u32, trace: &[u8], out: &mut [u8], text: &mut [u8
     }
 }
 
-// Writes the text of an outcome: at once where no text of so many lines is too long. A function of its own: inlined it would have a run use
-// its stack too.
+// Writes the text of an outcome: at once where no text of so many lines is too long. Kept apart: if it is inlined, its buffers lie on the
+// stack during a run too.
 #[inline(never)]
 fn put_printed(code: u32, count: u32, trace: &[u8], text: &mut [u8]) -> Printed
     requires { Printable code count trace.now }

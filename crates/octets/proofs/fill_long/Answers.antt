@@ -1,4 +1,4 @@
--- Its contract. The invariant: `out` has the first i octets of `s` in it from `at` on.
+-- Its contract. The invariant: all parts of 64 octets up to `done` are copied.
 use Rattle.octets.proofs.Ends.{blocks_laws as laws}
 use Rattle.octets.proofs.fill_long.Goals as goal
 
